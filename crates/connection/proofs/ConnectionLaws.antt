@@ -1,0 +1,106 @@
+-- A well-formed connection that is stored is well formed in memory, and loaded again it is the same.
+use mathlib.Core.Path.{_≡_, refl, sym, ap, _∙_}
+use Prim.Native.Nat.{ℕ, _+_, _-_, _≤_}
+use mathlib.Core.Bool.{Bool, true, true≢false, _&&_}
+use mathlib.Core.List.{List, []}
+use native.Mathlib.Omega.{arith}
+use lib.ListN.{length, drop, replicate}
+use lib.Seq.{take-append-seam, drop-at}
+use lib.Dec.{leb, ltb, eqb}
+use borrow.Author.Tests.{leb-true, eqb-true, eq-eqb, ltb-false}
+use Rattle.wire.specs.Lists.{same, padded}
+use Rattle.wire.specs.Numbers.{littleEndianOf, field}
+use Rattle.wire.specs.Request.{magicNumber, magic, headerSize, contentLength, authLength, headerLength}
+use Rattle.wire.proofs.TestLaws.{and-left, and-right, or-left, or-right}
+use Rattle.wire.proofs.ListLaws.{length-padded, same-refl, same-true}
+use Rattle.wire.proofs.NumberLaws.{length-number, field-back}
+use Rattle.stream.specs.Frame.{headerLeast, headerMost, contentMost, authMost, legalStart, oversized}
+use Rattle.stream.specs.Rules.{Connection, opened, skipping, closed}
+use Rattle.stream.specs.Call.{isBeginning, wellFormed}
+use Rattle.stream.proofs.FrameLaws.{headerSize-append, short, inHeader, inBody, Unfinished}
+use Rattle.stream.proofs.ChunkLaws.{unfinished-held, unfinished-next}
+use Rattle.connection.specs.Connection.{heldMost, connectionSize, laidOut, connectionBytes, connectionOf, wellFormedConnection}
+
+-- ---- the parts of a connection's memory
+
+module _ (kind n : ℕ) (bytes : List ℕ) where
+  number-there : field 1 8 (laidOut kind n bytes) ≡ n
+  number-there = field-back 1 7 n (laidOut kind n bytes) (padded heldMost bytes) refl
+
+  bytes-there : drop 9 (laidOut kind n bytes) ≡ padded heldMost bytes
+  bytes-there = drop-at (littleEndianOf 8 n) (padded heldMost bytes) 8 (length-number 8 n)
+
+  size-there : length bytes ≤ heldMost → length (laidOut kind n bytes) ≡ connectionSize
+  unfolding littleEndianOf
+  size-there h =
+      let p : length (padded heldMost bytes) ≡ heldMost = length-padded heldMost bytes h in
+      omega arith
+
+-- ---- how many bytes a well-formed connection holds
+
+legal-most : (s : List ℕ) → legalStart s ≡ true → headerSize s ≤ headerMost
+unfolding legalStart
+legal-most s h = leb-true _ _ (and-right (leb headerLeast (headerSize s)) _ (and-right (eqb (magic s) magicNumber) _ h))
+
+held-most : (s : List ℕ) → isBeginning s ≡ true → length s ≤ heldMost
+unfolding oversized
+held-most s w = go (unfinished-held s (unfinished-next s w))
+  where
+    go : Unfinished s → length s ≤ heldMost
+    go (short h) = omega arith
+    go (inHeader h l k) = omega (arith, legal-most s l)
+    go (inBody l k m o) =
+        let c : contentLength s ≤ contentMost = ltb-false _ _ (or-left _ _ o) in
+        let a : authLength s ≤ authMost = ltb-false _ _ (or-right (ltb contentMost (contentLength s)) _ o) in
+        omega (arith, legal-most s l)
+
+-- a skipped request's header
+record Header (header : List ℕ) : Type 0 where
+  six : 6 ≤ length header
+  exact : length header ≡ headerLength header
+  most : length header ≤ heldMost
+
+header-facts : (header : List ℕ) (toGo : ℕ) → wellFormed (skipping header toGo) ≡ true → Header header
+unfolding wellFormed
+header-facts header toGo w =
+    let three = and-left _ _ (and-left _ _ (and-left _ _ w)) in
+    let two = and-left _ _ three in
+    let six = leb-true _ _ (and-left _ _ two) in
+    let legal = legal-most header (and-right (leb 6 (length header)) _ two) in
+    let exact = eqb-true _ _ (and-right (leb 6 (length header) && legalStart header) _ three) in
+    record { six = six; exact = exact; most = omega arith }
+
+-- ---- stored and loaded
+
+pub load-store : (c : Connection) → wellFormed c ≡ true → connectionOf (connectionBytes c) ≡ c
+unfolding connectionBytes connectionOf
+load-store (opened held) w =
+    rw (number-there 0 (length held) held, bytes-there 0 (length held) held)
+    (ap opened (take-append-seam held (replicate (heldMost - length held) 0)))
+load-store (skipping header toGo) w =
+    let h = header-facts header toGo w in
+    let zeros : List ℕ = replicate (heldMost - length header) 0 in
+    rw (number-there 1 toGo header, bytes-there 1 toGo header, headerSize-append header zeros (h .six), ← h .exact)
+    (ap (λ (x : List ℕ). skipping x toGo) (take-append-seam header zeros))
+load-store closed w = refl
+
+stored-size : (c : Connection) → wellFormed c ≡ true → length (connectionBytes c) ≡ connectionSize
+unfolding connectionBytes wellFormed
+stored-size (opened held) w = size-there 0 (length held) held (held-most held w)
+stored-size (skipping header toGo) w = size-there 1 toGo header (header-facts header toGo w .most)
+stored-size closed w = size-there 2 0 [] (omega arith)
+
+pub stored-good : (c : Connection) → wellFormed c ≡ true → wellFormedConnection (connectionBytes c) ≡ true
+unfolding wellFormedConnection
+stored-good c w =
+    rw (stored-size c w, eq-eqb connectionSize connectionSize refl, load-store c w, w) (same-refl (connectionBytes c))
+
+-- well-formed memory holds a well-formed connection, and is the bytes of it
+module _ (memory : List ℕ) (g : wellFormedConnection memory ≡ true) where
+  pub memory-good : wellFormed (connectionOf memory) ≡ true
+  unfolding wellFormedConnection
+  memory-good = and-left _ _ (and-right (eqb (length memory) connectionSize) _ g)
+
+  pub store-load : connectionBytes (connectionOf memory) ≡ memory
+  unfolding wellFormedConnection
+  store-load = same-true _ _ (and-right (wellFormed (connectionOf memory)) _ (and-right (eqb (length memory) connectionSize) _ g))

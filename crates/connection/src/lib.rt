@@ -1,0 +1,1 @@
+// A connection in memory that the caller lends. specs/ defines it.

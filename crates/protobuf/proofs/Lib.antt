@@ -1,0 +1,4 @@
+pub mod VarintLaws
+pub mod FieldLaws
+pub mod StepLaws
+pub mod BodyLaws

@@ -1,0 +1,100 @@
+use Rattle.protobuf.specs.Message.{itemOf}
+use borrow.Author.Needs.{needs}
+use Rattle.protobuf.proofs.message.item_of.Statement.{statement}
+use Rattle.protobuf.proofs.message.item_of.Tie as tie
+use Rattle.protobuf.proofs.message.item_of.Reads as reads
+use Rattle.protobuf.proofs.message.item_of.Lts as lts
+use Rattle.protobuf.proofs.message.kind_of.Reads as kind-of-reads
+use Rattle.protobuf.proofs.message.of_number.Reads as of-number-reads
+use Rattle.protobuf.proofs.message.of_span.Reads as of-span-reads
+
+-- src/lib.rt:280:25
+enum-known-f : tie.Need-enum-known-f
+enum-known-f c = search needs
+
+-- src/lib.rt:280:60
+kind-of-requires : tie.Need-kind-of-requires
+kind-of-requires c κs = search needs
+
+-- src/lib.rt:280:50
+of-number-requires : tie.Need-of-number-requires
+of-number-requires c κs = search needs
+
+-- src/lib.rt:281:23
+enum-known-f-2 : tie.Need-enum-known-f-2
+enum-known-f-2 c = search needs
+
+-- src/lib.rt:281:61
+kind-of-requires-2 : tie.Need-kind-of-requires-2
+kind-of-requires-2 c κs = search needs
+
+-- src/lib.rt:281:53
+of-span-requires : tie.Need-of-span-requires
+of-span-requires c κs = search needs
+
+-- src/lib.rt:282:48
+enum-told : tie.Need-enum-told
+enum-told c = search needs
+
+-- src/lib.rt:283:47
+enum-told-2 : tie.Need-enum-told-2
+enum-told-2 c = search needs
+
+-- src/lib.rt:284:48
+enum-told-3 : tie.Need-enum-told-3
+enum-told-3 c = search needs
+
+-- src/lib.rt:285:30
+enum-told-4 : tie.Need-enum-told-4
+enum-told-4 c = search needs
+
+-- src/lib.rt:276:1
+returns : tie.Need-returns
+unfolding itemOf
+returns c = rw (c .before .before .before .f .given .1) (rw (c .before .kind-of .ensures) at (c .of-number .ensures))
+
+-- src/lib.rt:276:1
+returns-2 : tie.Need-returns-2
+unfolding itemOf
+returns-2 c = rw (c .before .before .before .f2 .given .1) (rw (c .before .kind-of2 .ensures) at (c .of-span .ensures))
+
+-- src/lib.rt:276:1
+returns-3 : tie.Need-returns-3
+unfolding itemOf
+returns-3 c = rw (c .enum-told .given .1)
+
+-- src/lib.rt:276:1
+returns-4 : tie.Need-returns-4
+unfolding itemOf
+returns-4 c = rw (c .enum-told2 .given .1)
+
+-- src/lib.rt:276:1
+returns-5 : tie.Need-returns-5
+unfolding itemOf
+returns-5 c = rw (c .enum-told3 .given .1)
+
+-- src/lib.rt:276:1
+returns-6 : tie.Need-returns-6
+unfolding itemOf
+returns-6 c = rw (c .enum-told4 .given .1)
+
+pub item-of-spec : {M : Type 1} → statement M
+item-of-spec =
+    tie.close
+    (tie.spec
+    enum-known-f
+    kind-of-requires
+    of-number-requires
+    enum-known-f-2
+    kind-of-requires-2
+    of-span-requires
+    enum-told
+    enum-told-2
+    enum-told-3
+    enum-told-4
+    returns
+    returns-2
+    returns-3
+    returns-4
+    returns-5
+    returns-6)

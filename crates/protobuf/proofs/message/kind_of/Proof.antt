@@ -1,0 +1,36 @@
+use borrow.Author.Tests.{lt-ltb, le-ltb, le-leb, lt-leb, eq-eqb, ne-eqb, leb-true}
+use Rattle.protobuf.proofs.message.kind_of.Statement.{statement}
+use Rattle.protobuf.proofs.message.kind_of.Tie as tie
+use Rattle.protobuf.proofs.message.kind_of.Reads as reads
+use Rattle.protobuf.proofs.message.kind_of.Lts as lts
+
+-- src/lib.rt:185:9
+returns : tie.Need-returns
+returns c = simp (eq-eqb _ _ (c .if1 .taken))
+
+-- src/lib.rt:188:9
+returns-2 : tie.Need-returns-2
+returns-2 c = simp (ne-eqb _ _ (c .before .if1 .left), eq-eqb _ _ (c .if2 .taken))
+
+-- src/lib.rt:191:9
+returns-3 : tie.Need-returns-3
+returns-3 c =
+    simp (ne-eqb _ _ (c .before .before .if1 .left), ne-eqb _ _ (c .before .if2 .left), eq-eqb _ _ (c .if3 .taken))
+
+-- src/lib.rt:194:9
+returns-4 : tie.Need-returns-4
+returns-4 c =
+    simp (ne-eqb _ _ (c .before .before .before .if1 .left), ne-eqb _ _ (c .before .before .if2 .left), ne-eqb _ _ (c .before .if3 .left), eq-eqb _ _ (c .if4 .taken))
+
+-- src/lib.rt:197:9
+returns-5 : tie.Need-returns-5
+returns-5 c =
+    simp (ne-eqb _ _ (c .before .before .before .before .if1 .left), ne-eqb _ _ (c .before .before .before .if2 .left), ne-eqb _ _ (c .before .before .if3 .left), ne-eqb _ _ (c .before .if4 .left), eq-eqb _ _ (c .if5 .taken))
+
+-- src/lib.rt:181:1
+returns-6 : tie.Need-returns-6
+returns-6 c =
+    simp (ne-eqb _ _ (c .before .before .before .before .if1 .left), ne-eqb _ _ (c .before .before .before .if2 .left), ne-eqb _ _ (c .before .before .if3 .left), ne-eqb _ _ (c .before .if4 .left), ne-eqb _ _ (c .if5 .left))
+
+pub kind-of-spec : {M : Type 1} → statement M
+kind-of-spec = tie.close (tie.spec returns returns-2 returns-3 returns-4 returns-5 returns-6)

@@ -1,0 +1,56 @@
+use Rattle.protobuf.specs.Message.{itemOf, stepAt}
+use mathlib.Core.Path.{_≡_, refl, ap, sym, _∙_}
+use borrow.Author.Needs.{needs}
+use Rattle.protobuf.proofs.message.read_step.Statement.{statement}
+use Rattle.protobuf.proofs.message.read_step.Tie as tie
+use Rattle.protobuf.proofs.message.read_step.Reads as reads
+use Rattle.protobuf.proofs.message.read_step.Lts as lts
+use Rattle.protobuf.proofs.message.item_of.Reads as judge-reads
+use Rattle.protobuf.proofs.message.with_value.Reads as withValue-reads
+use Rattle.protobuf.proofs.field.read_field.Reads as read-field-reads
+
+-- src/lib.rt:283:20
+read-field-requires : tie.Need-read-field-requires
+read-field-requires c κs = search needs
+
+-- src/lib.rt:283:11
+item-of-requires : tie.Need-item-of-requires
+item-of-requires c κs = search needs
+
+-- src/lib.rt:284:20
+enum-known-n : tie.Need-enum-known-n
+enum-known-n c = search needs
+
+-- src/lib.rt:284:46
+with-value-requires : tie.Need-with-value-requires
+with-value-requires c κs = search needs
+
+-- src/lib.rt:285:25
+enum-told : tie.Need-enum-told
+enum-told c = search needs
+
+-- src/lib.rt:280:1
+returns : tie.Need-returns
+unfolding stepAt
+returns c =
+    let k = c .before .before .before .before .before .before .before .args .k in
+    rw (c .with-value .ensures, sym (c .before .before .before .before .item-of .ensures ∙ ap (itemOf k) (c .before .before .before .before .before .read-field .ensures)) ∙ c .before .before .n .given .1)
+
+-- src/lib.rt:280:1
+returns-2 : tie.Need-returns-2
+unfolding stepAt
+returns-2 c =
+    let k = c .before .before .before .before .before .args .k in
+    rw (sym (c .before .before .item-of .ensures ∙ ap (itemOf k) (c .before .before .before .read-field .ensures)) ∙ c .enum-told .given .1)
+
+pub read-step-spec : {M : Type 1} → statement M
+read-step-spec =
+    tie.close
+    (tie.spec
+    read-field-requires
+    item-of-requires
+    enum-known-n
+    with-value-requires
+    enum-told
+    returns
+    returns-2)

@@ -1,0 +1,5 @@
+pub mod Varint
+pub mod Field
+pub mod Message
+pub mod Body
+pub mod Written

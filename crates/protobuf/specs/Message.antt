@@ -1,0 +1,75 @@
+-- A message as up to five values: which of its field numbers a schema lists, and as what.
+use Prim.Native.Nat.{ℕ, _%_, _^_}
+use mathlib.Core.List.{List}
+use lib.Dec.{eqb}
+use Rattle.wire.specs.Choice.{if_then_else_}
+use Rattle.protobuf.specs.Field.{fieldAt}
+use Rattle.protobuf.specs.declared.field.Field.{Field}
+use Rattle.protobuf.specs.declared.field.Field.the-variants.{Number, Span, Fixed, GroupStart, GroupEnd, Unreadable}
+use Rattle.protobuf.specs.declared.message.Kind.{Kind}
+use Rattle.protobuf.specs.declared.message.Kind.the-variants.{Bytes, Uint32, Boolean, Unlisted}
+use Rattle.protobuf.specs.declared.message.Schema.{Schema}
+use Rattle.protobuf.specs.declared.message.Value.{Value}
+use Rattle.protobuf.specs.declared.message.Values.{Values}
+use Rattle.protobuf.specs.declared.message.Item.{Item}
+use Rattle.protobuf.specs.declared.message.Item.the-variants.{Keep, Refuse}
+use Rattle.protobuf.specs.declared.message.Step.{Step}
+use Rattle.protobuf.specs.declared.message.Step.the-variants.{Next, Refuse as stop}
+
+-- what field number n stands for
+abbrev pub kindOf : Schema → (n : ℕ) → Kind
+kindOf k n =
+    if eqb n 1 then k .k1
+    else if eqb n 2 then k .k2
+    else if eqb n 3 then k .k3
+    else if eqb n 4 then k .k4
+    else if eqb n 5 then k .k5
+    else Unlisted
+
+-- an absent field is 0, false or empty
+abbrev pub absent : Value
+absent = record { start = 0; len = 0; number = 0 }
+
+abbrev pub allAbsent : Values
+allAbsent = record { f1 = absent; f2 = absent; f3 = absent; f4 = absent; f5 = absent }
+
+-- the values with `v` as field n: of a repeated field the last counts
+unfoldable pub withValue : Values → (n : ℕ) → Value → Values
+withValue m n v =
+    if eqb n 1 then record { f1 = v; f2 = m .f2; f3 = m .f3; f4 = m .f4; f5 = m .f5 }
+    else if eqb n 2 then record { f1 = m .f1; f2 = v; f3 = m .f3; f4 = m .f4; f5 = m .f5 }
+    else if eqb n 3 then record { f1 = m .f1; f2 = m .f2; f3 = v; f4 = m .f4; f5 = m .f5 }
+    else if eqb n 4 then record { f1 = m .f1; f2 = m .f2; f3 = m .f3; f4 = v; f5 = m .f5 }
+    else if eqb n 5 then record { f1 = m .f1; f2 = m .f2; f3 = m .f3; f4 = m .f4; f5 = v }
+    else m
+
+-- a varint as a value of each kind: a uint32 is its low 32 bits, a bool is true (1) if it isn't 0
+abbrev pub ofNumber : Kind → (n v next : ℕ) → Item
+ofNumber Bytes n v next = Refuse
+ofNumber Uint32 n v next = Keep n (record { start = 0; len = 0; number = v % 2 ^ 32 }) next
+ofNumber Boolean n v next = Keep n (record { start = 0; len = 0; number = if eqb v 0 then 0 else 1 }) next
+ofNumber Unlisted n v next = Refuse
+
+-- bytes are kept as the place where they lie
+abbrev pub ofSpan : Kind → (n start len next : ℕ) → Item
+ofSpan Bytes n start len next = Keep n (record { start = start; len = len; number = 0 }) next
+ofSpan Uint32 n start len next = Refuse
+ofSpan Boolean n start len next = Refuse
+ofSpan Unlisted n start len next = Refuse
+
+-- what a reader of schema `k` does with a field: an unlisted number or another wire type makes the body unreadable
+unfoldable pub itemOf : Schema → Field → Item
+itemOf k (Number n v next) = ofNumber (kindOf k n) n v next
+itemOf k (Span n start len next) = ofSpan (kindOf k n) n start len next
+itemOf k (Fixed n next) = Refuse
+itemOf k (GroupStart n next) = Refuse
+itemOf k (GroupEnd n next) = Refuse
+itemOf k Unreadable = Refuse
+
+abbrev pub stepOf : Values → Item → Step
+stepOf m (Keep n v next) = Next (withValue m n v) next
+stepOf m Refuse = stop
+
+-- one field of a body, on top of the values so far
+unfoldable pub stepAt : Schema → List ℕ → (at : ℕ) → Values → Step
+stepAt k s at m = stepOf m (itemOf k (fieldAt s at))

@@ -1,0 +1,34 @@
+// A body read field by field.
+use crate::message::Schema;
+use crate::message::Step;
+use crate::message::Values;
+use crate::message::all_absent;
+use crate::message::read_step;
+ghost use mathlib.Core.Path.{_≡_};
+ghost use Rattle.protobuf.specs.Body.{bodyOf};
+
+// A body that was read: its message, or where its first unreadable field's tag starts.
+pub enum Body {
+    Message(Values),
+    Unreadable(usize),
+}
+
+// The body `s` read as a message of the schema.
+pub fn read_body(s: &[u8], k: Schema) -> Body
+    ensures { λ r. ⌜ r ≡ bodyOf k (now (s .entry)) ⌝ }
+{
+    let mut m = all_absent();
+    let mut at = 0;
+    while at < s.len() {
+        match read_step(s, at, k, m) {
+            Step::Next(more, next) => {
+                m = more;
+                at = next;
+            }
+            Step::Refuse => {
+                return Body::Unreadable(at);
+            }
+        }
+    }
+    Body::Message(m)
+}

@@ -1,0 +1,6 @@
+pub mod NameLaws
+pub mod SlotLaws
+pub mod RegistryLaws
+pub mod WellFormedLaws
+pub mod RosterLaws
+pub mod ChangeLaws

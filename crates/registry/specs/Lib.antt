@@ -1,0 +1,5 @@
+pub mod Names
+pub mod Slots
+pub mod Registry
+pub mod WellFormed
+pub mod Roster

@@ -1,0 +1,34 @@
+-- Names of keys and of applications, and where a name stands among others.
+use Prim.Native.Nat.{ℕ, _+_}
+use mathlib.Core.Bool.{Bool, true, not, _&&_}
+use mathlib.Core.List.{List, [], _∷_}
+use lib.ListN.{length, getD, take, drop}
+use lib.Dec.{leb}
+use Rattle.wire.specs.Choice.{if_then_else_}
+use Rattle.wire.specs.Lists.{all, every, same}
+
+abbrev pub isNameByte : ℕ → Bool
+isNameByte x = leb 0x21 x && leb x 0x7E
+
+-- 1 to `most` bytes, each 0x21 to 0x7E
+unfoldable pub legalName : (most : ℕ) → List ℕ → Bool
+legalName most name = every (leb 1 (length name) ∷ leb (length name) most ∷ all isNameByte name ∷ [])
+
+-- the name at the beginning of a block of bytes: its length in one byte, then the name
+abbrev pub nameIn : List ℕ → List ℕ
+nameIn block = take (getD block 0 0) (drop 1 block)
+
+-- the number of the first name that is x, counted from i; behind the last where none is
+unfoldable pub indexFrom : List ℕ → List (List ℕ) → (i : ℕ) → ℕ
+indexFrom x [] i = i
+indexFrom x (y ∷ ys) i = if same x y then i else indexFrom x ys (i + 1)
+
+-- none of the names is x
+abbrev pub absent : List ℕ → List (List ℕ) → Bool
+absent x ys = all (λ y. not (same x y)) ys
+
+-- no name but the empty one stands twice
+unfoldable pub distinct : List (List ℕ) → Bool
+distinct [] = true
+distinct ([] ∷ names) = distinct names
+distinct ((b ∷ name) ∷ names) = absent (b ∷ name) names && distinct names

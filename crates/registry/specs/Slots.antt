@@ -1,0 +1,118 @@
+-- A slot: the key that it holds, its bytes, and which bytes are a slot ("Roster, registry, connection, tally").
+use Prim.Native.Nat.{ℕ, _+_, _-_, _%_}
+use mathlib.Core.Bool.{Bool, true, false, _||_}
+use mathlib.Core.List.{List, [], _∷_, _++_}
+use lib.ListN.{length, getD, take, drop, replicate}
+use lib.Dec.{leb, eqb}
+use Rattle.wire.specs.Choice.{if_then_else_}
+use Rattle.wire.specs.Lists.{all, every, isZero, padded}
+use Rattle.wire.specs.Numbers.{littleEndianOf, field}
+use Rattle.registry.specs.Names.{legalName, nameIn}
+
+pub record Key : Type 0 where
+  pub name : List ℕ
+  pub bytes : List ℕ  -- document 01's data
+  pub bits : ℕ
+  pub exportAllowed : Bool
+  pub verifyAllowed : Bool
+
+pub data Entry : Type 0 where
+  free : Entry
+  held : Key → Entry
+
+-- a free slot has the empty name
+abbrev pub nameOf : Entry → List ℕ
+nameOf free = []
+nameOf (held key) = key .name
+
+-- ---- what a key may be
+
+abbrev pub keyNameMost : ℕ
+keyNameMost = 32
+
+abbrev pub dataMost : ℕ
+dataMost = 600
+
+unfoldable pub legalData : List ℕ → Bool
+legalData bytes = every (leb 1 (length bytes) ∷ leb (length bytes) dataMost ∷ [])
+
+-- 1,024 to 4,096 in multiples of 8
+unfoldable pub legalBits : ℕ → Bool
+legalBits bits = every (leb 1024 bits ∷ leb bits 4096 ∷ eqb (bits % 8) 0 ∷ [])
+
+-- ---- its bytes, and where each part lies
+
+-- the name's length, the name, the data's length, the data, bits, and the two flags; unused bytes are zero
+abbrev pub dataLengthAt : ℕ
+dataLengthAt = 1 + keyNameMost
+
+abbrev pub dataAt : ℕ
+dataAt = dataLengthAt + 2
+
+abbrev pub bitsAt : ℕ
+bitsAt = dataAt + dataMost
+
+abbrev pub exportAt : ℕ
+exportAt = bitsAt + 2
+
+abbrev pub verifyAt : ℕ
+verifyAt = exportAt + 1
+
+abbrev pub slotSize : ℕ
+slotSize = verifyAt + 1
+
+abbrev pub flag : Bool → ℕ
+flag true = 1
+flag false = 0
+
+unfoldable pub keyBytes : Key → List ℕ
+keyBytes key =
+    (length (key .name) ∷ [])
+    ++ padded keyNameMost (key .name)
+    ++ littleEndianOf 2 (length (key .bytes))
+    ++ padded dataMost (key .bytes)
+    ++ littleEndianOf 2 (key .bits)
+    ++ (flag (key .exportAllowed) ∷ [])
+    ++ (flag (key .verifyAllowed) ∷ [])
+
+unfoldable pub slotBytes : Entry → List ℕ
+slotBytes free = replicate slotSize 0
+slotBytes (held key) = keyBytes key
+
+abbrev pub dataIn : List ℕ → List ℕ
+dataIn slot = take (field dataLengthAt 2 slot) (drop dataAt slot)
+
+abbrev pub keyIn : List ℕ → Key
+keyIn slot = record {
+  name = nameIn slot;
+  bytes = dataIn slot;
+  bits = field bitsAt 2 slot;
+  exportAllowed = eqb (getD slot exportAt 0) 1;
+  verifyAllowed = eqb (getD slot verifyAt 0) 1;
+}
+
+unfoldable pub slotOf : List ℕ → Entry
+slotOf slot = if eqb (getD slot 0 0) 0 then free else held (keyIn slot)
+
+-- ---- well formed: all zero, or a key that Import allows, flags of 0 or 1, unused bytes zero
+
+-- the bytes behind a name for which there are `most`
+abbrev pub behindName : (most : ℕ) → List ℕ → List ℕ
+behindName most block = take (most - getD block 0 0) (drop (1 + getD block 0 0) block)
+
+abbrev pub behindData : List ℕ → List ℕ
+behindData slot = take (dataMost - field dataLengthAt 2 slot) (drop (dataAt + field dataLengthAt 2 slot) slot)
+
+abbrev pub keyTests : List ℕ → List Bool
+keyTests slot =
+    legalName keyNameMost (nameIn slot)
+    ∷ all isZero (behindName keyNameMost slot)
+    ∷ legalData (dataIn slot)
+    ∷ all isZero (behindData slot)
+    ∷ legalBits (field bitsAt 2 slot)
+    ∷ leb (getD slot exportAt 0) 1
+    ∷ leb (getD slot verifyAt 0) 1
+    ∷ []
+
+unfoldable pub wellFormedSlot : List ℕ → Bool
+wellFormedSlot slot = all isZero slot || every (keyTests slot)

@@ -1,0 +1,53 @@
+-- Cases that the ★ table does not reach, in one table under one claim: a header with H = 30, an export of each of two
+-- keys, and one name held by two applications.
+use mathlib.Core.Path.{_≡_, refl}
+use Prim.Native.Nat.{ℕ, _+_}
+use mathlib.Core.Bool.{true, false}
+use mathlib.Core.List.{List, [], _∷_, _++_}
+use lib.ListN.{length}
+use Rattle.registry.specs.Slots.{Entry, free, held}
+use Rattle.service.specs.Text.{ascii}
+use Rattle.service.proofs.Cases.{Case, showing, Holds, AllHold, case-of, longRequest, request, response, key, keyBody, nameBody, imported, allFree}
+
+-- applications `b` and `c`
+roster-bc : List ℕ
+roster-bc = 0x01 ∷ 0x01 ∷ 0x00 ∷ 0x62 ∷ 0x01 ∷ 0x01 ∷ 0x00 ∷ 0x63 ∷ []
+
+more : List ℕ
+more = 0x0A ∷ 0x01 ∷ 0x7A ∷ 0x12 ∷ 0x01 ∷ 0xCC ∷ 0x18 ∷ 0x00 ∷ []
+
+imports : (name application : ℕ) → List ℕ
+imports name application = request 1 1 6 1 (keyBody name) (application ∷ [])
+
+-- data CC DD EE
+importsOther : (name application : ℕ) → List ℕ
+importsOther name application =
+    request 1 1 6 1 (0x0A ∷ 0x01 ∷ name ∷ 0x12 ∷ 0x03 ∷ 0xCC ∷ 0xDD ∷ 0xEE ∷ 0x18 ∷ 0x80 ∷ 0x10 ∷ 0x20 ∷ 0x01 ∷ []) (application ∷ [])
+
+exports : (name application : ℕ) → List ℕ
+exports name application = request 1 1 7 1 (nameBody name) (application ∷ [])
+
+-- the key's data as field 1
+exported : List ℕ → List ℕ
+exported bytes = response 1 7 0 0 (0x0A ∷ length bytes ∷ bytes)
+
+case-long-header : Case
+case-long-header = case-of roster-bc (longRequest more 1 1 6 1 (keyBody 0x61) (0x62 ∷ []) ++ exports 0x61 0x62)
+    (imported ∷ exported (0xAA ∷ 0xBB ∷ []) ∷ [])
+    (key 0x61 ∷ free ∷ free ∷ free ∷ [])
+    (ascii "taken 81\nline 0 b 2\nline 1 c 0\nopen 0\ndropped 0\nheld 0\n")
+
+-- 1140 is 0x0474
+case-two-keys : Case
+case-two-keys = case-of roster-bc
+    (imports 0x61 0x62 ++ (importsOther 0x64 0x62 ++ (importsOther 0x61 0x63 ++ (exports 0x64 0x62 ++ (exports 0x61 0x62 ++ (exports 0x61 0x63 ++ exports 0x64 0x63))))))
+    (imported ∷ imported ∷ imported ∷ exported (0xCC ∷ 0xDD ∷ 0xEE ∷ []) ∷ exported (0xAA ∷ 0xBB ∷ []) ∷ exported (0xCC ∷ 0xDD ∷ 0xEE ∷ []) ∷ response 1 7 0x74 0x04 [] ∷ [])
+    (key 0x61 ∷ held (record { name = 0x64 ∷ []; bytes = 0xCC ∷ 0xDD ∷ 0xEE ∷ []; bits = 2048; exportAllowed = true; verifyAllowed = false }) ∷ free ∷ free ∷ [])
+    (ascii "taken 253\nline 0 b 4\nline 1 c 2\nopen 0\nrefused 1140 1\ndropped 0\nheld 0\n")
+
+pub table : List Case
+table = case-long-header ∷ case-two-keys ∷ []
+
+pub beyond : AllHold table
+unfolding table Holds showing case-of longRequest request response key keyBody nameBody imported allFree roster-bc more imports importsOther exports exported case-long-header case-two-keys
+beyond = (refl, (refl, tt))

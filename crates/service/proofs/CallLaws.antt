@@ -1,0 +1,202 @@
+-- What every call keeps to, whatever it is lent: it is refused exactly in the five cases, a refused one alters nothing, an
+-- empty chunk alters nothing, at most 629 bytes are written, and the response buffer keeps its length.
+use mathlib.Core.Path.{_≡_, refl, ap, _∙_, subst}
+use mathlib.Core.Bool.{Bool, true, false, not}
+use mathlib.Core.Option.{Option, none, some}
+use mathlib.Core.List.{List, [], _∷_, _++_}
+use Prim.Native.Nat.{ℕ, _+_, _≤_}
+use native.Mathlib.Omega.{arith}
+use borrow.Author.Tests.{ltb-false}
+use lib.ListN.{length, drop, length-append, length-drop}
+use lib.Dec.{leb, ltb}
+use Rattle.wire.specs.Choice.{firstOf}
+use Rattle.wire.proofs.TestLaws.{either, none-first, not-false, some≢none}
+use Rattle.stream.specs.Frame.{Next, unfinished, badStart, skipped, whole, next}
+use Rattle.stream.specs.Rules.{Connection, opened, skipping, closed, State, judge}
+use Rattle.stream.specs.Call.{Step, keep, respond, dropByte, openRule, skipRule, byteRule, Effect, callRule}
+use Rattle.stream.specs.Calls.{Call, Answer, refused, took, CallOutcome, callOn}
+use Rattle.stream.proofs.CallLaws.{call-responds, call-goes-on}
+use Rattle.connection.specs.Connection.{wellFormedConnection}
+use Rattle.connection.proofs.ConnectionLaws.{store-load}
+use Rattle.registry.specs.WellFormed.{wellFormedRegistry}
+use Rattle.service.specs.Counters.{Counts, totalsOf, countersOf, largestCounter}
+use Rattle.service.specs.Judgement.{refusedEarly, judgement}
+use Rattle.service.specs.Call.{Memory, stateIn, memoryOf, layout, bufferLeast, chunkMost, counterMost, refusalTests, codeOf, refusalOf, callOutcome}
+use Rattle.service.specs.declared.Refusal.{Refusal}
+use Rattle.service.proofs.JudgementLaws.{keeps}
+use Rattle.service.proofs.ResponseLaws.{responseMost, bad-short, oversized-short, judge-short}
+
+abbrev Kept : Type 0
+Kept = State (List ℕ) Counts
+
+-- ---- what a taken call writes
+
+abbrev ShortOr : Option (List ℕ) → Type 0
+ShortOr none = Unit {0}
+ShortOr (some r) = length r ≤ responseMost
+
+-- a byte on a well-formed registry: a short response or none, and the registry stays well formed
+record Fine (t : Step (List ℕ) Counts (List ℕ)) : Type 0 where
+  short : ShortOr (t .response)
+  good : wellFormedRegistry (t .state .registry) ≡ true
+
+module _ (s : Kept) (w : wellFormedRegistry (s .registry) ≡ true) where
+  open-fine : (bytes : List ℕ) → Fine (openRule judgement s bytes)
+  unfolding openRule keep respond
+  open-fine bytes = go (next bytes) refl
+    where
+      go : (n : Next) → next bytes ≡ n → Fine (openRule judgement s bytes)
+      go unfinished e = rw (e, openRule) (record { short = tt; good = w })
+      go badStart e = rw (e, openRule) (record { short = bad-short (s .registry) (s .totals .counts); good = keeps .badGood (s .registry) (s .totals .counts) w })
+      go (skipped header missing) e = rw (e, openRule) (record { short = tt; good = w })
+      go (whole n) e = rw (e, openRule) (record { short = judge-short (s .registry) (s .totals .counts) bytes w; good = keeps .judgeGood (s .registry) (s .totals .counts) bytes w })
+
+  skip-fine : (header : List ℕ) (toGo : ℕ) → Fine (skipRule judgement s header toGo)
+  unfolding skipRule keep respond judgement refusedEarly
+  skip-fine header toGo =
+      either Fine (leb toGo 1)
+      (λ _. record { short = oversized-short (s .registry) (s .totals .counts) header; good = w })
+      (λ _. record { short = tt; good = w })
+
+  byte-fine : (byte : ℕ) → Fine (byteRule judgement s byte)
+  unfolding byteRule dropByte
+  byte-fine byte = go (s .connection) refl
+    where
+      go : (c : Connection) → s .connection ≡ c → Fine (byteRule judgement s byte)
+      go (opened held) e = rw (e, byteRule) (open-fine (held ++ (byte ∷ [])))
+      go (skipping header toGo) e = rw (e, byteRule) (skip-fine header toGo)
+      go closed e = rw (e, byteRule) (record { short = tt; good = w })
+
+call-short : (s : Kept) → wellFormedRegistry (s .registry) ≡ true → (chunk : List ℕ) → ShortOr (callRule judgement s chunk .response)
+unfolding callRule
+call-short s w [] = tt
+call-short s w (b ∷ chunk) = go (λ t v. call-short t v chunk) (byteRule judgement s b .response) refl
+  where
+    fine : Fine (byteRule judgement s b)
+    fine = byte-fine s w b
+
+    go : ((t : Kept) → wellFormedRegistry (t .registry) ≡ true → ShortOr (callRule judgement t chunk .response))
+        → (o : Option (List ℕ)) → byteRule judgement s b .response ≡ o → ShortOr (callRule judgement s (b ∷ chunk) .response)
+    go ih (some r) e = rw (call-responds judgement s b chunk r e) (subst ShortOr e (fine .short))
+    go ih none e = rw (call-goes-on judgement s b chunk e) (ih (byteRule judgement s b .state) (fine .good))
+
+-- ---- a call that is not refused has passed the five tests
+
+pub record Passed (m : Memory) (call : Call) : Type 0 where
+  pub room : bufferLeast ≤ length (call .buffer)
+  pub short : length (call .chunk) ≤ chunkMost
+  pub connection : wellFormedConnection (m .connection) ≡ true
+  pub registry : wellFormedRegistry (m .registry) ≡ true
+  pub counters : largestCounter (m .counters) ≤ counterMost
+
+no-code : (o : Option Refusal) → codeOf o ≡ none → o ≡ none
+unfolding codeOf
+no-code none e = refl
+no-code (some r) e = absurd (some≢none _ e)
+
+pub passed : (m : Memory) (call : Call) → refusalOf m call ≡ none → Passed m call
+unfolding refusalOf refusalTests
+passed m call e =
+    let (c1, e₁) = none-first _ _ _ (no-code (firstOf (refusalTests m call)) e) in
+    let (c2, e₂) = none-first _ _ _ e₁ in
+    let (c3, e₃) = none-first _ _ _ e₂ in
+    let (c4, e₄) = none-first _ _ _ e₃ in
+    let (c5, e₅) = none-first _ _ _ e₄ in
+    record {
+      room = ltb-false _ _ c1;
+      short = ltb-false _ _ c2;
+      connection = not-false (wellFormedConnection (m .connection)) c3;
+      registry = not-false (wellFormedRegistry (m .registry)) c4;
+      counters = ltb-false _ _ c5;
+    }
+
+-- ---- any call
+
+-- a call says the code of the first case that applies, and 0 where none does
+abbrev pub says : Option ℕ → ℕ
+says none = 0
+says (some code) = code
+
+module _ (m : Memory) (call : Call) where
+  effect : Effect (List ℕ) Counts (List ℕ)
+  effect = callRule judgement (stateIn m) (call .chunk)
+
+  refused-outcome : (code : ℕ) → refusalOf m call ≡ some code → callOutcome m call ≡ record { answer = refused code call; memory = m }
+  unfolding callOutcome callOn
+  refused-outcome code e = rw (e, callOn)
+
+  pub taken-outcome : refusalOf m call ≡ none
+      → callOutcome m call
+      ≡ record { answer = took (callRule judgement (stateIn m) (call .chunk) .taken) (callRule judgement (stateIn m) (call .chunk) .response) call; memory = memoryOf (callRule judgement (stateIn m) (call .chunk) .state) }
+  unfolding callOutcome callOn layout
+  taken-outcome e = rw (e, callOn)
+
+  -- at most 629 bytes are written, and the buffer keeps its length
+  pub record Fits (o : CallOutcome Memory) : Type 0 where
+    pub written : o .answer .written ≤ responseMost
+    pub buffer-length : length (o .answer .buffer) ≡ length (call .buffer)
+
+  took-fits : (n : ℕ) (o : Option (List ℕ)) (l : Memory) → ShortOr o → bufferLeast ≤ length (call .buffer) → Fits (record { answer = took n o call; memory = l })
+  unfolding took
+  took-fits n none l s h = record { written = omega arith; buffer-length = refl }
+  took-fits n (some r) l s h =
+      let a = length-append r (drop (length r) (call .buffer)) in
+      let d = length-drop (length r) (call .buffer) in
+      record { written = s; buffer-length = a ∙ (let x : length r + length (drop (length r) (call .buffer)) ≡ length (call .buffer) = omega arith in x) }
+
+  pub call-fits : Fits (callOutcome m call)
+  unfolding refused effect stateIn
+  call-fits = go (refusalOf m call) refl
+    where
+      go : (o : Option ℕ) → refusalOf m call ≡ o → Fits (callOutcome m call)
+      go (some code) e = rw (refused-outcome code e) (record { written = omega arith; buffer-length = refl })
+      go none e =
+          let t = passed m call e in
+          rw (taken-outcome e) (took-fits (effect .taken) (effect .response) _ (call-short (stateIn m) (t .registry) (call .chunk)) (t .room))
+
+  pub refused-exactly : callOutcome m call .answer .code ≡ says (refusalOf m call)
+  unfolding refused took effect
+  refused-exactly = go (refusalOf m call) refl
+    where
+      taken : (n : ℕ) (o : Option (List ℕ)) → took n o call .code ≡ 0
+      taken n none = refl
+      taken n (some r) = refl
+
+      go : (o : Option ℕ) → refusalOf m call ≡ o → callOutcome m call .answer .code ≡ says o
+      go (some code) e = rw (refused-outcome code e)
+      go none e = rw (taken-outcome e) (taken (effect .taken) (effect .response))
+
+  -- a refused call takes nothing, writes nothing and alters nothing
+  pub record Refused (code : ℕ) (o : CallOutcome Memory) : Type 0 where
+    pub answer : o .answer ≡ record { code = code; taken = 0; written = 0; buffer = call .buffer }
+    pub memory : o .memory ≡ m
+
+  pub refused-stays : (code : ℕ) → refusalOf m call ≡ some code → Refused code (callOutcome m call)
+  unfolding refused
+  refused-stays code e = rw (refused-outcome code e) (record { answer = refl; memory = refl })
+
+-- an empty chunk alters nothing, whether the call is refused or not
+pub record Idle (m : Memory) (buffer : List ℕ) (o : CallOutcome Memory) : Type 0 where
+  pub taken : o .answer .taken ≡ 0
+  pub written : o .answer .written ≡ 0
+  pub buffer-stays : o .answer .buffer ≡ buffer
+  pub memory-stays : o .memory ≡ m
+
+pub empty-idle : (m : Memory) (buffer : List ℕ) → Idle m buffer (callOutcome m (record { chunk = []; buffer = buffer }))
+unfolding refused took callRule stateIn memoryOf countersOf totalsOf
+empty-idle m buffer = go (refusalOf m call) refl
+  where
+    call : Call
+    call = record { chunk = []; buffer = buffer }
+
+    go : (o : Option ℕ) → refusalOf m call ≡ o → Idle m buffer (callOutcome m call)
+    go (some code) e = rw (refused-outcome m call code e) (record { taken = refl; written = refl; buffer-stays = refl; memory-stays = refl })
+    go none e =
+        let t = passed m call e in
+        rw (taken-outcome m call e)
+        (record {
+          taken = refl;
+          written = refl;
+          buffer-stays = refl;
+          memory-stays = λ i. record { connection = store-load (m .connection) (t .connection) i; registry = m .registry; counters = m .counters };
+        })

@@ -1,0 +1,98 @@
+-- What a case of a table says, and that it is computed from the rules on a whole stream.
+use mathlib.Core.Path.{_≡_, refl}
+use Prim.Native.Nat.{ℕ, _+_}
+use mathlib.Core.Bool.{true, false}
+use mathlib.Core.Option.{some}
+use mathlib.Core.List.{List, [], _∷_, _++_, flatMap, flatten}
+use lib.ListN.{length}
+use Rattle.wire.specs.Choice.{firstOf, isSome}
+use Rattle.wire.specs.Lists.{oneOf}
+use Rattle.wire.specs.Numbers.{littleEndian, littleEndianOf, field}
+use Rattle.wire.specs.Scan.{scanFrom, scanAt}
+use Rattle.wire.specs.Request.{requestOf}
+use Rattle.wire.specs.Response.{responseHeader, responseBytes}
+use Rattle.protobuf.specs.Varint.{varintOf}
+use Rattle.protobuf.specs.Field.{numberAt, fixedAt, spanAt, contentAt, fieldAt}
+use Rattle.protobuf.specs.Message.{withValue, itemOf, stepAt}
+use Rattle.protobuf.specs.Written.{varintWithin, varint, numberField, bytesField, packedField}
+use Rattle.registry.specs.Names.{legalName, indexFrom}
+use Rattle.registry.specs.Slots.{Key, Entry, free, held, legalData, legalBits, keyBytes, slotBytes, slotOf}
+use Rattle.registry.specs.Registry.{applicationNamed, slotsOf, slotNamed, changed, lineOf, registryOf}
+use Rattle.registry.specs.Roster.{faultNumber, recordFaults, Roster, applications, faulty, recordTurn, rosterOf}
+use Rattle.stream.specs.Frame.{legalStart, oversized, next}
+use Rattle.stream.specs.Rules.{Outcome, heldBytes, answer, finish, judge, rulesWithin, rulesFrom, start, rules}
+use Rattle.service.specs.Status.{statusNumber}
+use Rattle.service.specs.Operations.{opcodesOf, readBody, operationOf, success, refuse, importBits, importable, performImport, performDestroy, exportOf, performExport, performListOpcodes, perform}
+use Rattle.service.specs.Counters.{Counts, noCounts, increment, indexOf, countRefused, countServed, count}
+use Rattle.service.specs.Judgement.{applicationOf, refusals, askersSlots, operate, resultOf, changedBy, verdictOf, refusedEarly, oversizedStatus, judgement}
+use Rattle.service.specs.Text.{ascii}
+use Rattle.service.specs.Bill.{digitsBefore, decimal, textLine, applicationLines, refusedLines, billOf, billFor, bill}
+
+-- ---- what a case shows: the responses, the slots of application 0 afterwards, and the bill
+pub record Shown : Type 0 where
+  pub responses : List (List ℕ)
+  pub slots : List Entry
+  pub bill : List ℕ
+
+pub record Case : Type 0 where
+  pub roster : List ℕ
+  pub stream : List ℕ
+  pub shown : Shown
+
+unfoldable pub shownBy : Outcome (List ℕ) Counts (List ℕ) → (bill : List ℕ) → Shown
+shownBy o bill = record { responses = o .responses; slots = slotsOf (o .state .registry) (record { 0 = 0 }); bill = bill }
+
+unfoldable pub startOf : Roster → List ℕ
+startOf (applications names) = registryOf names
+startOf (faulty fault) = []
+
+-- all that a case computes with
+unfoldable pub showing : (roster stream : List ℕ) → Shown
+unfolding rosterOf recordTurn recordFaults firstOf legalName field littleEndian registryOf lineOf flatten rules rulesFrom rulesWithin start answer finish judge next legalStart oversized judgement noCounts requestOf resultOf refusals oneOf opcodesOf isSome applicationOf applicationNamed indexFrom operate operationOf readBody scanAt scanFrom stepAt itemOf fieldAt contentAt numberAt spanAt fixedAt varintOf withValue perform performImport performDestroy performExport exportOf performListOpcodes success refuse numberField bytesField packedField flatMap varint varintWithin importable importBits legalData legalBits slotNamed keyBytes slotBytes askersSlots verdictOf refusedEarly oversizedStatus responseBytes responseHeader littleEndianOf statusNumber changedBy changed count countServed countRefused increment indexOf slotsOf slotOf billOf textLine decimal digitsBefore applicationLines refusedLines heldBytes ascii shownBy startOf bill billFor faultNumber
+showing roster stream = shownBy (rules judgement (startOf (rosterOf roster)) stream) (bill (some roster) (some stream))
+
+-- ---- a table holds
+
+unfoldable pub Holds : Case → Type 0
+Holds c = showing (c .roster) (c .stream) ≡ c .shown
+
+abbrev pub AllHold : List Case → Type 0
+AllHold [] = Unit {0}
+AllHold (c ∷ cs) = Holds c × AllHold cs
+
+-- ---- the cases' parts
+
+unfoldable pub case-of : (roster stream : List ℕ) (responses : List (List ℕ)) (slots : List Entry) (bill : List ℕ) → Case
+case-of roster stream responses slots bill =
+    record { roster = roster; stream = stream; shown = record { responses = responses; slots = slots; bill = bill } }
+
+-- a request with session 0; `more` are the bytes past the 22nd of its header
+unfoldable pub longRequest : (more : List ℕ) (major provider opcode authType : ℕ) (body auth : List ℕ) → List ℕ
+longRequest more major provider opcode authType body auth =
+    (0x10 ∷ 0xA7 ∷ 0xC0 ∷ 0x5E ∷ (0x16 + length more) ∷ 0 ∷ major ∷ 0 ∷ provider ∷ 0 ∷ 0 ∷ 0 ∷ 0 ∷ 0 ∷ 0 ∷ 0 ∷ 0 ∷ 1 ∷ 1 ∷ authType
+    ∷ length body ∷ 0 ∷ 0 ∷ 0 ∷ length auth ∷ 0 ∷ opcode ∷ 0 ∷ []) ++ (more ++ (body ++ auth))
+
+unfoldable pub request : (major provider opcode authType : ℕ) (body auth : List ℕ) → List ℕ
+request major provider opcode authType body auth = longRequest [] major provider opcode authType body auth
+
+-- the response to one, its status in two bytes
+unfoldable pub response : (provider opcode low high : ℕ) (body : List ℕ) → List ℕ
+response provider opcode low high body =
+    (0x10 ∷ 0xA7 ∷ 0xC0 ∷ 0x5E ∷ 0x14 ∷ 0 ∷ 1 ∷ 0 ∷ provider ∷ 0 ∷ 0 ∷ 0 ∷ 0 ∷ 0 ∷ 0 ∷ 0 ∷ 0 ∷ 1
+    ∷ length body ∷ 0 ∷ 0 ∷ 0 ∷ opcode ∷ 0 ∷ low ∷ high ∷ []) ++ body
+
+-- a key under a one-byte name with data AA BB, 2,048 bits, export allowed; and the body that imports it
+unfoldable pub key : (name : ℕ) → Entry
+key name = held (record { name = name ∷ []; bytes = 0xAA ∷ 0xBB ∷ []; bits = 2048; exportAllowed = true; verifyAllowed = false })
+
+unfoldable pub keyBody : (name : ℕ) → List ℕ
+keyBody name = 0x0A ∷ 0x01 ∷ name ∷ 0x12 ∷ 0x02 ∷ 0xAA ∷ 0xBB ∷ 0x18 ∷ 0x80 ∷ 0x10 ∷ 0x20 ∷ 0x01 ∷ []
+
+unfoldable pub nameBody : (name : ℕ) → List ℕ
+nameBody name = 0x0A ∷ 0x01 ∷ name ∷ []
+
+unfoldable pub imported : List ℕ
+imported = response 1 6 0 0 []
+
+unfoldable pub allFree : List Entry
+allFree = free ∷ free ∷ free ∷ free ∷ []

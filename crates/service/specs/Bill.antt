@@ -1,0 +1,67 @@
+-- "The bill": its text for a roster file and a captured stream.
+use Prim.Native.Nat.{ℕ, zero, suc, _+_, _/_, _%_}
+use mathlib.Core.Option.{Option, none, some}
+use mathlib.Core.List.{List, [], _∷_, _++_}
+use lib.ListN.{getD}
+use lib.Dec.{ltb, eqb}
+use Rattle.wire.specs.Choice.{if_then_else_}
+use Rattle.stream.specs.Rules.{heldBytes, State, rules}
+use Rattle.registry.specs.Registry.{registryOf}
+use Rattle.registry.specs.Roster.{faultNumber, Roster, applications, faulty, rosterOf}
+use Rattle.service.specs.Text.{ascii}
+use Rattle.service.specs.Status.{statusNumber, refusedStatuses}
+use Rattle.service.specs.Counters.{Counts}
+use Rattle.service.specs.Judgement.{judgement}
+use Rattle.service.specs.declared.Status.{Status}
+
+-- ---- words and numbers
+
+-- a number's digits in front of `tail`; `fuel` is more than the digits
+unfoldable pub digitsBefore : (fuel n : ℕ) (tail : List ℕ) → List ℕ
+digitsBefore zero n tail = tail
+digitsBefore (suc fuel) n tail =
+    if ltb n 10 then (0x30 + n) ∷ tail else digitsBefore fuel (n / 10) ((0x30 + n % 10) ∷ tail)
+
+unfoldable pub decimal : ℕ → List ℕ
+decimal n = digitsBefore (suc n) n []
+
+-- words with a space between two, and the line's end
+unfoldable pub textLine : (word : List ℕ) (words : List (List ℕ)) → List ℕ
+textLine word [] = word ++ (0x0A ∷ [])
+textLine word (w ∷ words) = word ++ (0x20 ∷ textLine w words)
+
+-- ---- the lines
+
+-- each used line: number, name, served
+unfoldable pub applicationLines : (number : ℕ) (names : List (List ℕ)) (served : List ℕ) → List ℕ
+applicationLines number [] served = []
+applicationLines number (name ∷ names) served =
+    textLine (ascii "line") (decimal number ∷ name ∷ decimal (getD served number 0) ∷ []) ++ applicationLines (suc number) names served
+
+-- each status with its count, where that isn't 0
+unfoldable pub refusedLines : List Status → (refused : List ℕ) → List ℕ
+refusedLines [] refused = []
+refusedLines (s ∷ statuses) [] = []
+refusedLines (s ∷ statuses) (n ∷ refused) =
+    if eqb n 0 then refusedLines statuses refused
+    else textLine (ascii "refused") (decimal (statusNumber s) ∷ decimal n ∷ []) ++ refusedLines statuses refused
+
+unfoldable pub billOf : (names : List (List ℕ)) → State (List ℕ) Counts → List ℕ
+billOf names s =
+    textLine (ascii "taken") (decimal (s .totals .taken) ∷ [])
+    ++ (applicationLines 0 names (s .totals .counts .served)
+    ++ (textLine (ascii "open") (decimal (s .totals .counts .unauthenticated) ∷ [])
+    ++ (refusedLines refusedStatuses (s .totals .counts .refused)
+    ++ (textLine (ascii "dropped") (decimal (s .totals .dropped) ∷ [])
+    ++ textLine (ascii "held") (decimal (heldBytes (s .connection)) ∷ [])))))
+
+-- the start has the roster's names and no keys; a refused roster prints one line only
+unfoldable pub billFor : Roster → (stream : List ℕ) → List ℕ
+billFor (applications names) stream = billOf names (rules judgement (registryOf names) stream .state)
+billFor (faulty fault) stream = ascii "roster R" ++ textLine (decimal (faultNumber fault)) []
+
+-- `none` is a file that can't be read
+unfoldable pub bill : (roster stream : Option (List ℕ)) → List ℕ
+bill none stream = textLine (ascii "no file") []
+bill (some roster) none = textLine (ascii "no file") []
+bill (some roster) (some stream) = billFor (rosterOf roster) stream

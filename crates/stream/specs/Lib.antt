@@ -1,0 +1,4 @@
+pub mod Frame
+pub mod Rules
+pub mod Call
+pub mod Calls

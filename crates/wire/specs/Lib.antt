@@ -1,0 +1,6 @@
+pub mod Choice
+pub mod Lists
+pub mod Numbers
+pub mod Scan
+pub mod Request
+pub mod Response

@@ -1,0 +1,155 @@
+//! The six operations: what each reads from its body, does and writes.
+//! Document 01, "Operations and their fields".
+
+use crate::opcode::{CoreOpcode, KeystoreOpcode, Provider};
+use crate::protobuf::{fields, Unreadable, Value, Writer};
+use crate::registry::{self, key_name_is_legal, Key, Line, Slot, LONGEST_DATA};
+use crate::status::Status;
+use crate::wire::RESPONSE_HEADER_LENGTH;
+
+/// An export of the longest data: its tag and two bytes of length come before it.
+pub const LONGEST_RESPONSE: usize = RESPONSE_HEADER_LENGTH + 3 + LONGEST_DATA;
+
+impl From<Unreadable> for Status {
+    fn from(_: Unreadable) -> Status {
+        Status::DeserializingBodyFailed
+    }
+}
+
+/// Writes the response's body to `out` and says how long it is; a refusal writes nothing.
+pub fn perform_core(opcode: CoreOpcode, body: &[u8], out: &mut [u8]) -> Result<usize, Status> {
+    let mut writer = Writer::new(out);
+    match opcode {
+        CoreOpcode::Ping => {
+            read_no_input(body)?;
+            writer.write_uint32(1, 1);
+            writer.write_uint32(2, 0);
+        }
+        CoreOpcode::ListProviders => {
+            read_no_input(body)?;
+            writer.write_packed(1, &Provider::ALL.map(Provider::number));
+        }
+        CoreOpcode::ListOpcodes => {
+            let provider =
+                Provider::from_number(read_provider(body)?).ok_or(Status::ProviderDoesNotExist)?;
+            writer.write_packed(1, &opcode_numbers(provider));
+        }
+    }
+    Ok(writer.written())
+}
+
+fn opcode_numbers(provider: Provider) -> [u32; 3] {
+    match provider {
+        Provider::Core => CoreOpcode::ALL.map(|opcode| opcode as u32),
+        Provider::Keystore => KeystoreOpcode::ALL.map(|opcode| opcode as u32),
+    }
+}
+
+/// Writes the response's body to `out` and says how long it is; a refusal changes nothing.
+pub fn perform_keystore(
+    opcode: KeystoreOpcode,
+    line: Line,
+    body: &[u8],
+    registry: &mut [u8],
+    out: &mut [u8],
+) -> Result<usize, Status> {
+    match opcode {
+        KeystoreOpcode::Import => import(registry, line, &read_key_input(body)?),
+        KeystoreOpcode::Destroy => destroy(registry, line, read_name(body)?),
+        KeystoreOpcode::Export => export(registry, line, read_name(body)?, out),
+    }
+}
+
+/// Bounds of name, data and bits, then a held name, then a full line.
+fn import(registry: &mut [u8], line: Line, key: &Key) -> Result<usize, Status> {
+    if !key.is_allowed() {
+        return Err(Status::PsaErrorInvalidArgument);
+    }
+    // A held name may lie behind a free slot, so it is looked for in the whole line first.
+    if registry::find_key(registry, line, key.name).is_some() {
+        return Err(Status::PsaErrorAlreadyExists);
+    }
+    let slot =
+        registry::find_free_slot(registry, line).ok_or(Status::PsaErrorInsufficientStorage)?;
+    registry::write_key(registry, line, slot, key);
+    Ok(0)
+}
+
+fn destroy(registry: &mut [u8], line: Line, name: &[u8]) -> Result<usize, Status> {
+    let slot = find_named_key(registry, line, name)?;
+    registry::free_slot(registry, line, slot);
+    Ok(0)
+}
+
+fn export(registry: &[u8], line: Line, name: &[u8], out: &mut [u8]) -> Result<usize, Status> {
+    let slot = find_named_key(registry, line, name)?;
+    let key = registry::read_key(registry, line, slot);
+    if !key.export_allowed {
+        return Err(Status::PsaErrorNotPermitted);
+    }
+    let mut writer = Writer::new(out);
+    writer.write_bytes(1, key.data);
+    Ok(writer.written())
+}
+
+fn find_named_key(registry: &[u8], line: Line, name: &[u8]) -> Result<Slot, Status> {
+    if !key_name_is_legal(name) {
+        return Err(Status::PsaErrorInvalidArgument);
+    }
+    registry::find_key(registry, line, name).ok_or(Status::PsaErrorDoesNotExist)
+}
+
+/// With no input, any field would have an unlisted number: the body must be empty.
+fn read_no_input(body: &[u8]) -> Result<(), Unreadable> {
+    if body.is_empty() {
+        Ok(())
+    } else {
+        Err(Unreadable)
+    }
+}
+
+fn read_provider(body: &[u8]) -> Result<u32, Unreadable> {
+    let mut provider = 0;
+    for field in fields(body) {
+        let field = field?;
+        match (field.number, field.value) {
+            (1, Value::Varint(value)) => provider = low_32_bits(value),
+            _ => return Err(Unreadable),
+        }
+    }
+    Ok(provider)
+}
+
+/// An empty value is the same as an absent one.
+fn read_name(body: &[u8]) -> Result<&[u8], Unreadable> {
+    let mut name: &[u8] = &[];
+    for field in fields(body) {
+        let field = field?;
+        match (field.number, field.value) {
+            (1, Value::Bytes(value)) => name = value,
+            _ => return Err(Unreadable),
+        }
+    }
+    Ok(name)
+}
+
+fn read_key_input(body: &[u8]) -> Result<Key<'_>, Unreadable> {
+    let mut key = Key::default();
+    for field in fields(body) {
+        let field = field?;
+        match (field.number, field.value) {
+            (1, Value::Bytes(value)) => key.name = value,
+            (2, Value::Bytes(value)) => key.data = value,
+            (3, Value::Varint(value)) => key.bits = low_32_bits(value),
+            (4, Value::Varint(value)) => key.export_allowed = value != 0,
+            (5, Value::Varint(value)) => key.verify_allowed = value != 0,
+            _ => return Err(Unreadable),
+        }
+    }
+    Ok(key)
+}
+
+/// A uint32 is the low 32 bits of its varint.
+fn low_32_bits(value: u64) -> u32 {
+    value as u32
+}

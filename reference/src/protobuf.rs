@@ -1,0 +1,140 @@
+//! Message bodies: reading fields where they lie, and writing fields into lent memory.
+//! Document 01, "Operations and their fields", the paragraph on reading and writing.
+
+/// A body that document 01 calls not readable.
+#[derive(Clone, Copy, Debug, PartialEq, Eq)]
+pub struct Unreadable;
+
+/// What a field holds; wire types 1 and 5 are not here, since no listed field has one.
+#[derive(Clone, Copy, Debug, PartialEq, Eq)]
+pub enum Value<'a> {
+    Varint(u64),
+    Bytes(&'a [u8]),
+}
+
+#[derive(Clone, Copy, Debug, PartialEq, Eq)]
+pub struct Field<'a> {
+    pub number: u32,
+    pub value: Value<'a>,
+}
+
+/// The fields of a body in the order they come, up to the first unreadable one.
+pub struct Fields<'a> {
+    rest: &'a [u8],
+}
+
+pub fn fields(body: &[u8]) -> Fields<'_> {
+    Fields { rest: body }
+}
+
+impl<'a> Iterator for Fields<'a> {
+    type Item = Result<Field<'a>, Unreadable>;
+
+    fn next(&mut self) -> Option<Self::Item> {
+        if self.rest.is_empty() {
+            return None;
+        }
+        Some(self.read_field())
+    }
+}
+
+impl<'a> Fields<'a> {
+    fn read_field(&mut self) -> Result<Field<'a>, Unreadable> {
+        // The tag is the whole varint: one above 2^32 - 1 is not cut down to 32 bits.
+        let tag = u32::try_from(self.read_varint()?).map_err(|_| Unreadable)?;
+        let number = tag >> 3;
+        if number == 0 {
+            return Err(Unreadable);
+        }
+        let value = match tag & 7 {
+            0 => Value::Varint(self.read_varint()?),
+            2 => Value::Bytes(self.read_bytes()?),
+            _ => return Err(Unreadable),
+        };
+        Ok(Field { number, value })
+    }
+
+    /// Up to ten bytes, longer-than-needed forms too; a tenth byte above 1 is not read.
+    fn read_varint(&mut self) -> Result<u64, Unreadable> {
+        let mut value = 0;
+        for (place, &byte) in self.rest.iter().take(10).enumerate() {
+            if place == 9 && byte > 1 {
+                return Err(Unreadable);
+            }
+            value |= u64::from(byte & 0x7F) << (7 * place);
+            if byte < 0x80 {
+                self.rest = &self.rest[place + 1..];
+                return Ok(value);
+            }
+        }
+        Err(Unreadable)
+    }
+
+    /// The length is the whole varint, so a huge one is a cut field.
+    fn read_bytes(&mut self) -> Result<&'a [u8], Unreadable> {
+        let length = usize::try_from(self.read_varint()?).map_err(|_| Unreadable)?;
+        let (bytes, rest) = self.rest.split_at_checked(length).ok_or(Unreadable)?;
+        self.rest = rest;
+        Ok(bytes)
+    }
+}
+
+/// Writes ascending fields to the front of `out`: shortest varints, zero values left out.
+pub struct Writer<'a> {
+    out: &'a mut [u8],
+    written: usize,
+}
+
+impl<'a> Writer<'a> {
+    pub fn new(out: &'a mut [u8]) -> Self {
+        Writer { out, written: 0 }
+    }
+
+    pub fn written(&self) -> usize {
+        self.written
+    }
+
+    pub fn write_uint32(&mut self, number: u32, value: u32) {
+        if value != 0 {
+            self.write_varint(number << 3);
+            self.write_varint(value);
+        }
+    }
+
+    pub fn write_bytes(&mut self, number: u32, value: &[u8]) {
+        if !value.is_empty() {
+            self.write_varint(number << 3 | 2);
+            self.write_varint(value.len() as u32);
+            self.write_slice(value);
+        }
+    }
+
+    /// A zero among the entries is written: only a list of none is left out.
+    pub fn write_packed(&mut self, number: u32, values: &[u32]) {
+        if !values.is_empty() {
+            self.write_varint(number << 3 | 2);
+            self.write_varint(values.iter().copied().map(varint_length).sum());
+            for &value in values {
+                self.write_varint(value);
+            }
+        }
+    }
+
+    fn write_varint(&mut self, mut value: u32) {
+        while value >= 0x80 {
+            self.write_slice(&[value as u8 | 0x80]);
+            value >>= 7;
+        }
+        self.write_slice(&[value as u8]);
+    }
+
+    fn write_slice(&mut self, bytes: &[u8]) {
+        crate::bytes::write_at(self.out, self.written, bytes);
+        self.written += bytes.len();
+    }
+}
+
+fn varint_length(value: u32) -> u32 {
+    let bits = u32::BITS - value.leading_zeros();
+    bits.div_ceil(7).max(1)
+}

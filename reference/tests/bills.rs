@@ -1,0 +1,210 @@
+//! The bill by the library and by the executable.
+//! Document 01, "The bill".
+
+mod common;
+
+use common::*;
+use reference::{bill, bill_text, Status};
+use std::fs;
+use std::path::{Path, PathBuf};
+use std::process::Command;
+
+const ROSTER_OF_B: [u8; 4] = [0x01, 0x01, 0x00, 0x62];
+
+/// Writes a file for one test; `name` keeps tests that run at once apart.
+fn file(name: &str, bytes: &[u8]) -> PathBuf {
+    let path = Path::new(env!("CARGO_TARGET_TMPDIR")).join(name);
+    fs::write(&path, bytes).expect("a file for the test");
+    path
+}
+
+fn missing_file() -> PathBuf {
+    Path::new(env!("CARGO_TARGET_TMPDIR")).join("there is no such file")
+}
+
+/// What the executable prints; its exit status is 0 in every case.
+fn run_bill(arguments: &[&Path]) -> String {
+    let output = Command::new(env!("CARGO_BIN_EXE_bill"))
+        .args(arguments)
+        .output()
+        .expect("the executable runs");
+    assert_eq!(output.status.code(), Some(0));
+    assert_eq!(output.stderr, b"");
+    String::from_utf8(output.stdout).expect("a bill is text")
+}
+
+/// Checks the library and the executable.
+fn expect_bill(name: &str, roster: &[u8], stream: &[u8], expected: &str) {
+    let text = bill(Some(roster), Some(stream));
+    assert_eq!(String::from_utf8(text).unwrap(), expected);
+    let roster = file(&format!("{name}.roster"), roster);
+    let stream = file(&format!("{name}.stream"), stream);
+    assert_eq!(run_bill(&[&roster, &stream]), expected);
+}
+
+#[test]
+fn a_ping_of_application_b() {
+    let stream = ping().sent_by(b"b").bytes();
+    let expected = "taken 29\nline 0 b 1\nopen 0\ndropped 0\nheld 0\n";
+    expect_bill("ping_from_b", &ROSTER_OF_B, &stream, expected);
+}
+
+#[test]
+fn an_empty_roster_a_ping_and_six_bytes_ff() {
+    let stream = [&PING_REQUEST[..], &[0xFF; 6]].concat();
+    let expected = "taken 34\nopen 1\nrefused 17 1\ndropped 0\nheld 0\n";
+    expect_bill("empty_roster", &[], &stream, expected);
+}
+
+#[test]
+fn an_empty_roster_and_an_empty_stream() {
+    let expected = "taken 0\nopen 0\ndropped 0\nheld 0\n";
+    expect_bill("both_empty", &[], &[], expected);
+}
+
+#[test]
+fn every_used_line_and_every_refusal_that_is_not_zero_in_ascending_order() {
+    let names: [&[u8]; 3] = [b"z", b"idle", b"a"];
+    let requests = [
+        import(&key(b"k")).sent_by(b"a"),
+        import(&key(b"k")).sent_by(b"a"),
+        export(b"k").sent_by(b"z"),
+        ping().sent_by(b"z"),
+        ping().sent_by(b"nobody"),
+        ping(),
+        Request { major: 0, ..ping() },
+        Request::new(1, PING, Vec::new()),
+    ];
+    let stream: Vec<u8> = requests.iter().flat_map(Request::bytes).collect();
+    let expected = format!(
+        "taken {}\nline 0 z 1\nline 1 idle 0\nline 2 a 1\nopen 1\nrefused 1 1\nrefused 4 1\n\
+         refused 11 1\nrefused 1139 1\nrefused 1140 1\ndropped 0\nheld 0\n",
+        stream.len()
+    );
+    expect_bill("every_line", &roster_of(&names), &stream, &expected);
+}
+
+#[test]
+fn dropped_bytes_behind_an_invalid_header() {
+    let stream = [&[0; 6], &PING_REQUEST[..]].concat();
+    let expected = "taken 34\nopen 0\nrefused 17 1\ndropped 28\nheld 0\n";
+    expect_bill("dropped", &[], &stream, expected);
+}
+
+#[test]
+fn held_bytes_of_an_unfinished_request() {
+    let stream = [&PING_REQUEST[..], &PING_REQUEST[..11]].concat();
+    let expected = "taken 39\nopen 1\ndropped 0\nheld 11\n";
+    expect_bill("held", &[], &stream, expected);
+}
+
+#[test]
+fn held_bytes_count_the_skipped_ones_too() {
+    let header = ping().header_with_lengths(4_097, 300);
+    let stream = [&header[..], &[0; 10]].concat();
+    let expected = "taken 38\nopen 0\ndropped 0\nheld 38\n";
+    expect_bill("held_skipping", &[], &stream, expected);
+}
+
+#[test]
+fn a_stream_longer_than_a_chunk() {
+    let oversized = Request {
+        body: vec![0; 200_000],
+        ..ping()
+    };
+    let stream = [
+        PING_REQUEST.repeat(5_000),
+        oversized.bytes(),
+        PING_REQUEST.repeat(5_000),
+    ]
+    .concat();
+    let expected = "taken 480028\nopen 10000\nrefused 20 1\ndropped 0\nheld 0\n";
+    expect_bill("long_stream", &[], &stream, expected);
+}
+
+#[test]
+fn a_refused_roster_prints_one_line() {
+    let names: [&[u8]; 9] = [b"0", b"1", b"2", b"3", b"4", b"5", b"6", b"7", b"8"];
+    let rosters = [
+        (vec![1, 1], "roster R1\n"),
+        (roster_record(2, b"a"), "roster R2\n"),
+        (roster_of(&[b""]), "roster R3\n"),
+        (roster_of(&names), "roster R4\n"),
+        (roster_of(&[b"a", b"a"]), "roster R5\n"),
+    ];
+    for (place, (roster, expected)) in rosters.iter().enumerate() {
+        let name = format!("refused_roster_{place}");
+        expect_bill(&name, roster, &PING_REQUEST, expected);
+    }
+}
+
+#[test]
+fn either_file_unreadable_prints_no_file() {
+    let roster = file("unreadable.roster", &[]);
+    let stream = file("unreadable.stream", &PING_REQUEST);
+    let directory = Path::new(env!("CARGO_TARGET_TMPDIR"));
+    let missing = missing_file();
+    for arguments in [
+        [&roster, &missing],
+        [&missing, &stream],
+        [&missing, &missing],
+        [&roster, &directory.to_path_buf()],
+        [&directory.to_path_buf(), &stream],
+    ] {
+        assert_eq!(run_bill(&arguments.map(PathBuf::as_path)), "no file\n");
+    }
+    assert_eq!(bill(None, Some(&PING_REQUEST)), b"no file\n");
+    assert_eq!(bill(Some(&[]), None), b"no file\n");
+    assert_eq!(bill(None, None), b"no file\n");
+}
+
+#[test]
+fn a_missing_argument_prints_no_file() {
+    let roster = file("missing_argument.roster", &[]);
+    assert_eq!(run_bill(&[&roster]), "no file\n");
+    assert_eq!(run_bill(&[]), "no file\n");
+}
+
+#[test]
+fn an_unreadable_file_comes_before_a_refused_roster() {
+    let bad_roster = roster_of(&[b""]);
+    assert_eq!(bill(Some(&bad_roster), None), b"no file\n");
+    let roster = file("unreadable_first.roster", &bad_roster);
+    let directory = Path::new(env!("CARGO_TARGET_TMPDIR"));
+    assert_eq!(run_bill(&[&roster, &missing_file()]), "no file\n");
+    assert_eq!(run_bill(&[&roster, directory]), "no file\n");
+}
+
+/// A stream that fails after its first bytes.
+struct FailsMidway(bool);
+
+impl std::io::Read for FailsMidway {
+    fn read(&mut self, buffer: &mut [u8]) -> std::io::Result<usize> {
+        if self.0 {
+            return Err(std::io::ErrorKind::Other.into());
+        }
+        self.0 = true;
+        buffer[..28].copy_from_slice(&PING_REQUEST);
+        Ok(28)
+    }
+}
+
+#[test]
+fn a_read_that_fails_midway_is_an_unreadable_file() {
+    for roster in [roster_of(&[b"b"]), roster_of(&[b""])] {
+        assert!(reference::bill_from_reader(&roster, FailsMidway(false)).is_err());
+    }
+}
+
+#[test]
+fn the_text_of_a_bill_on_lent_memory() {
+    let mut service = Service::with_keys(&[b"a", b"b"]);
+    service.expect_status(&export(b"c"), Status::PsaErrorDoesNotExist);
+    service.send(&PING_REQUEST[..7]);
+    let expected = format!(
+        "taken {}\nline 0 scanner 2\nline 1 archive 0\nopen 0\nrefused 1140 1\ndropped 0\nheld 7\n",
+        service.counters.taken
+    );
+    let text = bill_text(&service.counters, &service.registry, &service.connection);
+    assert_eq!(String::from_utf8(text).unwrap(), expected);
+}

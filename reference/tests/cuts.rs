@@ -1,0 +1,303 @@
+//! Any cut against the uncut rules, on generated rosters and streams.
+//! Document 01, "A whole stream under the rules".
+
+mod common;
+
+use common::generate::{names, requests, Random};
+use common::*;
+use reference::rules::{self, ConnectionState, Outcome};
+use reference::{registry_is_well_formed, Refusal, Status, Taken, MAX_CHUNK};
+use std::collections::BTreeSet;
+use std::fmt::Debug;
+
+/// A roster, a stream, and how it is cut.
+#[derive(Clone)]
+struct Case {
+    names: Vec<Vec<u8>>,
+    requests: Vec<Vec<u8>>,
+    /// How long the chunks are, over and over.
+    sizes: Vec<usize>,
+    /// Is the rest of a chunk handed over again by itself, or with what follows?
+    rests_alone: bool,
+}
+
+impl Case {
+    fn generate(seed: u64, most_requests: usize) -> Case {
+        let random = &mut Random::new(seed);
+        let names = names(random);
+        let requests = requests(random, &names, most_requests);
+        // A long stream is not cut into more than some hundreds, for the time it takes.
+        let shortest = requests.concat().len() / 100;
+        let longest = random.pick(&[3, 30, 300, 5_000, MAX_CHUNK]).max(shortest);
+        let mut sizes: Vec<_> = (0..8).map(|_| random.below(longest + 1)).collect();
+        sizes.push(longest);
+        Case {
+            names,
+            requests,
+            sizes,
+            rests_alone: random.once_in(2),
+        }
+    }
+
+    fn service(&self) -> Service {
+        let names: Vec<_> = self.names.iter().map(Vec::as_slice).collect();
+        Service::with_roster(&names)
+    }
+
+    /// Cases that are a step shorter.
+    fn shorter(&self) -> Vec<Case> {
+        let without_request = (0..self.requests.len()).map(|place| {
+            let mut case = self.clone();
+            case.requests.remove(place);
+            case
+        });
+        let with_one_size = self.sizes.iter().map(|&size| Case {
+            sizes: vec![size],
+            ..self.clone()
+        });
+        let sizes_can_shrink = self.sizes.len() > 1;
+        without_request
+            .chain(with_one_size.filter(|case| sizes_can_shrink && case.sizes[0] > 0))
+            .collect()
+    }
+}
+
+fn same<T: PartialEq + Debug>(what: &str, call: T, rules: T) -> Result<(), String> {
+    if call == rules {
+        Ok(())
+    } else {
+        Err(format!("{what}: call {call:?}, rules {rules:?}"))
+    }
+}
+
+/// Too long to print where they differ.
+fn same_memory(what: &str, call: &[u8], rules: &[u8]) -> Result<(), String> {
+    let differs = call
+        .iter()
+        .zip(rules)
+        .position(|(call, rules)| call != rules);
+    same(&format!("{what}, first difference"), differs, None)?;
+    same(&format!("{what}, length"), call.len(), rules.len())
+}
+
+/// Every byte taken is answered, held or dropped.
+fn bytes_add_up(service: &Service) -> Result<(), String> {
+    let counters = &service.counters;
+    let held = unfinished_bytes(&service.connection);
+    let sum = counters.answered + held + counters.dropped;
+    same("bytes taken", counters.taken, sum)
+}
+
+/// The chunks of a case, each call's outcome handed to `each_call`.
+fn hand_over(
+    case: &Case,
+    stream: &[u8],
+    mut each_call: impl FnMut(&mut Service, &[u8], usize) -> Result<Taken, String>,
+) -> Result<Service, String> {
+    let mut service = case.service();
+    let mut sizes = case.sizes.iter().copied().cycle();
+    let (mut at, mut rest) = (0, 0);
+    while at < stream.len() {
+        let size = match rest {
+            0 => sizes.next().unwrap_or(MAX_CHUNK),
+            _ if case.rests_alone => rest,
+            _ => sizes.next().unwrap_or(MAX_CHUNK).max(1),
+        };
+        let chunk = &stream[at..stream.len().min(at + size)];
+        let taken = each_call(&mut service, chunk, at)?;
+        if taken.taken > chunk.len() || taken.taken == 0 && !chunk.is_empty() {
+            return Err(format!("{} of {} taken", taken.taken, chunk.len()));
+        }
+        at += taken.taken;
+        rest = chunk.len() - taken.taken;
+        bytes_add_up(&service)?;
+    }
+    Ok(service)
+}
+
+/// Hands the stream over as the case says, and compares the end with the rules.
+fn check(case: &Case) -> Result<Outcome, String> {
+    let stream = case.requests.concat();
+    let expected = rules::run(&case.service().registry, &stream);
+    let mut responses = Vec::new();
+    let service = hand_over(case, &stream, |service, chunk, _| {
+        let taken = service.call(chunk).map_err(|code| format!("{code:?}"))?;
+        if taken.written > 0 {
+            responses.push(service.response[..taken.written].to_vec());
+        }
+        Ok(taken)
+    })?;
+    same("responses", &responses, &expected.responses)?;
+    same_memory("registry", &service.registry, &expected.registry)?;
+    same("counters", &service.counters, &expected.counters)?;
+    let connection = expected.connection.to_memory();
+    same_memory("connection", &service.connection, &connection)?;
+    Ok(expected)
+}
+
+/// Compares every call with the rules on the stream so far, refused calls among them.
+fn check_every_call(case: &Case) -> Result<Outcome, String> {
+    let stream = case.requests.concat();
+    let registry = case.service().registry;
+    let prefixes: Vec<_> = (0..=stream.len())
+        .map(|length| rules::run(&registry, &stream[..length]))
+        .collect();
+    hand_over(case, &stream, |service, chunk, at| {
+        check_refused_call(service, chunk)?;
+        let taken = service.call(chunk).map_err(|code| format!("{code:?}"))?;
+        let expected = expected_of_call(&prefixes[at..=at + chunk.len()]);
+        same("call", taken, expected)?;
+        let now = &prefixes[at + taken.taken];
+        if taken.written > 0 {
+            let response = service.response[..taken.written].to_vec();
+            same("response", Some(&response), now.responses.last())?;
+        }
+        same_memory("registry", &service.registry, &now.registry)?;
+        same("counters", &service.counters, &now.counters)?;
+        let connection = now.connection.to_memory();
+        same_memory("connection", &service.connection, &connection)?;
+        Ok(taken)
+    })?;
+    Ok(prefixes[stream.len()].clone())
+}
+
+/// The chunk up to and with the byte that brings one response more, or all of it.
+fn expected_of_call(prefixes: &[Outcome]) -> Taken {
+    let before = prefixes[0].responses.len();
+    let answered = |outcome: &Outcome| outcome.responses.len() > before;
+    match prefixes.iter().position(answered) {
+        Some(taken) => Taken {
+            taken,
+            written: prefixes[taken].responses[before].len(),
+        },
+        None => Taken {
+            taken: prefixes.len() - 1,
+            written: 0,
+        },
+    }
+}
+
+fn check_refused_call(service: &mut Service, chunk: &[u8]) -> Result<(), String> {
+    let before = service.clone();
+    service.response.truncate(1_023);
+    let refused = service.call(chunk);
+    service.response.push(before.response[1_023]);
+    same(
+        "refused call",
+        refused,
+        Err(Refusal::ResponseBufferTooSmall),
+    )?;
+    same("after a refused call", service == &before, true)
+}
+
+type Check = fn(&Case) -> Result<Outcome, String>;
+
+/// Checks a case; a failing one is shown with its seed, as short as it could be made.
+fn run_case(seed: u64, case: Case, check: Check) -> Outcome {
+    match check(&case) {
+        Ok(outcome) => outcome,
+        Err(_) => {
+            let case = shrink(case, check);
+            panic!(
+                "seed {seed}: {}\nnames {:02X?}\nrequests {:02X?}\nsizes {:?}, rests alone {}",
+                check(&case).expect_err("shrinking keeps the failure"),
+                case.names,
+                case.requests,
+                case.sizes,
+                case.rests_alone,
+            );
+        }
+    }
+}
+
+fn shrink(mut case: Case, check: Check) -> Case {
+    let fails = |case: &Case| check(case).is_err();
+    while let Some(shorter) = case.shorter().into_iter().find(fails) {
+        case = shorter;
+    }
+    case
+}
+
+/// What a run of cases reached.
+#[derive(Default)]
+struct Reached {
+    statuses: BTreeSet<u16>,
+    connections: BTreeSet<&'static str>,
+    flags: BTreeSet<[u8; 2]>,
+}
+
+impl Reached {
+    fn add(&mut self, outcome: &Outcome) {
+        assert!(registry_is_well_formed(&outcome.registry));
+        for response in &outcome.responses {
+            self.statuses.insert(Response::read(response).status);
+        }
+        self.connections.insert(match &outcome.connection {
+            ConnectionState::Open(held) if held.is_empty() => "fresh",
+            ConnectionState::Open(_) => "open",
+            ConnectionState::Skipping { .. } => "skipping",
+            ConnectionState::Closed => "closed",
+        });
+        for (line, slot) in (0..8).flat_map(|line| (0..4).map(move |slot| (line, slot))) {
+            let slot = &outcome.registry[slot_at(line, slot)..][..SLOT_SIZE];
+            if slot[0] != 0 {
+                self.flags.insert([slot[637], slot[638]]);
+            }
+        }
+    }
+
+    fn assert_all(&self) {
+        let statuses = Status::ALL.map(Status::number).into();
+        assert_eq!(self.statuses, statuses);
+        let connections = ["fresh", "open", "skipping", "closed"].into();
+        assert_eq!(self.connections, connections);
+        let flags = [[0, 0], [0, 1], [1, 0], [1, 1]].into();
+        assert_eq!(self.flags, flags);
+    }
+}
+
+#[test]
+fn any_cut_of_a_stream_comes_to_what_the_rules_give_uncut() {
+    let mut reached = Reached::default();
+    for seed in 1..=3_000 {
+        let case = Case::generate(seed, 16);
+        reached.add(&run_case(seed, case, check));
+    }
+    reached.assert_all();
+}
+
+#[test]
+fn every_call_on_a_short_stream_is_the_rules_on_the_stream_so_far() {
+    let mut checked = 0;
+    for seed in 1.. {
+        let case = Case::generate(seed, 6);
+        if case.requests.concat().len() < 400 {
+            run_case(seed, case, check_every_call);
+            checked += 1;
+        }
+        if checked == 150 {
+            break;
+        }
+    }
+}
+
+/// Cut at every single place, a stream with every kind of end comes to the same.
+#[test]
+fn every_single_cut_of_one_stream_comes_to_what_the_rules_give() {
+    let requests = vec![
+        import(&key(b"a")).bytes(),
+        ping_of_size(0, 257).bytes(),
+        export(b"a").bytes(),
+        vec![0xFF; 9],
+    ];
+    let length = requests.concat().len();
+    for first in 1..length {
+        let case = Case {
+            names: vec![FIRST.to_vec()],
+            requests: requests.clone(),
+            sizes: vec![first, length],
+            rests_alone: true,
+        };
+        run_case(0, case, check);
+    }
+}
