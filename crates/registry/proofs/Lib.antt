@@ -4,3 +4,4 @@ pub mod RegistryLaws
 pub mod WellFormedLaws
 pub mod RosterLaws
 pub mod ChangeLaws
+pub mod BlockNameLaws

@@ -4,8 +4,8 @@ use mathlib.Core.Bool.{Bool, true, false, _||_}
 use mathlib.Core.List.{List, [], _∷_, _++_, append-assoc}
 use Prim.Native.Nat.{ℕ, zero, suc, _+_, _-_, _≤_, _<_, min}
 use native.Mathlib.Omega.{arith}
-use borrow.Author.Tests.{ne-eqb, eqb-false, leb-true}
-use lib.ListN.{length, take, drop, getD, replicate, length-append, length-replicate}
+use borrow.Author.Tests.{ne-eqb, eqb-false, leb-true, le-leb, lt-leb}
+use lib.ListN.{length, take, drop, getD, replicate, length-append, length-replicate, length-take, length-drop}
 use lib.Seq.{take-at, take-append-seam, drop-append-seam, drop-at, drop-drop, getD-drop}
 use lib.Dec.{leb, eqb}
 use Rattle.wire.specs.Choice.{if_then_else_}
@@ -55,6 +55,29 @@ entry-short slot ok = go (eqb (getD slot 0 0) 0) refl
     go : (t : Bool) → eqb (getD slot 0 0) 0 ≡ t → ShortEntry (if t then free else held (keyIn slot))
     go true e = tt
     go false e = legal-data (dataIn slot) (every-at (keyTests slot) 2 (sym (key-slot slot (eqb-false _ _ e)) ∙ ok))
+
+-- ---- the lengths in a slot
+
+module _ (slot : List ℕ) (long : length slot ≡ slotSize) where
+  pub name-length : getD slot 0 0 < 256 → length (nameIn slot) ≡ getD slot 0 0
+  name-length h = simp (length-take, length-drop) (omega arith)
+
+  data-length : field dataLengthAt 2 slot ≤ dataMost → length (dataIn slot) ≡ field dataLengthAt 2 slot
+  data-length h = simp (length-take, length-drop) (omega arith)
+
+  pub data-ok : 1 ≤ field dataLengthAt 2 slot → field dataLengthAt 2 slot ≤ dataMost → legalData (dataIn slot) ≡ true
+  unfolding legalData
+  data-ok l h = rw (data-length h, le-leb _ _ l, le-leb _ _ h)
+
+  pub data-long : dataMost < field dataLengthAt 2 slot → legalData (dataIn slot) ≡ false
+  unfolding legalData
+  data-long h =
+      let more : dataMost < length (dataIn slot) = simp (length-take, length-drop) (omega arith) in
+      rw (le-leb 1 (length (dataIn slot)) (omega arith), lt-leb _ dataMost more)
+
+pub data-none : (slot : List ℕ) → field dataLengthAt 2 slot ≡ 0 → legalData (dataIn slot) ≡ false
+unfolding legalData
+data-none slot h = rw h
 
 -- ---- a key that is written and read again
 

@@ -3,3 +3,4 @@ pub mod Slots
 pub mod Registry
 pub mod WellFormed
 pub mod Roster
+pub mod Check

@@ -6,9 +6,9 @@ use native.Mathlib.Omega.{arith}
 use native.Mathlib.Numerals.{add-one}
 use native.Mathlib.Nat.{zero-add}
 use borrow.Rule.Slice.PartMut.{putMid}
-use lib.ListN.{length, take, drop, set, getD, length-append, length-drop, drop-of-length-le}
+use lib.ListN.{length, take, drop, set, getD, replicate, length-append, length-drop, drop-of-length-le}
 use lib.Seq.{sets, sets-eq, take-at, drop-at, drop-drop, take-length, take-all}
-use Rattle.wire.specs.Lists.{put}
+use Rattle.wire.specs.Lists.{padded, put}
 use Rattle.wire.specs.Wrote.{over, Wrote}
 
 -- a run of stores from index 0
@@ -58,3 +58,15 @@ pub put-mid : (b v : List ℕ) (at k : ℕ) → length v ≡ k → putMid at k b
 put-mid b v at k e =
     sym (append-assoc (take at b) v (drop k (drop at b)))
     ∙ ap (λ (r : List ℕ). take at b ++ v ++ r) (drop-drop k at b ∙ ap (λ (n : ℕ). drop (at + n) b) (sym e))
+
+-- a was written over the front of d, and zeros over all behind it
+pub zeros-on : (a d l m : List ℕ) (k : ℕ) → k ≡ length a → length a ≤ length d → l ≡ over a d
+    → m ≡ replicate (length (take (length l - k) (drop k l))) 0 → putMid k (length l - k) l m ≡ padded (length d) a
+zeros-on a d l m k e h p q =
+    let long : length l ≡ length d = ap length p ∙ length-over a d h in
+    let behind : length (drop k l) ≡ length l - k = length-drop k l in
+    let none : drop (length l - k) (drop k l) ≡ [] = drop-of-length-le (drop k l) (let x : length (drop k l) ≤ length l - k = omega arith in x) in
+    let front : take k l ≡ a = ap (take k) p ∙ take-at a (drop (length a) d) k (sym e) in
+    let part : length (take (length l - k) (drop k l)) ≡ length d - length a
+    = ap length (lent k l) ∙ (let x : length (drop k l) ≡ length d - length a = omega arith in x) in
+    rw (none, append-nil, front, q, part)

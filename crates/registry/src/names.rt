@@ -1,0 +1,104 @@
+// Names: which are legal, and where one stands among blocks that begin with names.
+ghost use mathlib.Core.Path.{_≡_};
+ghost use Prim.Native.Nat.{_+_, _*_, _≤_, _<_};
+ghost use lib.Dec.{eqb};
+ghost use lib.ListN.{length, drop};
+ghost use Rattle.wire.specs.Lists.{all};
+ghost use Rattle.registry.specs.Names.{isNameByte, legalName, indexFrom, distinct};
+ghost use Rattle.registry.specs.Check.{blockNames};
+
+pub fn wide(x: u8) -> usize
+    ensures { λ r. ⌜ (r ≡ x) × (r < 256) ⌝ }
+{
+    x as usize
+}
+
+// 0 for a byte that may stand in a name, and 1 for any other.
+fn name_byte_fault(b: u8) -> u8
+    ensures { λ r. ⌜ eqb r 0 ≡ isNameByte b ⌝ }
+{
+    if b < 0x21 {
+        return 1;
+    }
+    if 0x7E < b {
+        return 1;
+    }
+    0
+}
+
+// Whether all bytes may stand in a name. The loop is not left early, so that it runs on vectors.
+fn are_name_bytes(s: &[u8]) -> bool
+    ensures { λ r. ⌜ r ≡ all isNameByte (now (s .entry)) ⌝ }
+{
+    let mut joined: u8 = 0;
+    let mut i = 0;
+    while i < s.len() {
+        joined = joined | name_byte_fault(s[i]);
+        i += 1;
+    }
+    joined == 0
+}
+
+// Whether the bytes are a name of at most `most`.
+pub fn is_legal(s: &[u8], most: usize) -> bool
+    ensures { λ r. ⌜ r ≡ legalName most (now (s .entry)) ⌝ }
+{
+    if s.len() == 0 {
+        return false;
+    }
+    if most < s.len() {
+        return false;
+    }
+    are_name_bytes(s)
+}
+
+// The number of the first block from `from` on whose name is `name`, or `count` where there is none: blocks of `size`
+// bytes behind `head` bytes.
+pub fn scan(s: &[u8], head: usize, size: usize, count: usize, from: usize, name: &[u8]) -> usize
+    requires { ⌜ (length (now s) ≡ head + count * size) × (256 ≤ size) × (from ≤ count) ⌝ }
+    ensures { λ r. ⌜ r ≡ indexFrom (now (name .entry)) (drop from (blockNames head size count (now (s .entry)))) from ⌝ }
+{
+    let mut next = from;
+    let n = 'scan: loop {
+        if count <= next {
+            break 'scan next;
+        }
+        let block = next;
+        next += 1;
+        let at = head + block * size;
+        if wide(s[at]) != name.len() {
+            continue 'scan;
+        }
+        let begin = at + 1;
+        let mut k: usize = 0;
+        while k < name.len() {
+            if s[begin + k] != name[k] {
+                continue 'scan;
+            }
+            k += 1;
+        }
+        break 'scan block;
+    };
+    n
+}
+
+// Whether no name but the empty one stands twice.
+pub fn are_distinct(s: &[u8], head: usize, size: usize, count: usize) -> bool
+    requires { ⌜ (length (now s) ≡ head + count * size) × (256 ≤ size) ⌝ }
+    ensures { λ r. ⌜ r ≡ distinct (blockNames head size count (now (s .entry))) ⌝ }
+{
+    let mut i = 0;
+    while i < count {
+        let at = head + i * size;
+        let n = wide(s[at]);
+        let begin = at + 1;
+        let end = begin + n;
+        i += 1;
+        if n != 0 {
+            if scan(s, head, size, count, i, &s[begin..end]) < count {
+                return false;
+            }
+        }
+    }
+    true
+}
