@@ -5,3 +5,7 @@ pub mod WellFormedLaws
 pub mod RosterLaws
 pub mod ChangeLaws
 pub mod BlockNameLaws
+pub mod WrittenLaws
+pub mod FindLaws
+pub mod KeyLaws
+pub mod CheckLaws

@@ -6,13 +6,13 @@ use Prim.Native.Nat.{ℕ, zero, suc, _+_, _-_, _*_, _≤_, _<_, min}
 use native.Mathlib.Omega.{arith}
 use borrow.Author.Tests.{eqb-true, eq-eqb, leb-true}
 use lib.ListN.{length, take, drop, getD, set, length-take, length-drop, List·getD-map, length-map}
-use lib.Seq.{getD-take, map-set-same, length-take-le}
+use lib.Seq.{getD-take, map-set-same, length-take-le, drop-drop}
 use lib.Dec.{leb, eqb}
 use Rattle.wire.specs.Lists.{all, isZero, put, blocks}
 use Rattle.wire.proofs.TestLaws.{and-left, and-right, every-at}
 use Rattle.wire.proofs.ListLaws.{part-of-part, all-at, all-set, all-take, all-drop, zero-at, map-set}
 use Rattle.wire.proofs.PutLaws.{length-put, take-put, drop-put}
-use Rattle.wire.proofs.BlockLaws.{length-blocks, block-at, zero-blocks, blocks-put, blocks-put-whole}
+use Rattle.wire.proofs.BlockLaws.{length-blocks, block-at, all-block, zero-blocks, blocks-put, blocks-put-whole}
 use Rattle.registry.specs.Names.{legalName, nameIn, absent, distinct}
 use Rattle.registry.specs.Slots.{Key, Entry, free, nameOf, keyBytes, slotBytes, slotOf, slotSize, behindName, wellFormedSlot}
 use Rattle.registry.specs.Registry.{lineCount, slotCount, applicationNameMost, lineHead, lineSize, registrySize, linesIn, namesIn, slotsIn, lineAt, slotsOf, slotNamed, Change, unchanged, fill, clear, place, changed}
@@ -287,6 +287,17 @@ blocks-short : (bs : List (List ℕ)) → all wellFormedSlot bs ≡ true → (i 
 blocks-short [] e i = tt
 blocks-short (b ∷ bs) e zero = entry-short b (and-left (wellFormedSlot b) _ e)
 blocks-short (b ∷ bs) e (suc i) = blocks-short bs (and-right (wellFormedSlot b) _ e) i
+
+-- each slot is well formed, where it lies
+pub slot-good : (r : List ℕ) → wellFormedRegistry r ≡ true → (l k : ℕ) → l < lineCount → k < slotCount → wellFormedSlot (take slotSize (drop (place l k) r)) ≡ true
+slot-good r w l k hl hk =
+    let g = good-of r w in
+    let slots : slotsWellFormed (lineAt r l) ≡ true = subst (λ (x : List ℕ). slotsWellFormed x ≡ true) (line-there r g l hl) (slots-there r g l hl) in
+    subst (λ (x : List ℕ). wellFormedSlot x ≡ true)
+    (ap (take slotSize) (drop-drop (k * slotSize) lineHead (lineAt r l))
+    ∙ part-of-part slotSize (lineHead + k * slotSize) lineSize (drop (l * lineSize) r) (omega arith)
+    ∙ ap (take slotSize) (drop-drop (lineHead + k * slotSize) (l * lineSize) r))
+    (all-block wellFormedSlot slotSize slotCount (drop lineHead (lineAt r l)) k hk slots)
 
 -- the data of a slot is short
 pub slots-short : (r : List ℕ) → wellFormedRegistry r ≡ true → (line : Line) → line .0 < lineCount → (i : ℕ) → ShortEntry (getD (slotsOf r line) i free)

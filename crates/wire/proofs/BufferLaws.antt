@@ -70,3 +70,7 @@ zeros-on a d l m k e h p q =
     let part : length (take (length l - k) (drop k l)) ≡ length d - length a
     = ap length (lent k l) ∙ (let x : length (drop k l) ≡ length d - length a = omega arith in x) in
     rw (none, append-nil, front, q, part)
+
+-- the same of a part of n bytes, as the checker writes its length
+pub put-part : (b v : List ℕ) (at n : ℕ) → length v ≡ n → putMid at (at + n - at) b v ≡ put b at v
+put-part b v at n e = let d : at + n - at ≡ n = omega arith in rw d (put-mid b v at n e)

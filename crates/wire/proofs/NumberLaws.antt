@@ -5,13 +5,14 @@ use Prim.Native.Nat.{ℕ, zero, suc, _+_, _-_, _*_, _/_, _%_, _^_, _≤_, _<_}
 use mathlib.Core.List.{List, [], _∷_, _++_}
 use native.Mathlib.Nat.{zero-add, one-mul, mul-assoc, pow-zero, pow-succ'}
 use native.Mathlib.Omega.{arith}
-use borrow.Author.Tests.{ltb-true}
+use borrow.Author.Tests.{ltb-true, eqb-true}
 use lib.ListN.{length, take, drop, getD, length-drop}
 use lib.Seq.{drop-append-le, take-append-le, take-at, drop-drop, drop-cons}
 use lib.Dec.{ltb}
-use Rattle.wire.specs.Lists.{all}
+use Rattle.wire.specs.Lists.{all, isZero}
 use Rattle.wire.specs.Numbers.{littleEndian, littleEndianOf, field}
 use Rattle.wire.proofs.TestLaws.{and-left, and-right}
+use Rattle.wire.proofs.ListLaws.{part-of-part, all-take, all-drop}
 
 pub length-number : (width n : ℕ) → length (littleEndianOf width n) ≡ width
 unfolding littleEndianOf
@@ -78,3 +79,19 @@ bytes-back (b ∷ c ∷ l) w h =
     let m : (b + 256 * n) % 256 ≡ b = omega arith in
     let d : (b + 256 * n) / 256 ≡ n = omega arith in
     rw (m, d) (ap (λ (r : List ℕ). b ∷ r) (bytes-back (c ∷ l) (and-right (ltb b 256) _ w) (omega arith)))
+
+-- ---- fields of zeros and of a part
+
+zero-bytes : (l : List ℕ) → all isZero l ≡ true → littleEndian l ≡ 0
+unfolding littleEndian
+zero-bytes [] e = refl
+zero-bytes (b ∷ l) e = omega (arith, eqb-true b 0 (and-left (isZero b) (all isZero l) e), zero-bytes l (and-right (isZero b) (all isZero l) e))
+
+pub zero-field : (at width : ℕ) (s : List ℕ) → all isZero s ≡ true → field at width s ≡ 0
+unfolding field
+zero-field at width s e = zero-bytes (take width (drop at s)) (all-take isZero width (drop at s) (all-drop isZero at s e))
+
+-- a field of n bytes from `at` on, where it lies in the whole
+pub field-part : (at n i width : ℕ) (s : List ℕ) → i + width ≤ n → field i width (take n (drop at s)) ≡ field (at + i) width s
+unfolding field
+field-part at n i width s h = ap littleEndian (part-of-part width i n (drop at s) h ∙ ap (take width) (drop-drop i at s))

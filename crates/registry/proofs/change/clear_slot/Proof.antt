@@ -1,53 +1,62 @@
+-- `registry::change::clear_slot` meets its contract.
+use Prim.Native.Nat.{ℕ, _+_, _-_, _*_, _≤_}
+use mathlib.Core.Path.{_≡_, sym, ap, _∙_}
+use mathlib.Core.List.{List}
+use native.Mathlib.Omega.{arith}
+use lib.ListN.{length, take, drop, replicate, length-replicate, length-drop}
+use lib.Seq.{length-take-le}
+use Rattle.wire.specs.Lists.{put}
+use Rattle.wire.proofs.BufferLaws.{put-part}
+use Rattle.registry.specs.Slots.{free, slotBytes, slotSize, keyBytes}
+use Rattle.registry.specs.Registry.{registrySize, place, changed}
 use borrow.Author.Needs.{needs}
 use Rattle.registry.proofs.change.clear_slot.Statement.{statement}
 use Rattle.registry.proofs.change.clear_slot.Tie as tie
-use Rattle.registry.proofs.change.clear_slot.Reads as reads
-use Rattle.registry.proofs.change.clear_slot.Lts as lts
-use Rattle.wire.proofs.bytes.clear.Reads as clear-reads
 
--- src/change.rt:43:13
 mul-a : tie.Need-mul-a
 mul-a c = search needs
 
--- src/change.rt:43:42
 mul-a-2 : tie.Need-mul-a-2
 mul-a-2 c = search needs
 
--- src/change.rt:43:30
 add-a : tie.Need-add-a
 add-a c = search needs
 
--- src/change.rt:43:13
 add-a-2 : tie.Need-add-a-2
 add-a-2 c = search needs
 
--- src/change.rt:44:13
 add-e : tie.Need-add-e
 add-e c = search needs
 
--- src/change.rt:45:11
 sub-clear : tie.Need-sub-clear
 sub-clear c = search needs
 
--- src/change.rt:45:11
 part-clear-start : tie.Need-part-clear-start
 part-clear-start c = search needs
 
--- src/change.rt:45:11
 part-clear-end : tie.Need-part-clear-end
 part-clear-end c = search needs
 
--- src/change.rt:45:5
 clear-requires : tie.Need-clear-requires
 clear-requires c κs = search needs
 
--- src/change.rt:37:1
 same-length : tie.Need-same-length
 same-length c = search needs
 
--- src/change.rt:37:1
 returns : tie.Need-returns
-returns c = ?
+unfolding changed slotBytes
+returns c =
+    let s = c .before .before .before .before .before in
+    let r : List ℕ = s .args .registry .now in
+    let at : ℕ = place (s .args .line .0) (s .args .slot .0) in
+    let inside : at + slotSize ≤ length r = omega (arith, s .pre .0, s .pre .1, s .pre .2) in
+    let d : at + slotSize - at ≡ slotSize = omega arith in
+    let part : length (take (at + slotSize - at) (drop at r)) ≡ slotSize
+    = ap (λ (k : ℕ). length (take k (drop at r))) d
+    ∙ length-take-le slotSize (drop at r) (rw length-drop (let x : slotSize ≤ length r - at = omega arith in x)) in
+    let zeros : c .before .before .clear .last .0 ≡ slotBytes free = c .before .before .clear .ensures ∙ ap (λ (k : ℕ). replicate k 0) part in
+    put-part r (c .before .before .clear .last .0) at slotSize (ap length zeros ∙ length-replicate {A = ℕ} slotSize 0)
+    ∙ ap (put r at) zeros
 
 pub clear-slot-spec : {M : Type 1} → statement M
 clear-slot-spec =

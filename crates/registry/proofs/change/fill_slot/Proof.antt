@@ -1,53 +1,60 @@
+-- `registry::change::fill_slot` meets its contract.
+use Prim.Native.Nat.{ℕ, _+_, _-_, _*_, _≤_}
+use mathlib.Core.Path.{_≡_, sym, ap, _∙_}
+use mathlib.Core.List.{List}
+use native.Mathlib.Omega.{arith}
+use lib.ListN.{length, take, drop, replicate, length-replicate, length-drop}
+use lib.Seq.{length-take-le}
+use Rattle.wire.specs.Lists.{put}
+use Rattle.wire.proofs.BufferLaws.{put-part}
+use Rattle.registry.specs.Slots.{free, slotBytes, slotSize, keyBytes}
+use Rattle.registry.specs.Check.{keyFrom}
+use Rattle.registry.proofs.SlotLaws.{length-key}
+use Rattle.registry.specs.Registry.{registrySize, place, changed}
 use borrow.Author.Needs.{needs}
 use Rattle.registry.proofs.change.fill_slot.Statement.{statement}
 use Rattle.registry.proofs.change.fill_slot.Tie as tie
-use Rattle.registry.proofs.change.fill_slot.Reads as reads
-use Rattle.registry.proofs.change.fill_slot.Lts as lts
-use Rattle.registry.proofs.slots.write_key.Reads as write-key-reads
 
--- src/change.rt:32:13
 mul-a : tie.Need-mul-a
 mul-a c = search needs
 
--- src/change.rt:32:42
 mul-a-2 : tie.Need-mul-a-2
 mul-a-2 c = search needs
 
--- src/change.rt:32:30
 add-a : tie.Need-add-a
 add-a c = search needs
 
--- src/change.rt:32:13
 add-a-2 : tie.Need-add-a-2
 add-a-2 c = search needs
 
--- src/change.rt:33:13
 add-e : tie.Need-add-e
 add-e c = search needs
 
--- src/change.rt:34:15
 sub-write-key : tie.Need-sub-write-key
 sub-write-key c = search needs
 
--- src/change.rt:34:15
 part-write-key-start : tie.Need-part-write-key-start
 part-write-key-start c = search needs
 
--- src/change.rt:34:15
 part-write-key-end : tie.Need-part-write-key-end
 part-write-key-end c = search needs
 
--- src/change.rt:34:5
 write-key-requires : tie.Need-write-key-requires
 write-key-requires c κs = search needs
 
--- src/change.rt:17:1
 same-length : tie.Need-same-length
 same-length c = search needs
 
--- src/change.rt:17:1
 returns : tie.Need-returns
-returns c = ?
+unfolding changed
+returns c =
+    let s = c .before .before .before .before .before .before .before in
+    let r : List ℕ = s .args .registry .now in
+    let at : ℕ = place (s .args .line .0) (s .args .slot .0) in
+    let w = c .before .before .write-key in
+    let key = keyFrom (s .args .name .now) (s .args .bytes .now) (s .args .bits) (s .args .exported) (s .args .verified) in
+    put-part r (w .last .0) at slotSize (ap length (w .ensures) ∙ length-key key (s .pre .3) (s .pre .4))
+    ∙ ap (put r at) (w .ensures)
 
 pub fill-slot-spec : {M : Type 1} → statement M
 fill-slot-spec =

@@ -1,57 +1,70 @@
+-- `registry::key::key_data` meets its contract.
+use Prim.Native.Nat.{ℕ, _+_, _-_, _≤_}
+use mathlib.Core.Path.{_≡_, sym, ap, _∙_}
+use mathlib.Core.List.{List}
+use native.Mathlib.Omega.{arith}
+use lib.ListN.{length, take, drop}
+use Rattle.wire.specs.Numbers.{field}
+use Rattle.registry.specs.Slots.{dataMost, dataLengthAt, dataAt, slotSize}
+use Rattle.registry.specs.Registry.{registrySize, place}
+use Rattle.registry.proofs.KeyLaws.{size-small, data-there}
+use Rattle.registry.proofs.WellFormedLaws.{good-of}
 use borrow.Author.Needs.{needs}
 use Rattle.registry.proofs.key.key_data.Statement.{statement}
 use Rattle.registry.proofs.key.key_data.Tie as tie
-use Rattle.registry.proofs.key.key_data.Reads as reads
-use Rattle.registry.proofs.key.key_data.Lts as lts
-use Rattle.registry.proofs.slots.size_at.Reads as size-at-reads
 
--- src/key.rt:24:13
+abbrev at : tie.Start → ℕ
+at c = place (c .args .line .0) (c .args .slot .0)
+
+room : (c : tie.Start) → at c + slotSize ≤ length (c .args .registry .now)
+room c = omega (arith, good-of (c .args .registry .now) (c .pre .0) .size, c .pre .1, c .pre .2)
+
+small : (c : tie.Start) → field (at c + dataLengthAt) 2 (c .args .registry .now) ≤ dataMost
+small c = size-small (c .args .registry .now) (c .pre .0) (c .args .line) (c .pre .1) (c .args .slot .0) (c .pre .2) (room c)
+
 mul-a : tie.Need-mul-a
 mul-a c = search needs
 
--- src/key.rt:24:42
 mul-a-2 : tie.Need-mul-a-2
 mul-a-2 c = search needs
 
--- src/key.rt:24:30
 add-a : tie.Need-add-a
 add-a c = search needs
 
--- src/key.rt:24:13
 add-a-2 : tie.Need-add-a-2
 add-a-2 c = search needs
 
--- src/key.rt:25:31
 add-size-at : tie.Need-add-size-at
 add-size-at c = search needs
 
--- src/key.rt:25:9
 size-at-requires : tie.Need-size-at-requires
-size-at-requires c κs = ?
+size-at-requires c κs = omega (arith, room (c .before))
 
--- src/key.rt:26:13
 add-f : tie.Need-add-f
 add-f c = search needs
 
--- src/key.rt:27:13
 add-e : tie.Need-add-e
 add-e c = search needs
 
--- src/key.rt:28:5
 sub-result : tie.Need-sub-result
 sub-result c = search needs
 
--- src/key.rt:28:5
 part-result-start : tie.Need-part-result-start
 part-result-start c = search needs
 
--- src/key.rt:28:5
 part-result-end : tie.Need-part-result-end
-part-result-end c = ?
+part-result-end c =
+    let s = c .before .before in
+    omega (arith, room s, small s, c .size-at .ensures .0)
 
--- src/key.rt:18:1
 returns : tie.Need-returns
-returns c = ?
+returns c =
+    let s = c .before .before .before in
+    let d = c .before .size-at .result in
+    let r : List ℕ = s .args .registry .now in
+    let n : at s + dataAt + d - (at s + dataAt) ≡ d = omega arith in
+    ap (λ (m : ℕ). take m (drop (at s + dataAt) r)) (n ∙ c .before .size-at .ensures .0)
+    ∙ sym (data-there r (s .pre .0) (s .args .line) (s .pre .1) (s .args .slot .0) (s .pre .2) (room s))
 
 pub key-data-spec : {M : Type 1} → statement M
 key-data-spec =
