@@ -2,3 +2,5 @@ pub mod VarintLaws
 pub mod FieldLaws
 pub mod StepLaws
 pub mod BodyLaws
+pub mod WrittenLaws
+pub mod RoundTrip

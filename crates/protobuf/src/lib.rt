@@ -1,5 +1,6 @@
-// Protocol Buffers message bodies, read where they lie: varints, fields, a body against a schema.
+// Protocol Buffers: bodies read where they lie (varints, fields, a body against a schema), and fields written.
 pub mod body;
 pub mod field;
 pub mod message;
 pub mod varint;
+pub mod write;

@@ -18,6 +18,10 @@ stores vs d h = simp zero-add at (sets-eq vs d 0 (omega arith))
 pub length-over : (s d : List ℕ) → length s ≤ length d → length (over s d) ≡ length d
 length-over s d h = simp (length-append, length-drop) (omega arith)
 
+-- nothing was written
+pub wrote-none : (d : List ℕ) → Wrote [] d d 0
+wrote-none d = record { count = refl; bytes = refl }
+
 -- a front, and then what is written over the rest of it
 pub seam : (a b d : List ℕ) (k : ℕ) → length a ≡ k → take k (over a d) ++ over b (drop k (over a d)) ≡ over (a ++ b) d
 seam a b d k e = rw (take-at a (drop (length a) d) k e, drop-at a (drop (length a) d) k e, drop-drop, append-assoc, length-append)
