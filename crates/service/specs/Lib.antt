@@ -5,3 +5,4 @@ pub mod Judgement
 pub mod Call
 pub mod Text
 pub mod Bill
+pub mod Decided

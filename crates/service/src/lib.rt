@@ -1,4 +1,11 @@
-// The service: order of judgement, the six operations, counters and the call. specs/ defines them.
+// The service: order of judgement, the six operations, counters and the call.
+use protobuf::message::Values;
+use registry::Line;
+use registry::Slot;
+
+pub mod operations;
+pub mod order;
+pub mod statuses;
 
 // A response's status: document 01's table, ascending by number.
 pub enum Status {
@@ -40,4 +47,46 @@ pub struct Counters {
     pub served: [u64; 8],
     pub unauthenticated: u64,
     pub refused: [u64; 17],
+}
+
+// What the tests of a header find.
+pub enum Checked {
+    Passed,
+    Refused(Status),
+}
+
+// Who sent a request: nobody that is named (auth type 0), or an application.
+pub enum Asker {
+    Nobody,
+    Named(Line),
+}
+
+// What the tests of the auth bytes find.
+pub enum Auth {
+    Refused,
+    Accepted(Asker),
+}
+
+// What a response's body is.
+pub enum Output {
+    Nothing,
+    Version,
+    Providers,
+    Opcodes(u32),
+    Data(Slot),
+}
+
+// What becomes of the asker's slots.
+pub enum Edit {
+    Stays,
+    Fills(Slot),
+    Clears(Slot),
+}
+
+// What an operation comes to; `values` are the fields of its body.
+pub struct Decision {
+    pub status: Status,
+    pub output: Output,
+    pub edit: Edit,
+    pub values: Values,
 }
