@@ -2,9 +2,9 @@
 use mathlib.Core.Path.{_≡_, refl, sym, ap, _∙_}
 use Prim.Native.Nat.{ℕ, _+_, _-_, _≤_}
 use mathlib.Core.Bool.{Bool, true, true≢false, _&&_}
-use mathlib.Core.List.{List, []}
+use mathlib.Core.List.{List, [], _∷_}
 use native.Mathlib.Omega.{arith}
-use lib.ListN.{length, drop, replicate}
+use lib.ListN.{length, drop, replicate, replicate-append-replicate}
 use lib.Seq.{take-append-seam, drop-at}
 use lib.Dec.{leb, ltb, eqb}
 use borrow.Author.Tests.{leb-true, eqb-true, eq-eqb, ltb-false}
@@ -24,25 +24,30 @@ use Rattle.connection.specs.Connection.{heldMost, connectionSize, laidOu
 -- ---- the parts of a connection's memory
 
 module _ (kind n : ℕ) (bytes : List ℕ) where
-  number-there : field 1 8 (laidOut kind n bytes) ≡ n
+  pub number-there : field 1 8 (laidOut kind n bytes) ≡ n
   number-there = field-back 1 7 n (laidOut kind n bytes) (padded heldMost bytes) refl
 
-  bytes-there : drop 9 (laidOut kind n bytes) ≡ padded heldMost bytes
+  pub bytes-there : drop 9 (laidOut kind n bytes) ≡ padded heldMost bytes
   bytes-there = drop-at (littleEndianOf 8 n) (padded heldMost bytes) 8 (length-number 8 n)
 
-  size-there : length bytes ≤ heldMost → length (laidOut kind n bytes) ≡ connectionSize
+  pub size-there : length bytes ≤ heldMost → length (laidOut kind n bytes) ≡ connectionSize
   unfolding littleEndianOf
   size-there h =
       let p : length (padded heldMost bytes) ≡ heldMost = length-padded heldMost bytes h in
       omega arith
 
+-- nothing is held and the number is 0
+pub blank : (kind : ℕ) → laidOut kind 0 [] ≡ kind ∷ replicate (8 + heldMost) 0
+unfolding littleEndianOf
+blank kind = ap (λ (l : List ℕ). kind ∷ l) (replicate-append-replicate 8 heldMost 0)
+
 -- ---- how many bytes a well-formed connection holds
 
-legal-most : (s : List ℕ) → legalStart s ≡ true → headerSize s ≤ headerMost
+pub legal-most : (s : List ℕ) → legalStart s ≡ true → headerSize s ≤ headerMost
 unfolding legalStart
 legal-most s h = leb-true _ _ (and-right (leb headerLeast (headerSize s)) _ (and-right (eqb (magic s) magicNumber) _ h))
 
-held-most : (s : List ℕ) → isBeginning s ≡ true → length s ≤ heldMost
+pub held-most : (s : List ℕ) → isBeginning s ≡ true → length s ≤ heldMost
 unfolding oversized
 held-most s w = go (unfinished-held s (unfinished-next s w))
   where
@@ -55,12 +60,12 @@ held-most s w = go (unfinished-held s (unfinished-next s w))
         omega (arith, legal-most s l)
 
 -- a skipped request's header
-record Header (header : List ℕ) : Type 0 where
-  six : 6 ≤ length header
-  exact : length header ≡ headerLength header
-  most : length header ≤ heldMost
+pub record Header (header : List ℕ) : Type 0 where
+  pub six : 6 ≤ length header
+  pub exact : length header ≡ headerLength header
+  pub most : length header ≤ heldMost
 
-header-facts : (header : List ℕ) (toGo : ℕ) → wellFormed (skipping header toGo) ≡ true → Header header
+pub header-facts : (header : List ℕ) (toGo : ℕ) → wellFormed (skipping header toGo) ≡ true → Header header
 unfolding wellFormed
 header-facts header toGo w =
     let three = and-left _ _ (and-left _ _ (and-left _ _ w)) in

@@ -1,1 +1,3 @@
 pub mod ConnectionLaws
+pub mod CheckLaws
+pub mod ChangeLaws

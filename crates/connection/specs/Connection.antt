@@ -15,6 +15,8 @@ use Rattle.wire.specs.Request.{headerLength}
 use Rattle.stream.specs.Frame.{headerMost, contentMost, authMost}
 use Rattle.stream.specs.Rules.{Connection, opened, skipping, closed}
 use Rattle.stream.specs.Call.{wellFormed}
+use Rattle.connection.specs.declared.change.Opened.{Opened}
+use Rattle.connection.specs.declared.change.Opened.the-variants.{Fresh, WrongSize}
 
 -- the longest request that is not oversized
 abbrev pub heldMost : ℕ
@@ -45,3 +47,13 @@ unfoldable pub wellFormedConnection : (memory : List ℕ) → Bool
 wellFormedConnection memory =
     eqb (length memory) connectionSize
     && (wellFormed (connectionOf memory) && same (connectionBytes (connectionOf memory)) memory)
+
+pub record Opening : Type 0 where
+  pub answer : Opened
+  pub memory : List ℕ
+
+-- memory of the exact size becomes a fresh connection, and any other stays as it came
+unfoldable pub openConnection : (memory : List ℕ) → Opening
+openConnection memory =
+    if eqb (length memory) connectionSize then record { answer = Fresh; memory = connectionBytes (opened []) }
+    else record { answer = WrongSize; memory = memory }
