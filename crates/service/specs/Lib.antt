@@ -6,3 +6,5 @@ pub mod Call
 pub mod Text
 pub mod Bill
 pub mod Decided
+pub mod Answers
+pub mod Counted

@@ -3,6 +3,8 @@ use protobuf::message::Values;
 use registry::Line;
 use registry::Slot;
 
+pub mod answer;
+pub mod counting;
 pub mod operations;
 pub mod order;
 pub mod statuses;
@@ -89,4 +91,11 @@ pub struct Decision {
     pub output: Output,
     pub edit: Edit,
     pub values: Values,
+}
+
+// A request that was answered: for whom it counts, and how many bytes of response were written.
+pub struct Answered {
+    pub status: Status,
+    pub asker: Asker,
+    pub written: usize,
 }
