@@ -1,3 +1,4 @@
 pub mod ConnectionLaws
 pub mod CheckLaws
 pub mod ChangeLaws
+pub mod GatherLaws

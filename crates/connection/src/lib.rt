@@ -6,6 +6,7 @@ use stream::frame::HEADER_MOST;
 
 pub mod change;
 pub mod check;
+pub mod gather;
 
 // The longest request that is not oversized.
 pub const HELD_MOST: usize = 6 + HEADER_MOST as usize + CONTENT_MOST as usize + AUTH_MOST as usize;

@@ -31,6 +31,12 @@ sizeIn badStart = 0
 sizeIn (skipped header missing) = 0
 sizeIn (whole size) = size
 
+headerIn : Next → List ℕ
+headerIn unfinished = []
+headerIn badStart = []
+headerIn (skipped header missing) = header
+headerIn (whole size) = []
+
 pub unfinished-held : (s : List ℕ) → next s ≡ unfinished → Unfinished s
 unfolding kind
 unfinished-held s e = go (shape s)
@@ -63,6 +69,19 @@ whole-found s size e = go (shape s)
     go (isWhole l m) =
         let n : requestLength s ≡ size = ap sizeIn (sym (next-whole s l m) ∙ e) in
         (l, n, omega arith)
+
+pub skipped-found : (s h : List ℕ) (m : ℕ) → next s ≡ skipped h m
+    → (h ≡ take (headerLength s) s) × (headerLength s ≤ length s) × (oversized s ≡ true) × (legalStart s ≡ true)
+unfolding kind headerIn
+skipped-found s h m e = go (shape s)
+  where
+    go : Shape s → (h ≡ take (headerLength s) s) × (headerLength s ≤ length s) × (oversized s ≡ true) × (legalStart s ≡ true)
+    go (isUnfinished u) = absurd (omega (arith, ap kind (sym (next-unfinished s u) ∙ e)))
+    go (isBad q l) = absurd (omega (arith, ap kind (sym (next-bad s q l) ∙ e)))
+    go (isSkipped k) =
+        let same = next-skipped s (k .legal) (k .header) (k .more) (k .large) in
+        (ap headerIn (sym e ∙ same), k .header, k .large, k .legal)
+    go (isWhole l m) = absurd (omega (arith, ap kind (sym (next-whole s l m) ∙ e)))
 
 pub unfinished-next : (s : List ℕ) → isBeginning s ≡ true → next s ≡ unfinished
 unfolding isBeginning
