@@ -5,3 +5,4 @@ pub mod WellFormedLaws
 pub mod RosterLaws
 pub mod ChangeLaws
 pub mod BlockNameLaws
+pub mod LoadLaws
