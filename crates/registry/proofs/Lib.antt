@@ -5,7 +5,8 @@ pub mod WellFormedLaws
 pub mod RosterLaws
 pub mod ChangeLaws
 pub mod BlockNameLaws
-pub mod WrittenLaws
+pub mod CheckLaws
 pub mod FindLaws
 pub mod KeyLaws
-pub mod CheckLaws
+pub mod LoadLaws
+pub mod WrittenLaws

@@ -87,7 +87,7 @@ module _ (name : List ℕ) (legal : isLegal name ≡ true) where
   short : length name ≤ applicationNameMost
   short = legal-short applicationNameMost name legal
 
-  line-length : length (lineOf name) ≡ lineSize
+  pub line-length : length (lineOf name) ≡ lineSize
   unfolding lineOf
   line-length =
       let p = length-padded applicationNameMost name short in
@@ -196,7 +196,7 @@ sized-lines zero [] e = tt
 sized-lines (suc k) [] e = (length-replicate {A = ℕ} lineSize 0, sized-lines k [] e)
 sized-lines k (name ∷ names) e = (line-length name (and-left (isLegal name) _ e), sized-lines k names (and-right (isLegal name) _ e))
 
-sized-names : (names : List (List ℕ)) → all isLegal names ≡ true → Sized lineSize (map lineOf names)
+pub sized-names : (names : List (List ℕ)) → all isLegal names ≡ true → Sized lineSize (map lineOf names)
 sized-names [] e = tt
 sized-names (name ∷ names) e = (line-length name (and-left (isLegal name) _ e), sized-names names (and-right (isLegal name) _ e))
 

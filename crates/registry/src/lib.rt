@@ -4,6 +4,7 @@ pub mod check;
 pub mod find;
 pub mod key;
 pub mod names;
+pub mod roster;
 pub mod slots;
 
 pub const SLOTS: usize = 4;

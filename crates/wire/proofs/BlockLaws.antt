@@ -1,7 +1,7 @@
 -- Laws of blocks of one size: a block is read and written where it lies.
 use mathlib.Core.Path.{_≡_, refl, sym, ap, _∙_}
 use mathlib.Core.Bool.{Bool, true, false}
-use mathlib.Core.List.{List, [], _∷_, _++_, flatten, append-assoc}
+use mathlib.Core.List.{List, [], _∷_, _++_, flatten, append-assoc, append-nil}
 use Prim.Native.Nat.{ℕ, zero, suc, _+_, _*_, _≤_, _<_}
 use native.Mathlib.Nat.{zero-mul, suc-mul, add-comm, add-assoc, zero-add, le-of-suc-le-suc, not-suc-le-zero}
 use native.Mathlib.Numerals.{add-one}
@@ -40,6 +40,11 @@ module _ {A : Type 0} where
   length-flatten size (b ∷ bs) s =
       length-append b (flatten bs) ∙ ap (λ (n : ℕ). n + length (flatten bs)) (s .0) ∙ ap (λ (n : ℕ). size + n) (length-flatten size bs (s .1))
       ∙ add-comm size (length bs * size) ∙ sym (suc-mul (length bs) size)
+
+  pub flatten-snoc : (bs : List (List A)) (b : List A) → flatten (bs ++ (b ∷ [])) ≡ flatten bs ++ b
+  unfolding flatten
+  flatten-snoc [] b = append-nil b
+  flatten-snoc (c ∷ bs) b = ap (λ (r : List A). c ++ r) (flatten-snoc bs b) ∙ sym (append-assoc c (flatten bs) b)
 
   pub drop-flatten : (size : ℕ) (bs : List (List A)) (u : ℕ) → Sized size bs → u ≤ length bs → drop (u * size) (flatten bs) ≡ flatten (drop u bs)
   unfolding flatten
@@ -155,4 +160,4 @@ blocks-put-whole size n l i v e h g =
     let z : i * size + 0 ≡ i * size = omega arith in
     sym (ap (λ (k : ℕ). blocks n size (put l k v)) z)
     ∙ blocks-put size n l i 0 v e h (let x : 0 + length v ≤ size = omega arith in x)
-    ∙ ap (set (blocks n size l) i) (ap (λ (r : List ℕ). v ++ r) none ∙ mathlib.Core.List.append-nil v)
+    ∙ ap (set (blocks n size l) i) (ap (λ (r : List ℕ). v ++ r) none ∙ append-nil v)

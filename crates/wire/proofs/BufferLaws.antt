@@ -7,7 +7,7 @@ use native.Mathlib.Numerals.{add-one}
 use native.Mathlib.Nat.{zero-add}
 use borrow.Rule.Slice.PartMut.{putMid}
 use lib.ListN.{length, take, drop, set, getD, replicate, length-append, length-drop, drop-of-length-le}
-use lib.Seq.{sets, sets-eq, take-at, drop-at, drop-drop, take-length, take-all}
+use lib.Seq.{sets, sets-eq, take-at, drop-at, drop-drop, take-length, take-all, take-append-seam, drop-append-add}
 use Rattle.wire.specs.Lists.{padded, put}
 use Rattle.wire.specs.Wrote.{over, Wrote}
 
@@ -62,6 +62,11 @@ pub put-mid : (b v : List ℕ) (at k : ℕ) → length v ≡ k → putMid at k b
 put-mid b v at k e =
     sym (append-assoc (take at b) v (drop k (drop at b)))
     ∙ ap (λ (r : List ℕ). take at b ++ v ++ r) (drop-drop k at b ∙ ap (λ (n : ℕ). drop (at + n) b) (sym e))
+
+-- a was written over the front of d, and v is put behind it
+pub put-on : (a v d l : List ℕ) (k : ℕ) → k ≡ length a → l ≡ over a d → put l k v ≡ over (a ++ v) d
+put-on a v d l k e p =
+    rw (p, e, take-append-seam a (drop (length a) d), drop-append-add a (drop (length a) d) (length v), drop-drop, length-append)
 
 -- a was written over the front of d, and zeros over all behind it
 pub zeros-on : (a d l m : List ℕ) (k : ℕ) → k ≡ length a → length a ≤ length d → l ≡ over a d

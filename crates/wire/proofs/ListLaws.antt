@@ -116,6 +116,14 @@ same-lengths [] (b ∷ y) h = refl
 same-lengths (a ∷ x) [] h = refl
 same-lengths (a ∷ x) (b ∷ y) h = rw (same-lengths x y (λ e. h (ap suc e))) (and-false (eqb a b))
 
+-- the rests from i: one element more, and the end
+module _ (x y : List ℕ) (i : ℕ) where
+  pub same-more : i < length x → i < length y → same (drop i x) (drop i y) ≡ eqb (getD x i 0) (getD y i 0) && same (drop (i + 1) x) (drop (i + 1) y)
+  same-more h k = rw (add-one, drop-cons x i 0 h, drop-cons y i 0 k)
+
+  pub same-end : length x ≤ i → length y ≤ i → same (drop i x) (drop i y) ≡ true
+  same-end h k = rw (drop-of-length-le x h, drop-of-length-le y k)
+
 eqb-comm : (a b : ℕ) → eqb a b ≡ eqb b a
 eqb-comm a b = go (eqb a b) refl
   where

@@ -2,7 +2,7 @@
 ghost use mathlib.Core.Path.{_≡_};
 ghost use Prim.Native.Nat.{_≤_};
 ghost use lib.ListN.{length, replicate};
-ghost use Rattle.wire.specs.Lists.{all, isZero};
+ghost use Rattle.wire.specs.Lists.{all, isZero, same};
 ghost use Rattle.wire.specs.Wrote.{Wrote};
 
 // Copies `src` over the front of `dst`; the bytes behind it stay.
@@ -40,4 +40,21 @@ pub fn all_zero(s: &[u8]) -> bool
         i += 1;
     }
     joined == 0
+}
+
+// Whether two slices have the same bytes.
+pub fn equal(a: &[u8], b: &[u8]) -> bool
+    ensures { λ r. ⌜ r ≡ same (now (a .entry)) (now (b .entry)) ⌝ }
+{
+    if a.len() != b.len() {
+        return false;
+    }
+    let mut i = 0;
+    while i < a.len() {
+        if a[i] != b[i] {
+            return false;
+        }
+        i += 1;
+    }
+    true
 }
