@@ -1,71 +1,104 @@
+-- `connection::gather::fill` meets its contract: the bytes wanted or left are put behind those held.
+use Prim.Native.Nat.{ℕ, _+_, _-_, _≤_, _<_, min}
+use mathlib.Core.Path.{_≡_, sym, ap, ap₂, _∙_}
+use mathlib.Core.List.{List, _++_}
+use native.Mathlib.Omega.{arith}
+use lib.ListN.{length, take, drop, length-drop}
+use lib.Seq.{length-take-le}
+use Rattle.stream.specs.Frame.{unfinished, next}
+use Rattle.stream.specs.Rules.{opened}
+use Rattle.connection.specs.Connection.{heldMost, connectionBytes}
+use Rattle.connection.specs.Gather.{wantedOf, heldIn, Holding, Filled}
+use Rattle.connection.proofs.GatherLaws.{wanted-more, wanted-few, holding-few, holding-size}
 use borrow.Author.Needs.{needs}
 use Rattle.connection.proofs.gather.fill.Statement.{statement}
 use Rattle.connection.proofs.gather.fill.Tie as tie
-use Rattle.connection.proofs.gather.fill.Reads as reads
-use Rattle.connection.proofs.gather.fill.Lts as lts
-use Rattle.connection.proofs.change.append.Reads as append-reads
-use Rattle.connection.proofs.gather.least.Reads as least-reads
-use Rattle.connection.proofs.gather.wanted.Reads as wanted-reads
 
--- src/gather.rt:49:15
 add-end : tie.Need-add-end
-add-end c = ?
+add-end c = let s = c .before .before in let few = holding-few (s .args .memory .now) (s .args .held) (s .pre .0) in search needs
 
--- src/gather.rt:50:23
+-- what is wanted, of the bytes held
+wanted-as : (m : List ℕ) (h w : ℕ) → Holding m h → w ≡ wantedOf (take (9 + h - 9) (drop 9 m)) → w ≡ wantedOf (heldIn h m)
+wanted-as m h w p e = e ∙ ap (λ (n : ℕ). wantedOf (heldIn n m)) (let x : 9 + h - 9 ≡ h = omega arith in x)
+
 sub-wanted : tie.Need-sub-wanted
 sub-wanted c = search needs
 
--- src/gather.rt:50:23
 part-wanted-start : tie.Need-part-wanted-start
 part-wanted-start c = search needs
 
--- src/gather.rt:50:23
 part-wanted-end : tie.Need-part-wanted-end
-part-wanted-end c = ?
+part-wanted-end c =
+    let s = c .before .before .before in
+    let few = holding-few (s .args .memory .now) (s .args .held) (s .pre .0) in
+    let size = holding-size (s .args .memory .now) (s .args .held) (s .pre .0) in
+    search needs
 
--- src/gather.rt:50:9
 wanted-requires : tie.Need-wanted-requires
-wanted-requires c κs = ?
+wanted-requires c κs =
+    let s = c .before .before .before .before in
+    let m = s .args .memory .now in
+    ap (λ (n : ℕ). next (heldIn n m)) (let x : 9 + s .args .held - 9 ≡ s .args .held = omega arith in x) ∙ s .pre .0 .begun
 
--- src/gather.rt:51:19
 sub-least : tie.Need-sub-least
 sub-least c = search needs
 
--- src/gather.rt:51:32
 sub-least-2 : tie.Need-sub-least-2
 sub-least-2 c = search needs
 
--- src/gather.rt:51:9
 least-requires : tie.Need-least-requires
 least-requires c κs = search needs
 
--- src/gather.rt:52:16
 add-stop : tie.Need-add-stop
 add-stop c = search needs
 
--- src/gather.rt:53:26
 sub-append : tie.Need-sub-append
 sub-append c = search needs
 
--- src/gather.rt:53:26
 part-append-start : tie.Need-part-append-start
 part-append-start c = search needs
 
--- src/gather.rt:53:26
 part-append-end : tie.Need-part-append-end
 part-append-end c = search needs
 
--- src/gather.rt:53:5
 append-requires : tie.Need-append-requires
-append-requires c κs = ?
+append-requires c κs =
+    let s = c .before .before .before .before .before .before .before .before in
+    let m : List ℕ = s .args .memory .now in
+    let chunk : List ℕ = s .args .chunk .now in
+    let k : ℕ = c .before .before .least .result in
+    let w = wanted-as m (s .args .held) _ (s .pre .0) (c .before .before .before .wanted .ensures .0) in
+    let few = wanted-few (heldIn (s .args .held) m) (s .pre .0 .begun) in
+    let more = wanted-more (heldIn (s .args .held) m) (s .pre .0 .begun) in
+    let l = s .pre .0 .long in
+    let e = c .before .before .least .ensures in
+    let d = length-drop (s .args .used) chunk in
+    let long = length-take-le (s .args .used + k - s .args .used) (drop (s .args .used) chunk) (let x : s .args .used + k - s .args .used ≤ length (drop (s .args .used) chunk) = omega arith in x) in
+    (holding-size m (s .args .held) (s .pre .0), omega arith)
 
--- src/gather.rt:45:1
 same-length : tie.Need-same-length
 same-length c = search needs
 
--- src/gather.rt:45:1
 returns : tie.Need-returns
-returns c = ?
+returns c =
+    let s = c .before .before .before .before .before .before .before .before .before .before .before in
+    let m : List ℕ = s .args .memory .now in
+    let chunk : List ℕ = s .args .chunk .now in
+    let h : ℕ = s .args .held in
+    let k : ℕ = c .before .before .before .before .before .least .result in
+    let w = wanted-as m h _ (s .pre .0) (c .before .before .before .before .before .before .wanted .ensures .0) in
+    let more = wanted-more (heldIn h m) (s .pre .0 .begun) in
+    let l = s .pre .0 .long in
+    let e = c .before .before .before .before .before .least .ensures in
+    let k-is : s .args .used + k - s .args .used ≡ k = omega arith in
+    record {
+      left = omega arith;
+      few = omega arith;
+      memory-is =
+          c .before .before .append .ensures (heldIn h m) l (s .pre .0 .memory-is)
+          ∙ ap (λ (n : ℕ). connectionBytes (opened (heldIn h m ++ take n (drop (s .args .used) chunk)))) k-is;
+      more = λ p. omega arith;
+    }
 
 pub fill-spec : {M : Type 1} → statement M
 fill-spec =
