@@ -2,12 +2,12 @@
 use mathlib.Core.Path.{_≡_, refl, sym, ap, ap₂, _∙_}
 use Prim.Native.Nat.{ℕ, _+_, _-_, _≤_, _<_}
 use mathlib.Core.Bool.{Bool, true, false, true≢false}
-use mathlib.Core.List.{List, _++_}
+use mathlib.Core.List.{List, [], _++_, append-assoc, append-nil}
 use native.Mathlib.Omega.{arith}
 use borrow.Author.Tests.{lt-ltb, le-ltb, ltb-false}
 use lib.Dec.{ltb}
-use lib.ListN.{length, take, replicate, length-append}
-use lib.Seq.{take-all, take-append-seam}
+use lib.ListN.{length, take, drop, replicate, length-append, length-drop}
+use lib.Seq.{take-all, take-add, take-append-seam, length-take-le}
 use Rattle.wire.specs.Request.{headerSize, contentLength, authLength, headerLength, requestLength}
 use Rattle.wire.proofs.TestLaws.{or-left, or-right}
 use Rattle.stream.specs.Frame.{headerMost, contentMost, authMost, legalStart, oversized, unfinished, badStart, skipped, whole, next}
@@ -15,7 +15,9 @@ use Rattle.stream.proofs.FrameLaws.{Unfinished, short, inHeader, inBody, legal-
 use Rattle.stream.proofs.ChunkLaws.{unfinished-held, bad-found, whole-found, skipped-found}
 use Rattle.stream.specs.Rules.{opened}
 use Rattle.connection.specs.Connection.{heldMost, connectionSize, connectionBytes}
-use Rattle.connection.specs.Gather.{wantedOf, heldIn, Holding}
+use Rattle.connection.specs.Gather.{wantedOf, heldIn, Holding, Filled, Gathers}
+use Rattle.stream.specs.Framed.{frameOf}
+use Rattle.stream.specs.declared.frame.Frame.{Frame}
 use Rattle.connection.proofs.ConnectionLaws.{bytes-there, size-there, legal-most}
 
 -- by where the bytes end
@@ -131,3 +133,89 @@ holding-of memory held n e l u =
       long = ap length same ∙ l;
       begun = ap next same ∙ u;
     }
+
+-- ---- bytes of the chunk that stand behind those held, and more still wanted
+
+pub record Part (held chunk memory : List ℕ) (used : ℕ) : Type 0 where
+  pub left : used ≤ length chunk
+  pub memory-is : memory ≡ connectionBytes (opened (held ++ take used chunk))
+  pub begun : next (held ++ take used chunk) ≡ unfinished
+
+pub part-none : (memory chunk : List ℕ) (n : ℕ) → Holding memory n → Part (heldIn n memory) chunk memory 0
+part-none memory chunk n h =
+    let none : heldIn n memory ++ [] ≡ heldIn n memory = append-nil (heldIn n memory) in
+    record {
+      left = omega arith;
+      memory-is = h .memory-is ∙ ap (λ (x : List ℕ). connectionBytes (opened x)) (sym none);
+      begun = ap next none ∙ h .begun;
+    }
+
+module _ (held chunk memory : List ℕ) (n used : ℕ) (l : length held ≡ n) (p : Part held chunk memory used) where
+  part-long : length (held ++ take used chunk) ≡ n + used
+  part-long = length-append held (take used chunk) ∙ ap₂ (λ (a b : ℕ). a + b) l (length-take-le used chunk (p .left))
+
+  pub part-holds : Holding memory (n + used)
+  part-holds = holding-of memory (held ++ take used chunk) (n + used) (p .memory-is) part-long (p .begun)
+
+  part-in : heldIn (n + used) memory ≡ held ++ take used chunk
+  part-in = ap₂ (λ (k : ℕ) (m : List ℕ). heldIn k m) (sym part-long) (p .memory-is) ∙ held-back (held ++ take used chunk)
+
+  -- k bytes more
+  module _ (after : List ℕ) (k : ℕ) (f : Filled (heldIn (n + used) memory) chunk used after k) where
+    on : heldIn (n + used) memory ++ take k (drop used chunk) ≡ held ++ take (used + k) chunk
+    on = ap (λ (x : List ℕ). x ++ take k (drop used chunk)) part-in ∙ append-assoc held (take used chunk) (take k (drop used chunk)) ∙ ap (λ (x : List ℕ). held ++ x) (sym (take-add used k chunk))
+
+    pub after-is : after ≡ connectionBytes (opened (held ++ take (used + k) chunk))
+    after-is = f .memory-is ∙ ap (λ (x : List ℕ). connectionBytes (opened x)) on
+
+    pub after-long : length (held ++ take (used + k) chunk) ≡ n + (used + k)
+    after-long = length-append held (take (used + k) chunk) ∙ ap₂ (λ (a b : ℕ). a + b) l (length-take-le (used + k) chunk (f .left))
+
+    pub after-few : n + (used + k) ≤ heldMost
+    after-few =
+        let few = f .few in
+        let most = wanted-few (heldIn (n + used) memory) (part-holds .begun) in
+        let long = part-holds .long in
+        omega arith
+
+    pub after-size : length after ≡ connectionSize
+    unfolding connectionBytes
+    after-size =
+        ap length after-is
+        ∙ size-there 0 (length (held ++ take (used + k) chunk)) (held ++ take (used + k) chunk) (let a = after-long in let b = after-few in (let x : length (held ++ take (used + k) chunk) ≤ heldMost = omega arith in x))
+
+    pub after-in : take (9 + n + (used + k) - 9) (drop 9 after) ≡ held ++ take (used + k) chunk
+    after-in =
+        ap₂ (λ (m : ℕ) (x : List ℕ). heldIn m x) (let a = after-long in (let x : 9 + n + (used + k) - 9 ≡ length (held ++ take (used + k) chunk) = omega arith in x)) after-is
+        ∙ held-back (held ++ take (used + k) chunk)
+
+    pub after-some : used + k < length chunk → 0 < k
+    after-some h =
+        let more = f .more h in
+        let want = wanted-more (heldIn (n + used) memory) (part-holds .begun) in
+        omega arith
+
+    pub part-again : next (held ++ take (used + k) chunk) ≡ unfinished → Part held chunk after (used + k)
+    part-again u = record { left = f .left; memory-is = after-is; begun = u }
+
+    pub gathers : (frame : Frame) → frame ≡ frameOf (next (held ++ take (used + k) chunk))
+        → (next (held ++ take (used + k) chunk) ≡ unfinished → used + k ≡ length chunk)
+        → Gathers held chunk after (record { used = used + k; frame = frame })
+    gathers frame e all =
+        let long : length (heldIn (n + used) memory) ≡ n + used = part-holds .long in
+        let s : List ℕ = heldIn (n + used) memory in
+        let x : List ℕ = take k (drop used chunk) in
+        let d = length-drop used chunk in
+        let left = f .left in
+        let k-long : length x ≡ k = length-take-le k (drop used chunk) (let y : k ≤ length (drop used chunk) = omega arith in y) in
+        let few = f .few in
+        let fits : length s + length x ≤ wantedOf s = omega arith in
+        record {
+          used = f .left;
+          memory-is = after-is;
+          frame = e;
+          all = all;
+          bad = λ b. let r = gathered-bad s x (part-holds .begun) fits (ap next on ∙ b) in omega arith;
+          header = λ h m b. sym on ∙ gathered-header s x (part-holds .begun) fits h m (ap next on ∙ b);
+          whole = λ w b. let r = gathered-whole s x (part-holds .begun) fits w (ap next on ∙ b) in omega arith;
+        }
