@@ -13,6 +13,7 @@ use Rattle.wire.specs.Choice.{if_then_else_}
 use Rattle.wire.specs.Request.{headerSize, contentLength, authLength, headerLength, requestLength}
 use Rattle.stream.specs.Frame.{legalStart, oversized, Next, unfinished, badStart, skipped, whole, next}
 use Rattle.stream.specs.Rules.{Verdict, Judgement, Connection, opened, skipping, closed, State, judge}
+use Rattle.stream.specs.Effects.{waiting, answering, dropping}
 use Rattle.stream.specs.Call.{isBeginning, wellFormed, Step, keep, respond, dropByte, openRule, skipRule, byteRule, Effect, callRule}
 use Rattle.stream.proofs.FrameLaws.{Unfinished, short, inHeader, inBody, Skipped, Shape, isUnfinished, isBad, isSkipped, isWhole, shape, next-unfinished, next-bad, next-skipped, next-whole, legal-size, legalStart-append, headerSize-append, requestLength-append, oversized-append, whole-append, bad-append, length-snoc, whole-last, bad-last, header-length}
 use Rattle.stream.proofs.CallLaws.{call-responds, call-goes-on}
@@ -36,6 +37,12 @@ headerIn unfinished = []
 headerIn badStart = []
 headerIn (skipped header missing) = header
 headerIn (whole size) = []
+
+missingIn : Next → ℕ
+missingIn unfinished = 0
+missingIn badStart = 0
+missingIn (skipped header missing) = missing
+missingIn (whole size) = 0
 
 pub unfinished-held : (s : List ℕ) → next s ≡ unfinished → Unfinished s
 unfolding kind
@@ -83,6 +90,16 @@ skipped-found s h m e = go (shape s)
         (ap headerIn (sym e ∙ same), k .header, k .large, k .legal)
     go (isWhole l m) = absurd (omega (arith, ap kind (sym (next-whole s l m) ∙ e)))
 
+pub missing-found : (s h : List ℕ) (m : ℕ) → next s ≡ skipped h m → (m ≡ requestLength s - length s) × (length s < requestLength s)
+unfolding kind missingIn
+missing-found s h m e = go (shape s)
+  where
+    go : Shape s → (m ≡ requestLength s - length s) × (length s < requestLength s)
+    go (isUnfinished u) = absurd (omega (arith, ap kind (sym (next-unfinished s u) ∙ e)))
+    go (isBad q l) = absurd (omega (arith, ap kind (sym (next-bad s q l) ∙ e)))
+    go (isSkipped k) = (ap missingIn (sym e ∙ next-skipped s (k .legal) (k .header) (k .more) (k .large)), k .more)
+    go (isWhole l m) = absurd (omega (arith, ap kind (sym (next-whole s l m) ∙ e)))
+
 pub unfinished-next : (s : List ℕ) → isBeginning s ≡ true → next s ≡ unfinished
 unfolding isBeginning
 unfinished-next s e = go (next s) refl
@@ -93,60 +110,9 @@ unfinished-next s e = go (next s) refl
     go (skipped header missing) q = absurd (true≢false (rw (q, isBeginning) at (sym e)))
     go (whole size) q = absurd (true≢false (rw (q, isBeginning) at (sym e)))
 
--- ---- three kinds of effect
+-- ---- effects, field by field
 
 module _ {Reg Count Out : Type 0} where
-  -- `n` bytes are taken and bring no response
-  abbrev pub waiting : State Reg Count → ℕ → Connection → Effect Reg Count Out
-  waiting s n connection = record {
-    taken = n;
-    response = none;
-    state = record {
-      connection = connection;
-      registry = s .registry;
-      totals = record {
-        taken = s .totals .taken + n;
-        answered = s .totals .answered;
-        dropped = s .totals .dropped;
-        counts = s .totals .counts;
-      };
-    };
-  }
-
-  -- `n` bytes are taken, the last of them being the last of a request of `size` bytes
-  abbrev pub answering : State Reg Count → (n size : ℕ) → Verdict Reg Count Out → Connection → Effect Reg Count Out
-  answering s n size v connection = record {
-    taken = n;
-    response = some (v .response);
-    state = record {
-      connection = connection;
-      registry = v .registry;
-      totals = record {
-        taken = s .totals .taken + n;
-        answered = s .totals .answered + size;
-        dropped = s .totals .dropped;
-        counts = v .counts;
-      };
-    };
-  }
-
-  -- `n` bytes are taken and dropped
-  abbrev pub dropping : State Reg Count → ℕ → Effect Reg Count Out
-  dropping s n = record {
-    taken = n;
-    response = none;
-    state = record {
-      connection = closed;
-      registry = s .registry;
-      totals = record {
-        taken = s .totals .taken + n;
-        answered = s .totals .answered;
-        dropped = s .totals .dropped + n;
-        counts = s .totals .counts;
-      };
-    };
-  }
-
   abbrev effectOf : ℕ → Option Out → Connection → Reg → (taken answered dropped : ℕ) → Count → Effect Reg Count Out
   effectOf n response connection registry taken answered dropped counts = record {
     taken = n;
@@ -351,7 +317,7 @@ module _ (s x : List ℕ) (k : Skipped s) where
       )
 
   -- bytes of an oversized request, the last not among them, and among them
-  skipped-stays : length x < requestLength s - length s
+  pub skipped-stays : length x < requestLength s - length s
       → next (s ++ x) ≡ skipped (take (headerLength s) s) (requestLength s - length s - length x)
   skipped-stays m =
       let (l, e, r, o, t) = skipped-append in
@@ -359,7 +325,7 @@ module _ (s x : List ℕ) (k : Skipped s) where
       let h : headerLength s ≤ length s = k .header in
       next-skipped (s ++ x) l (omega arith) (omega arith) o ∙ ap₂ skipped t (omega arith)
 
-  skipped-ends : requestLength s - length s ≤ length x → next (s ++ x) ≡ whole (requestLength s)
+  pub skipped-ends : requestLength s - length s ≤ length x → next (s ++ x) ≡ whole (requestLength s)
   skipped-ends m =
       let (l, e, r, o, t) = skipped-append in
       let n : length (s ++ x) ≡ length s + length x = length-append s x in
@@ -367,7 +333,7 @@ module _ (s x : List ℕ) (k : Skipped s) where
       next-whole (s ++ x) l (omega arith) ∙ ap whole r
 
 module _ {Reg Count Out : Type 0} (J : Judgement Reg Count Out) where
-  judge-large : (registry : Reg) (counts : Count) (s x : List ℕ) → Skipped s
+  pub judge-large : (registry : Reg) (counts : Count) (s x : List ℕ) → Skipped s
       → judge J registry counts (s ++ x) ≡ J .onOversized registry counts (take (headerLength s) s)
   unfolding judge
   judge-large registry counts s x k =

@@ -6,3 +6,4 @@ pub mod KeptLaws
 pub mod CallsLaws
 pub mod DeliveryLaws
 pub mod ChunkLaws
+pub mod GatheredLaws

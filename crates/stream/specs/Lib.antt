@@ -3,3 +3,4 @@ pub mod Rules
 pub mod Call
 pub mod Calls
 pub mod Framed
+pub mod Effects
