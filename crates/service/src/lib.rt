@@ -7,6 +7,7 @@ pub mod answer;
 pub mod counting;
 pub mod operations;
 pub mod order;
+pub mod serve;
 pub mod statuses;
 
 // A response's status: document 01's table, ascending by number.
@@ -98,4 +99,11 @@ pub struct Answered {
     pub status: Status,
     pub asker: Asker,
     pub written: usize,
+}
+
+// What a taken call comes to: how many bytes it took, how many it wrote, and the counters after it.
+pub struct Served {
+    pub taken: usize,
+    pub written: usize,
+    pub counters: Counters,
 }
