@@ -8,3 +8,4 @@ pub mod Bill
 pub mod Decided
 pub mod Answers
 pub mod Counted
+pub mod Called

@@ -7,6 +7,7 @@ pub mod answer;
 pub mod counting;
 pub mod operations;
 pub mod order;
+pub mod refusals;
 pub mod statuses;
 
 // A response's status: document 01's table, ascending by number.
@@ -38,6 +39,12 @@ pub enum Refusal {
     ConnectionIllFormed,
     RegistryIllFormed,
     CounterTooHigh,
+}
+
+// What a call says of itself: that it is taken, or why it is not.
+pub enum Code {
+    Taken,
+    Refused(Refusal),
 }
 
 // Document 01's tally: bytes taken, bytes of answered requests, bytes dropped; requests served for each
