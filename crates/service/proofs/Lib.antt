@@ -5,4 +5,5 @@ pub mod Results
 pub mod JudgementLaws
 pub mod ResponseLaws
 pub mod CallLaws
+pub mod CountingLaws
 pub mod Demand3

@@ -8,4 +8,5 @@ pub mod Bill
 pub mod Decided
 pub mod Answers
 pub mod Counted
+pub mod Called
 pub mod Served

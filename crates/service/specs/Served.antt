@@ -20,9 +20,6 @@ use Rattle.service.specs.Call.{Memory, stateIn, bufferLeast, chunkMost, 
 use Rattle.service.specs.declared.Counters.{Counters}
 use Rattle.service.specs.declared.Served.{Served}
 
-abbrev pub lent : (connection registry : List ℕ) → Counters → Memory
-lent connection registry counters = record { connection = connection; registry = registry; counters = counters }
-
 -- none of C1 to C5 applies
 pub record Ready (m : Memory) (chunk buffer : List ℕ) : Type 0 where
   pub buffer-good : bufferLeast ≤ length buffer

@@ -7,6 +7,7 @@ pub mod answer;
 pub mod counting;
 pub mod operations;
 pub mod order;
+pub mod refusals;
 pub mod serve;
 pub mod statuses;
 
@@ -39,6 +40,12 @@ pub enum Refusal {
     ConnectionIllFormed,
     RegistryIllFormed,
     CounterTooHigh,
+}
+
+// What a call says of itself: that it is taken, or why it is not.
+pub enum Code {
+    Taken,
+    Refused(Refusal),
 }
 
 // Document 01's tally: bytes taken, bytes of answered requests, bytes dropped; requests served for each

@@ -32,7 +32,8 @@ ghost use Rattle.service.specs.Call.{counterMost, chunkMost};
 ghost use Rattle.service.specs.Decided.{lineOf};
 ghost use Rattle.service.specs.Answers.{AskerBelow};
 ghost use Rattle.service.specs.Counted.{counted};
-ghost use Rattle.service.specs.Served.{lent, Ready, Carried, effectOf, skipEffect, SkipReady, headerAt};
+ghost use Rattle.service.specs.Called.{lentMemory};
+ghost use Rattle.service.specs.Served.{Ready, Carried, effectOf, skipEffect, SkipReady, headerAt};
 
 // `n` bytes are taken and bring no response.
 fn wait(c: Counters, n: usize) -> Served
@@ -93,8 +94,8 @@ fn serve_fresh(
     chunk: &[u8],
     c: Counters,
 ) -> Served
-    requires { ⌜ Ready (lent (now connection) (now registry) c) (now chunk) (now out) × (connectionOf (now connection) ≡ opened []) ⌝ }
-    ensures { λ r. ⌜ Carried (effectOf (lent (now (connection .entry)) (now (registry .entry)) c) (now (chunk .entry))) (now (connection .exit)) (now (registry .exit)) (now (out .entry)) (now (out .exit)) r ⌝ }
+    requires { ⌜ Ready (lentMemory (now connection) (now registry) c) (now chunk) (now out) × (connectionOf (now connection) ≡ opened []) ⌝ }
+    ensures { λ r. ⌜ Carried (effectOf (lentMemory (now (connection .entry)) (now (registry .entry)) c) (now (chunk .entry))) (now (connection .exit)) (now (registry .exit)) (now (out .entry)) (now (out .exit)) r ⌝ }
 {
     match read_frame(chunk) {
         Frame::Unfinished => {
@@ -127,8 +128,8 @@ fn serve_held(
     c: Counters,
     held: usize,
 ) -> Served
-    requires { ⌜ Ready (lent (now connection) (now registry) c) (now chunk) (now out) × (stateOf (connectionOf (now connection)) ≡ State.Open held) ⌝ }
-    ensures { λ r. ⌜ Carried (effectOf (lent (now (connection .entry)) (now (registry .entry)) c) (now (chunk .entry))) (now (connection .exit)) (now (registry .exit)) (now (out .entry)) (now (out .exit)) r ⌝ }
+    requires { ⌜ Ready (lentMemory (now connection) (now registry) c) (now chunk) (now out) × (stateOf (connectionOf (now connection)) ≡ State.Open held) ⌝ }
+    ensures { λ r. ⌜ Carried (effectOf (lentMemory (now (connection .entry)) (now (registry .entry)) c) (now (chunk .entry))) (now (connection .exit)) (now (registry .exit)) (now (out .entry)) (now (out .exit)) r ⌝ }
 {
     let g = gather(connection, held, chunk);
     let used = g.used;
@@ -173,8 +174,8 @@ pub fn serve(
     chunk: &[u8],
     c: Counters,
 ) -> Served
-    requires { ⌜ Ready (lent (now connection) (now registry) c) (now chunk) (now out) ⌝ }
-    ensures { λ r. ⌜ Carried (effectOf (lent (now (connection .entry)) (now (registry .entry)) c) (now (chunk .entry))) (now (connection .exit)) (now (registry .exit)) (now (out .entry)) (now (out .exit)) r ⌝ }
+    requires { ⌜ Ready (lentMemory (now connection) (now registry) c) (now chunk) (now out) ⌝ }
+    ensures { λ r. ⌜ Carried (effectOf (lentMemory (now (connection .entry)) (now (registry .entry)) c) (now (chunk .entry))) (now (connection .exit)) (now (registry .exit)) (now (out .entry)) (now (out .exit)) r ⌝ }
 {
     match read_state(connection) {
         State::Open(held) => {

@@ -1,0 +1,27 @@
+-- What the code says of a call, in the reading copy's terms. No part of the reading copy.
+use Prim.Native.Nat.{ℕ}
+use mathlib.Core.Option.{Option, none, some}
+use mathlib.Core.List.{List}
+use Rattle.stream.specs.Calls.{Call}
+use Rattle.service.specs.Status.{refusalNumber}
+use Rattle.service.specs.Call.{Memory}
+use Rattle.service.specs.declared.Counters.{Counters}
+use Rattle.service.specs.declared.Refusal.{Refusal}
+use Rattle.service.specs.declared.Code.{Code}
+use Rattle.service.specs.declared.Code.the-variants.{Taken, Refused}
+
+-- what a function is lent, as a call's memory and as the call
+abbrev pub lentMemory : (connection registry : List ℕ) → Counters → Memory
+lentMemory connection registry counters = record { connection = connection; registry = registry; counters = counters }
+
+abbrev pub callWith : (chunk buffer : List ℕ) → Call
+callWith chunk buffer = record { chunk = chunk; buffer = buffer }
+
+unfoldable pub codeFor : Option Refusal → Code
+codeFor none = Taken
+codeFor (some refusal) = Refused refusal
+
+-- what a call says: 0 if it is taken, else the refusal's number
+unfoldable pub codeNumber : Code → ℕ
+codeNumber Taken = 0
+codeNumber (Refused refusal) = refusalNumber refusal

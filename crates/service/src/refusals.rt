@@ -1,0 +1,42 @@
+// When a call is not taken: document 01's C1 to C5.
+use crate::Code;
+use crate::Counters;
+use crate::Refusal;
+use crate::counting::is_too_high;
+ghost use mathlib.Core.Path.{_≡_};
+ghost use Rattle.wire.specs.Choice.{firstOf};
+ghost use Rattle.service.specs.Call.{refusalTests};
+ghost use Rattle.service.specs.Called.{lentMemory, callWith, codeFor};
+
+// The shortest response buffer, and the longest chunk.
+pub const BUFFER_LEAST: usize = 1024;
+
+pub const CHUNK_MOST: usize = 65536;
+
+// Which of C1 to C5 a call falls under, if any: the first that applies.
+pub fn judge_call(
+    chunk: &[u8],
+    connection: &[u8],
+    registry: &[u8],
+    counters: Counters,
+    response: &[u8],
+) -> Code
+    ensures { λ r. ⌜ r ≡ codeFor (firstOf (refusalTests (lentMemory (now (connection .entry)) (now (registry .entry)) counters) (callWith (now (chunk .entry)) (now (response .entry))))) ⌝ }
+{
+    if response.len() < BUFFER_LEAST {
+        return Code::Refused(Refusal::ResponseBufferTooSmall);
+    }
+    if CHUNK_MOST < chunk.len() {
+        return Code::Refused(Refusal::ChunkTooLong);
+    }
+    if !connection::check::is_well_formed(connection) {
+        return Code::Refused(Refusal::ConnectionIllFormed);
+    }
+    if !registry::check::is_well_formed(registry) {
+        return Code::Refused(Refusal::RegistryIllFormed);
+    }
+    if is_too_high(counters) {
+        return Code::Refused(Refusal::CounterTooHigh);
+    }
+    Code::Taken
+}
