@@ -1,15 +1,13 @@
 -- Laws of decisions: for each way an operation can end, what the rules make of it, from the facts that the code has there.
-use mathlib.Core.Path.{_≡_, refl, sym, ap, _∙_, subst}
-use mathlib.Core.Bool.{Bool, true, false, true≢false, false≢true}
-use mathlib.Core.Option.{Option, none, some}
+use mathlib.Core.Path.{_≡_, sym, _∙_, subst}
+use mathlib.Core.Bool.{true, false, false≢true}
+use mathlib.Core.Option.{none, some}
 use mathlib.Core.List.{List, [], _∷_}
-use Prim.Native.Nat.{ℕ, _+_, _≤_, _<_}
+use Prim.Native.Nat.{ℕ, _+_, _%_, _≤_, _<_}
 use native.Mathlib.Omega.{arith}
 use borrow.Author.Tests.{leb-true, lt-ltb, le-ltb, lt-leb, le-leb}
 use lib.ListN.{length, take, drop, getD, length-take, length-drop}
 use lib.Dec.{leb, eqb}
-use Prim.Native.Nat.{_%_}
-use Rattle.wire.specs.Lists.{every}
 use Rattle.wire.proofs.TestLaws.{and-true, every-at}
 use Rattle.protobuf.specs.Body.{bodyOf}
 use Rattle.protobuf.specs.Message.{allAbsent}
@@ -29,12 +27,12 @@ use Rattle.registry.specs.declared.Found.the-variants.{At, Nothing as Missing}
 use Rattle.registry.proofs.NameLaws.{legal-some, legal-short}
 use Rattle.registry.proofs.SlotLaws.{Legal, legal-data}
 use Rattle.registry.proofs.RegistryLaws.{length-slots, found-below, found-name}
-use Rattle.service.specs.Operations.{opcodesFields, importFields, nameFields, noFields, readBody, bytesOf, keyOf, Operation, ping, listProviders, listOpcodes, importKey, destroyKey, exportPublicKey, operationOf, Result, success, refuse, importBits, importable, performImport, performDestroy, exportOf, performExport, performListOpcodes, perform}
+use Rattle.service.specs.Operations.{readBody, keyOf, Operation, operationOf, Result, success, refuse, importBits, importable, performImport, performDestroy, exportOf, performExport, performListOpcodes, perform}
 use Rattle.service.specs.Decided.{operated, outputBytes, changeOf, resultIn, refusedWith, ValuesIn, KeyParts, SafeOutput, Decided}
 use Rattle.service.specs.declared.Status.{Status}
 use Rattle.service.specs.declared.Status.the-variants.{Success, ProviderDoesNotExist, DeserializingBodyFailed, PsaErrorNotPermitted, PsaErrorInvalidArgument, PsaErrorAlreadyExists, PsaErrorDoesNotExist, PsaErrorInsufficientStorage}
 use Rattle.service.specs.declared.Output.{Output}
-use Rattle.service.specs.declared.Output.the-variants.{Nothing, Version, Providers, Opcodes, Data}
+use Rattle.service.specs.declared.Output.the-variants.{Nothing, Opcodes, Data}
 use Rattle.service.specs.declared.Edit.the-variants.{Stays, Fills, Clears}
 use Rattle.service.specs.declared.Decision.{Decision}
 use Rattle.service.proofs.JudgementLaws.{importable-legal}

@@ -1,18 +1,14 @@
 -- `service::operations::destroy` meets its contract.
 use mathlib.Core.Path.{_≡_, sym, _∙_}
 use mathlib.Core.Bool.{true}
-use mathlib.Core.List.{List}
 use borrow.Author.Needs.{needs}
 use borrow.Author.Tests.{not-true, not-false}
 use Rattle.registry.specs.Names.{legalName}
-use Rattle.registry.specs.Slots.{Entry, keyNameMost}
-use Rattle.registry.specs.Registry.{slotsOf, slotNamed}
+use Rattle.registry.specs.Slots.{keyNameMost}
 use Rattle.service.specs.declared.Status.the-variants.{PsaErrorInvalidArgument, PsaErrorDoesNotExist}
 use Rattle.service.proofs.DecidedLaws.{refusal, clearing, slot-below, bad-destroyed, none-destroyed, destroyed}
 use Rattle.service.proofs.operations.destroy.Statement.{statement}
 use Rattle.service.proofs.operations.destroy.Tie as tie
-use Rattle.service.proofs.operations.destroy.Reads as reads
-use Rattle.service.proofs.operations.destroy.Lts as lts
 
 abbrev start : tie.Else1 → tie.Start
 start c = c .before .before .before .before

@@ -15,8 +15,6 @@ use Rattle.service.specs.declared.Status.the-variants.{PsaErrorInvalidAr
 use Rattle.service.proofs.DecidedLaws.{refusal, filling, slot-below, key-parts, bad-key, name-held, no-slot, imported}
 use Rattle.service.proofs.operations.import.Statement.{statement}
 use Rattle.service.proofs.operations.import.Tie as tie
-use Rattle.service.proofs.operations.import.Reads as reads
-use Rattle.service.proofs.operations.import.Lts as lts
 
 abbrev start : tie.Else1 → tie.Start
 start c = c .before .before .before .before

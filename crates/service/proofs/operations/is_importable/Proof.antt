@@ -2,19 +2,16 @@
 use Prim.Native.Nat.{ℕ, _+_, _-_}
 use mathlib.Core.Path.{_≡_, sym, ap, _∙_}
 use mathlib.Core.Bool.{true}
-use mathlib.Core.List.{List}
 use native.Mathlib.Omega.{arith}
 use borrow.Author.Needs.{needs}
 use borrow.Author.Tests.{not-true, not-false}
 use lib.ListN.{length, take, drop}
 use Rattle.registry.specs.Names.{legalName}
 use Rattle.registry.specs.Slots.{Key, keyNameMost}
-use Rattle.service.specs.Operations.{bytesOf, keyOf}
+use Rattle.service.specs.Operations.{keyOf}
 use Rattle.service.proofs.DecidedLaws.{length-part, bad-name, no-data, long-data, bits-left}
 use Rattle.service.proofs.operations.is_importable.Statement.{statement}
 use Rattle.service.proofs.operations.is_importable.Tie as tie
-use Rattle.service.proofs.operations.is_importable.Reads as reads
-use Rattle.service.proofs.operations.is_importable.Lts as lts
 
 abbrev start : tie.After-is-legal → tie.Start
 start c = c .before .before .before .before .before .before .before

@@ -4,7 +4,6 @@ use borrow.Author.Needs.{needs}
 use Rattle.protobuf.specs.Body.{bodyOf}
 use Rattle.protobuf.specs.declared.message.Schema.{Schema}
 use Rattle.protobuf.specs.declared.message.Values.{Values}
-use Rattle.protobuf.specs.declared.body.Body.the-variants.{Message}
 use Rattle.service.specs.Operations.{opcodesFields, Operation, listOpcodes, operationOf, perform}
 use Rattle.service.specs.declared.Output.the-variants.{Opcodes}
 use Rattle.service.specs.declared.Status.the-variants.{ProviderDoesNotExist}

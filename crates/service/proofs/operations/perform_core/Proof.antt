@@ -1,7 +1,6 @@
 -- `service::operations::perform_core` meets its contract.
-use mathlib.Core.Path.{_≡_, refl, sym, ap, _∙_}
+use mathlib.Core.Path.{_≡_}
 use mathlib.Core.Logic.{⊎-elim}
-use native.Mathlib.Omega.{arith}
 use borrow.Author.Needs.{needs}
 use Rattle.service.proofs.operations.perform_core.Statement.{statement}
 use Rattle.service.proofs.operations.perform_core.Tie as tie

@@ -12,13 +12,11 @@ use Rattle.protobuf.specs.declared.message.Values.{Values}
 use Rattle.protobuf.specs.declared.body.Body.the-variants.{Message}
 use Rattle.registry.specs.Registry.{slotsOf}
 use Rattle.registry.proofs.WellFormedLaws.{good-of}
-use Rattle.service.specs.Operations.{importFields, nameFields, bytesOf, keyOf, importKey, destroyKey, exportPublicKey, operationOf, performDestroy, performExport, perform}
-use Rattle.service.specs.Decided.{ValuesIn, Decided}
+use Rattle.service.specs.Operations.{importFields, nameFields, bytesOf, keyOf, importKey, destroyKey, exportPublicKey, operationOf, perform}
+use Rattle.service.specs.Decided.{ValuesIn}
 use Rattle.service.proofs.DecidedLaws.{values-in, readable, unreadable}
 use Rattle.service.proofs.operations.perform_keystore.Statement.{statement}
 use Rattle.service.proofs.operations.perform_keystore.Tie as tie
-use Rattle.service.proofs.operations.perform_keystore.Reads as reads
-use Rattle.service.proofs.operations.perform_keystore.Lts as lts
 
 abbrev bytes : tie.Start → List ℕ
 bytes s = s .args .body .now

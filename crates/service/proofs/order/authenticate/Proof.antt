@@ -1,5 +1,5 @@
 -- `service::order::authenticate` meets its contract.
-use mathlib.Core.Path.{_≡_, sym, ap, _∙_}
+use mathlib.Core.Path.{sym, _∙_}
 use borrow.Author.Needs.{needs}
 use borrow.Author.Tests.{eq-eqb, ne-eqb, lt-ltb, le-ltb}
 use native.Mathlib.Omega.{arith}
@@ -8,9 +8,6 @@ use Rattle.service.specs.Decided.{namedOr, authOf}
 use Rattle.service.proofs.OrderLaws.{found-line, found-none}
 use Rattle.service.proofs.order.authenticate.Statement.{statement}
 use Rattle.service.proofs.order.authenticate.Tie as tie
-use Rattle.service.proofs.order.authenticate.Reads as reads
-use Rattle.service.proofs.order.authenticate.Lts as lts
-use Rattle.registry.proofs.find.find_application.Reads as find-application-reads
 
 returns : tie.Need-returns
 unfolding authOf namedOr

@@ -1,12 +1,10 @@
 -- `service::order::check_header` meets its contract: the tests that are left, behind each test that passed.
 use Prim.Native.Nat.{ℕ}
 use mathlib.Core.Path.{_≡_, refl, sym, ap, _∙_}
-use mathlib.Core.Bool.{Bool, true, false, not, _&&_}
-use mathlib.Core.List.{List, _++_}
+use mathlib.Core.Bool.{not}
 use borrow.Author.Needs.{needs}
 use borrow.Author.Tests.{eq-eqb, ne-eqb, lt-ltb, le-ltb}
 use lib.ListN.{drop}
-use lib.Dec.{eqb}
 use Rattle.wire.specs.Choice.{firstOf}
 use Rattle.wire.specs.declared.header.Header.{Header}
 use Rattle.service.specs.Decided.{headerTests, checkedOf}
@@ -14,8 +12,6 @@ use Rattle.service.specs.declared.Checked.{Checked}
 use Rattle.service.proofs.OrderLaws.{stops, passes}
 use Rattle.service.proofs.order.check_header.Statement.{statement}
 use Rattle.service.proofs.order.check_header.Tie as tie
-use Rattle.service.proofs.order.check_header.Reads as reads
-use Rattle.service.proofs.order.check_header.Lts as lts
 
 -- what the tests from number k on come to
 abbrev from : ℕ → Header → Checked
