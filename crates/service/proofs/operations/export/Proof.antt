@@ -44,7 +44,7 @@ returns c body =
     (refusal _ body PsaErrorInvalidArgument (bad-exported _ _ (sym (c .before .before .is-legal .ensures) ∙ not-true _ (c .before .if1 .taken))))
 
 find-slot-requires : tie.Need-find-slot-requires
-find-slot-requires c κs = (good-of (start c .args .registry .now) (start c .pre .0) .size, start c .pre .1)
+find-slot-requires c κs = (good-of (start c .args .registry .now) (start c .pre .0) .size, search needs)
 
 enum-known-found : tie.Need-enum-known-found
 enum-known-found c = search needs
