@@ -89,6 +89,20 @@ module _ (name : List ℕ) (slots : List Entry) where
           omega arith
       go false q w = absurd (subst IsAt (sym w) tt)
 
+  pub found-name : (slot : Slot) → slotNamed name slots ≡ At slot → nameOf (getD slots (slot .0) free) ≡ name
+  unfolding slotNamed slotNumber IsAt k
+  found-name slot e = go (ltb k (length slots)) refl e
+    where
+      go : (t : Bool) → ltb k (length slots) ≡ t → (let found : Found = if t then At (record { 0 = k }) else Nothing in found) ≡ At slot
+          → nameOf (getD slots (slot .0) free) ≡ name
+      go true q w =
+          let n : k - 0 ≡ slot .0 = (let z : k - 0 ≡ k = omega arith in z) ∙ ap slotNumber w in
+          let h : slot .0 < length slots = found-below slot e in
+          let below : k < 0 + length (map nameOf slots) = omega (arith, length-map slots nameOf) in
+          sym (same-true name _ (subst (λ (m : ℕ). same name (getD (map nameOf slots) m []) ≡ true) n (index-same name (map nameOf slots) 0 below))
+          ∙ map-at nameOf slots (slot .0) free [] h)
+      go false q w = absurd (subst IsAt (sym w) tt)
+
   pub found-none : slotNamed name slots ≡ Nothing → absent name (map nameOf slots) ≡ true
   unfolding slotNamed IsAt k
   found-none e = go (ltb k (length slots)) refl e

@@ -41,7 +41,7 @@ asks r q line e = go (eqb (q .authType) 0) e
 
 -- ---- the registry after a request
 
-importable-legal : (key : Key) → importable key ≡ true → Legal key
+pub importable-legal : (key : Key) → importable key ≡ true → Legal key
 unfolding importable importBits
 importable-legal key e =
     let tests : List Bool = legalName keyNameMost (key .name) ∷ legalData (key .bytes) ∷ legalBits (key .bits) ∷ [] in

@@ -7,3 +7,5 @@ pub mod ResponseLaws
 pub mod CallLaws
 pub mod CountingLaws
 pub mod Demand3
+pub mod OrderLaws
+pub mod DecidedLaws

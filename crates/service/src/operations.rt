@@ -22,7 +22,6 @@ ghost use mathlib.Core.Path.{_≡_};
 ghost use Prim.Native.Nat.{ℕ, _<_};
 ghost use lib.ListN.{length};
 ghost use Rattle.protobuf.specs.Message as message;
-ghost use Rattle.registry.specs.Slots.{Entry};
 ghost use Rattle.registry.specs.Registry.{lineCount, registrySize, slotsOf};
 ghost use Rattle.registry.specs.WellFormed.{wellFormedRegistry};
 ghost use Rattle.service.specs.Operations.{noFields, opcodesFields, importFields, nameFields, performImport, performDestroy, performExport, keyOf, importable};
@@ -224,15 +223,14 @@ fn export(registry: &[u8], line: Line, name: &[u8]) -> Decision
     if !is_legal(name, 32) {
         return refused(Status::PsaErrorInvalidArgument);
     }
-    match find_slot(registry, line, name) {
-        Found::At(slot) => {
-            if is_exportable(registry, line, slot) {
-                return listed(Output::Data(slot));
-            }
-            refused(Status::PsaErrorNotPermitted)
-        }
-        Found::Nothing => refused(Status::PsaErrorDoesNotExist),
+    let found = find_slot(registry, line, name);
+    let Found::At(slot) = found else {
+        return refused(Status::PsaErrorDoesNotExist);
+    };
+    if !is_exportable(registry, line, slot) {
+        return refused(Status::PsaErrorNotPermitted);
     }
+    listed(Output::Data(slot))
 }
 
 // The keystore operations: opcodes 3, 6 and 7, for the application of a line.

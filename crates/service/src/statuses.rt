@@ -1,7 +1,6 @@
 // The numbers of statuses.
 use crate::Status;
 ghost use mathlib.Core.Path.{_≡_};
-ghost use Prim.Native.Nat.{_<_};
 ghost use Rattle.service.specs.Status.{statusNumber, refusedStatuses};
 ghost use Rattle.service.specs.Counters.{indexOf};
 
