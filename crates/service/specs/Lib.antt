@@ -9,4 +9,3 @@ pub mod Decided
 pub mod Answers
 pub mod Counted
 pub mod Called
-pub mod Served

@@ -8,7 +8,6 @@ pub mod counting;
 pub mod operations;
 pub mod order;
 pub mod refusals;
-pub mod serve;
 pub mod statuses;
 
 // A response's status: document 01's table, ascending by number.
@@ -106,11 +105,4 @@ pub struct Answered {
     pub status: Status,
     pub asker: Asker,
     pub written: usize,
-}
-
-// What a taken call comes to: how many bytes it took, how many it wrote, and the counters after it.
-pub struct Served {
-    pub taken: usize,
-    pub written: usize,
-    pub counters: Counters,
 }
