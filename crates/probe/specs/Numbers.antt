@@ -1,0 +1,40 @@
+-- What the exported functions give back, as numbers.
+use Prim.Native.Nat.{ℕ}
+use mathlib.Core.List.{List, [], _∷_}
+use lib.ListN.{length, replicate}
+use lib.Dec.{ltb, eqb}
+use Rattle.wire.specs.Choice.{if_then_else_}
+use Rattle.wire.specs.Header.{headerOf}
+use Rattle.wire.specs.declared.header.Header.{Header}
+use Rattle.protobuf.specs.declared.varint.Varint.{Varint}
+use Rattle.protobuf.specs.declared.varint.Varint.the-variants.{Read, Unreadable as noVarint}
+use Rattle.protobuf.specs.declared.message.Kind.the-variants.{Bytes, Uint32, Boolean, Unlisted}
+use Rattle.protobuf.specs.declared.message.Schema.{Schema}
+use Rattle.protobuf.specs.declared.body.Body.{Body}
+use Rattle.protobuf.specs.declared.body.Body.the-variants.{Message, Unreadable}
+
+abbrev pub fieldNumbers : Header → List ℕ
+fieldNumbers h =
+    1 ∷ h .size ∷ h .major ∷ h .minor ∷ h .provider ∷ h .session ∷ h .«content_type» ∷ h .«accept_type» ∷ h .«auth_type»
+    ∷ h .«content_length» ∷ h .«auth_length» ∷ h .opcode ∷ []
+
+abbrev pub headerNumbers : List ℕ → List ℕ
+headerNumbers bytes = if ltb (length bytes) 28 then replicate 12 0 else fieldNumbers (headerOf bytes)
+
+abbrev pub varintNumbers : Varint → List ℕ
+varintNumbers (Read v next) = 1 ∷ v ∷ next ∷ []
+varintNumbers noVarint = 0 ∷ 0 ∷ 0 ∷ []
+
+-- the schemas of the operations: no fields, ListOpcodes, Import, Destroy and Export
+abbrev pub schemaOf : ℕ → Schema
+schemaOf n =
+    if eqb n 1 then record { k1 = Uint32; k2 = Unlisted; k3 = Unlisted; k4 = Unlisted; k5 = Unlisted }
+    else if eqb n 2 then record { k1 = Bytes; k2 = Bytes; k3 = Uint32; k4 = Boolean; k5 = Boolean }
+    else if eqb n 3 then record { k1 = Bytes; k2 = Unlisted; k3 = Unlisted; k4 = Unlisted; k5 = Unlisted }
+    else record { k1 = Unlisted; k2 = Unlisted; k3 = Unlisted; k4 = Unlisted; k5 = Unlisted }
+
+abbrev pub bodyNumbers : Body → List ℕ
+bodyNumbers (Message v) =
+    1 ∷ v .f1 .start ∷ v .f1 .len ∷ v .f1 .number ∷ v .f2 .start ∷ v .f2 .len ∷ v .f2 .number ∷ v .f3 .start ∷ v .f3 .len
+    ∷ v .f3 .number ∷ v .f4 .start ∷ v .f4 .len ∷ v .f4 .number ∷ v .f5 .start ∷ v .f5 .len ∷ v .f5 .number ∷ []
+bodyNumbers (Unreadable at) = 0 ∷ at ∷ replicate 14 0

@@ -1,0 +1,9 @@
+// The leaves, exported for tests and benchmarks; no part of the product. An enum comes back as numbers, and input that a
+// leaf's `requires` forbids is answered by `false` or by REFUSED, with nothing written.
+pub mod connections;
+pub mod headers;
+pub mod messages;
+pub mod registries;
+
+// No count of bytes, no line and no slot.
+pub const REFUSED: usize = 18446744073709551615;

@@ -1,0 +1,190 @@
+// The registry: its check, searches, changes, and what a slot holds.
+use crate::REFUSED;
+use registry::Application;
+use registry::Found;
+use registry::LINES;
+use registry::Line;
+use registry::REGISTRY_SIZE;
+use registry::RosterFault;
+use registry::SLOTS;
+use registry::Slot;
+use registry::change::clear_slot;
+use registry::change::fill_slot;
+use registry::check::is_well_formed;
+use registry::find::find_application;
+use registry::find::find_slot;
+use registry::key::is_exportable;
+use registry::key::key_data;
+use registry::roster::Loaded;
+use registry::roster::load_roster;
+use wire::bytes::copy_into;
+ghost use mathlib.Core.Path.{_≡_};
+ghost use mathlib.Core.Bool.{_&&_};
+ghost use lib.ListN.{length};
+ghost use lib.Dec.{leb};
+ghost use Rattle.registry.specs.WellFormed.{wellFormedRegistry};
+ghost use Rattle.registry.specs.Roster.{faultNumber, loadRoster};
+ghost use Rattle.registry.specs.Check.{keyFrom};
+ghost use Rattle.probe.specs.Answers.{WroteIf, ChangedIf, lineFound, slotFound, isClearable, cleared, isFillable, filled, isReadable, dataAt, exportable, loadNumber};
+
+#[no_mangle]
+pub extern "C" fn probe_registry_is_well_formed(registry: &[u8]) -> bool
+    ensures { λ r. ⌜ r ≡ wellFormedRegistry (now (registry .entry)) ⌝ }
+{
+    is_well_formed(registry)
+}
+
+// The number of the application's line, or how many lines there are.
+#[no_mangle]
+pub extern "C" fn probe_find_application(registry: &[u8], name: &[u8]) -> usize
+    ensures { λ r. ⌜ r ≡ lineFound (now (registry .entry)) (now (name .entry)) ⌝ }
+{
+    if registry.len() != REGISTRY_SIZE {
+        return REFUSED;
+    }
+    match find_application(registry, name) {
+        Application::Named(line) => line.0,
+        Application::Unknown => LINES,
+    }
+}
+
+// The number of the slot, or how many slots there are.
+#[no_mangle]
+pub extern "C" fn probe_find_slot(registry: &[u8], line: usize, name: &[u8]) -> usize
+    ensures { λ r. ⌜ r ≡ slotFound (now (registry .entry)) line (now (name .entry)) ⌝ }
+{
+    if registry.len() != REGISTRY_SIZE {
+        return REFUSED;
+    }
+    if LINES <= line {
+        return REFUSED;
+    }
+    match find_slot(registry, Line(line), name) {
+        Found::At(slot) => slot.0,
+        Found::Nothing => SLOTS,
+    }
+}
+
+#[no_mangle]
+pub extern "C" fn probe_fill_slot(
+    registry: &mut [u8],
+    line: usize,
+    slot: usize,
+    name: &[u8],
+    bytes: &[u8],
+    bits: u16,
+    exported: bool,
+    verified: bool,
+) -> bool
+    ensures { λ r. ⌜ ChangedIf (isFillable (now (registry .entry)) line slot (now (name .entry)) (now (bytes .entry))) (filled (now (registry .entry)) line slot (keyFrom (now (name .entry)) (now (bytes .entry)) bits exported verified)) (now (registry .entry)) (now (registry .exit)) r ⌝ }
+{
+    if registry.len() != REGISTRY_SIZE {
+        return false;
+    }
+    if LINES <= line {
+        return false;
+    }
+    if SLOTS <= slot {
+        return false;
+    }
+    if 32 < name.len() {
+        return false;
+    }
+    if 600 < bytes.len() {
+        return false;
+    }
+    fill_slot(
+        registry,
+        Line(line),
+        Slot(slot),
+        name,
+        bytes,
+        bits,
+        exported,
+        verified,
+    );
+    true
+}
+
+#[no_mangle]
+pub extern "C" fn probe_clear_slot(registry: &mut [u8], line: usize, slot: usize) -> bool
+    ensures { λ r. ⌜ ChangedIf (isClearable (now (registry .entry)) line slot) (cleared (now (registry .entry)) line slot) (now (registry .entry)) (now (registry .exit)) r ⌝ }
+{
+    if registry.len() != REGISTRY_SIZE {
+        return false;
+    }
+    if LINES <= line {
+        return false;
+    }
+    if SLOTS <= slot {
+        return false;
+    }
+    clear_slot(registry, Line(line), Slot(slot));
+    true
+}
+
+// Copies the data of the key in a slot over the front of `out`, and answers their count.
+#[no_mangle]
+pub extern "C" fn probe_key_data(registry: &[u8], line: usize, slot: usize, out: &mut [u8]) -> usize
+    ensures { λ r. ⌜ WroteIf (isReadable (now (registry .entry)) line slot && leb (length (dataAt (now (registry .entry)) line slot)) (length (now (out .entry)))) (dataAt (now (registry .entry)) line slot) (now (out .entry)) (now (out .exit)) r ⌝ }
+{
+    if !is_well_formed(registry) {
+        return REFUSED;
+    }
+    if LINES <= line {
+        return REFUSED;
+    }
+    if SLOTS <= slot {
+        return REFUSED;
+    }
+    let bytes = key_data(registry, Line(line), Slot(slot));
+    if out.len() < bytes.len() {
+        return REFUSED;
+    }
+    copy_into(out, bytes)
+}
+
+// 1 where the key in a slot may be exported, else 0.
+#[no_mangle]
+pub extern "C" fn probe_is_exportable(registry: &[u8], line: usize, slot: usize) -> usize
+    ensures { λ r. ⌜ r ≡ exportable (now (registry .entry)) line slot ⌝ }
+{
+    if !is_well_formed(registry) {
+        return REFUSED;
+    }
+    if LINES <= line {
+        return REFUSED;
+    }
+    if SLOTS <= slot {
+        return REFUSED;
+    }
+    if is_exportable(registry, Line(line), Slot(slot)) {
+        1
+    } else {
+        0
+    }
+}
+
+fn fault_number(fault: RosterFault) -> usize
+    ensures { λ r. ⌜ r ≡ faultNumber fault ⌝ }
+{
+    match fault {
+        RosterFault::WrongMemorySize => 0,
+        RosterFault::CutRecord => 1,
+        RosterFault::UnknownTag => 2,
+        RosterFault::BadName => 3,
+        RosterFault::NinthName => 4,
+        RosterFault::RepeatedName => 5,
+    }
+}
+
+// The number of the fault, R0 to R5, or 6 for a good file.
+#[no_mangle]
+pub extern "C" fn probe_load_roster(file: &[u8], registry: &mut [u8]) -> usize
+    ensures { λ r. ⌜ (r ≡ loadNumber (loadRoster (now (file .entry)) (now (registry .entry)) .fault)) × (now (registry .exit) ≡ loadRoster (now (file .entry)) (now (registry .entry)) .registry) ⌝ }
+{
+    match load_roster(file, registry) {
+        Loaded::Good => 6,
+        Loaded::Faulty(fault) => fault_number(fault),
+    }
+}

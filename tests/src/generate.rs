@@ -1,0 +1,423 @@
+//! Inputs from a seed, the same on every run.
+
+use crate::ask::{import_body, name_body, registry_of, request, DESTROY, IMPORT};
+use crate::layout::*;
+use crate::oracle::{bytes_field, varint};
+use reference::rules;
+use reference::REGISTRY_SIZE;
+
+/// A xorshift generator of 64 bits.
+pub struct Random(u64);
+
+impl Random {
+    /// Neighbouring seeds are spread first, since xorshift keeps them alike for some steps.
+    pub fn new(seed: u64) -> Random {
+        Random((seed + 1).wrapping_mul(0x9E37_79B9_7F4A_7C15) | 1)
+    }
+
+    pub fn word(&mut self) -> u64 {
+        self.0 ^= self.0 << 13;
+        self.0 ^= self.0 >> 7;
+        self.0 ^= self.0 << 17;
+        self.0.wrapping_mul(0x2545_F491_4F6C_DD1D)
+    }
+
+    pub fn below(&mut self, bound: usize) -> usize {
+        ((self.word() >> 8) % bound as u64) as usize
+    }
+
+    /// True once in so many times.
+    pub fn once_in(&mut self, times: usize) -> bool {
+        self.below(times) == 0
+    }
+
+    pub fn pick<T: Clone>(&mut self, choices: &[T]) -> T {
+        choices[self.below(choices.len())].clone()
+    }
+
+    pub fn byte(&mut self) -> u8 {
+        (self.word() >> 32) as u8
+    }
+
+    pub fn bytes(&mut self, length: usize) -> Vec<u8> {
+        let mut bytes = Vec::with_capacity(length + 8);
+        while bytes.len() < length {
+            bytes.extend_from_slice(&self.word().to_le_bytes());
+        }
+        bytes.truncate(length);
+        bytes
+    }
+
+    /// Numbers of all magnitudes, those at either end of a varint's length among them.
+    pub fn number(&mut self) -> u64 {
+        match self.below(4) {
+            0 => self.word() >> self.below(64),
+            1 => (1_u64 << self.below(64)).wrapping_sub(self.below(2) as u64),
+            2 => self.below(256) as u64,
+            _ => self.word(),
+        }
+    }
+
+    pub fn shuffle<T>(&mut self, items: &mut [T]) {
+        for last in (1..items.len()).rev() {
+            items.swap(last, self.below(last + 1));
+        }
+    }
+}
+
+// ---- names, keys and registries
+
+/// A legal name that no other number gives, `length` bytes long; the numbers are below 64.
+pub fn name(random: &mut Random, number: usize, length: usize) -> Vec<u8> {
+    let mut name: Vec<u8> = (0..length).map(|_| 0x21 + random.byte() % 0x5E).collect();
+    name[length - 1] = b'@' + number as u8 % 62;
+    name
+}
+
+/// A key that Import allows; some are as long as may be.
+pub fn key(random: &mut Random, number: usize) -> Key {
+    let name_length = random.pick(&[1, 2, 9, 31, 32]);
+    let data_length = random.pick(&[1, 2, 33, 255, 256, 599, 600]);
+    Key {
+        name: name(random, number, name_length),
+        data: random.bytes(data_length),
+        bits: random.pick(&[1_024, 1_032, 2_048, 4_088, 4_096]),
+        export_allowed: random.once_in(2),
+        verify_allowed: random.once_in(2),
+    }
+}
+
+/// A key of any content whose parts fit into a slot, one that Import allows or not.
+pub fn any_key(random: &mut Random) -> Key {
+    let name_length = random.below(LONGEST_KEY_NAME + 1);
+    let data_length = random.pick(&[0, 1, 77, 599, 600]);
+    Key {
+        name: random.bytes(name_length),
+        data: random.bytes(data_length),
+        bits: random.word() as u16,
+        export_allowed: random.once_in(2),
+        verify_allowed: random.once_in(2),
+    }
+}
+
+/// How much a registry holds.
+#[derive(Clone, Copy, Debug, PartialEq, Eq)]
+pub enum Filling {
+    Empty,
+    NamesOnly,
+    /// Some names, some keys, and free slots anywhere.
+    Some,
+    /// Eight names of 64 bytes, and 32 keys of the longest name and data.
+    Full,
+}
+
+impl Filling {
+    pub const ALL: [Filling; 4] = [
+        Filling::Empty,
+        Filling::NamesOnly,
+        Filling::Some,
+        Filling::Full,
+    ];
+}
+
+/// A registry that the reference made of a roster, imports and destroys.
+pub fn registry(random: &mut Random, filling: Filling) -> Vec<u8> {
+    let count = match filling {
+        Filling::Empty => 0,
+        Filling::NamesOnly | Filling::Some => 1 + random.below(LINES),
+        Filling::Full => LINES,
+    };
+    let names: Vec<_> = (0..count)
+        .map(|line| {
+            let length = match filling {
+                Filling::Full => LONGEST_APPLICATION_NAME,
+                _ => random.pick(&[1, 2, 17, 63, 64]),
+            };
+            name(random, line, length)
+        })
+        .collect();
+    let stream: Vec<u8> = match filling {
+        Filling::Empty | Filling::NamesOnly => Vec::new(),
+        Filling::Some | Filling::Full => names
+            .iter()
+            .flat_map(|application| keys_of(random, application, filling))
+            .collect(),
+    };
+    let outcome = rules::run(&registry_of(&names), &stream);
+    assert_eq!(outcome.counters.refused, [0; 17], "all requests are served");
+    outcome.registry
+}
+
+/// The requests that fill an application's slots: four imports, and for holes some destroys.
+fn keys_of(random: &mut Random, application: &[u8], filling: Filling) -> Vec<u8> {
+    let mut keys: Vec<Key> = (0..SLOTS).map(|slot| key(random, slot)).collect();
+    if filling == Filling::Full {
+        for (slot, key) in keys.iter_mut().enumerate() {
+            key.name = name(random, slot, LONGEST_KEY_NAME);
+            key.data = random.bytes(LONGEST_DATA);
+        }
+    }
+    let mut stream = Vec::new();
+    for key in &keys {
+        stream.extend(request(IMPORT, Some(application), &import_body(key)));
+    }
+    for key in &keys {
+        if filling == Filling::Some && random.once_in(2) {
+            stream.extend(request(DESTROY, Some(application), &name_body(&key.name)));
+        }
+    }
+    stream
+}
+
+// ---- damage to a registry
+
+/// One change of registry memory. Some leave it well formed.
+#[derive(Clone, Copy, Debug, PartialEq, Eq)]
+pub enum Damage {
+    Byte { at: usize, value: u8 },
+    ApplicationNameLength { line: usize, value: u8 },
+    ApplicationNameByte { line: usize, value: u8 },
+    KeyNameLength { place: Place, value: u8 },
+    KeyNameByte { place: Place, value: u8 },
+    DataLength { place: Place, value: u16 },
+    Bits { place: Place, value: u16 },
+    ExportAllowed { place: Place, value: u8 },
+    VerifyAllowed { place: Place, value: u8 },
+    CopyApplicationName { from: usize, to: usize },
+    CopySlot { from: Place, to: Place },
+    CopyLine { from: usize, to: usize },
+    ClearSlot { place: Place },
+    ClearLine { line: usize },
+    Resize { size: usize },
+}
+
+pub fn place(random: &mut Random) -> Place {
+    Place {
+        line: random.below(LINES),
+        slot: random.below(SLOTS),
+    }
+}
+
+impl Damage {
+    pub fn generate(random: &mut Random) -> Damage {
+        let line = random.below(LINES);
+        let place = place(random);
+        let length = random.pick(&[0, 1, 2, 31, 32, 33, 63, 64, 65, 128, 255]);
+        let name_byte = random.pick(&[0, 0x20, 0x21, b'~', 0x7F, 0x80, 0xFF]);
+        let flag = random.pick(&[0, 0, 1, 1, 2, 0x80, 0xFF]);
+        match random.below(17) {
+            0 | 1 => Damage::Byte {
+                at: random.below(REGISTRY_SIZE),
+                value: random.byte(),
+            },
+            2 => Damage::ApplicationNameLength {
+                line,
+                value: length,
+            },
+            3 => Damage::ApplicationNameByte {
+                line,
+                value: name_byte,
+            },
+            4 => Damage::KeyNameLength {
+                place,
+                value: length,
+            },
+            5 => Damage::KeyNameByte {
+                place,
+                value: name_byte,
+            },
+            6 => Damage::DataLength {
+                place,
+                value: random.pick(&[0, 1, 255, 256, 599, 600, 601, 0x200, 0xFFFF]),
+            },
+            7 => Damage::Bits {
+                place,
+                value: random.pick(&[
+                    0, 1_016, 1_023, 1_024, 1_028, 1_032, 2_048, 4_095, 4_096, 4_104, 0xFFFF,
+                ]),
+            },
+            8 => Damage::ExportAllowed { place, value: flag },
+            9 => Damage::VerifyAllowed { place, value: flag },
+            10 => Damage::CopyApplicationName {
+                from: random.below(LINES),
+                to: line,
+            },
+            11 => Damage::CopySlot {
+                from: Place {
+                    line: place.line,
+                    slot: random.below(SLOTS),
+                },
+                to: place,
+            },
+            12 => Damage::CopySlot {
+                from: Place {
+                    line,
+                    slot: random.below(SLOTS),
+                },
+                to: place,
+            },
+            13 => Damage::CopyLine {
+                from: random.below(LINES),
+                to: line,
+            },
+            14 => Damage::ClearSlot { place },
+            15 => Damage::ClearLine { line },
+            _ => Damage::Resize {
+                size: random.pick(&[0, 1, 2_621, 20_967, 20_968, 20_969, 41_936]),
+            },
+        }
+    }
+
+    /// A registry of another size is only changed where it still has the bytes.
+    pub fn apply(self, registry: &mut Vec<u8>) {
+        let mut set = |at: usize, bytes: &[u8]| {
+            if let Some(part) = registry.get_mut(at..at + bytes.len()) {
+                part.copy_from_slice(bytes);
+            }
+        };
+        match self {
+            Damage::Byte { at, value } => set(at, &[value]),
+            Damage::ApplicationNameLength { line, value } => set(line_at(line), &[value]),
+            Damage::ApplicationNameByte { line, value } => set(line_at(line) + 1, &[value]),
+            Damage::KeyNameLength { place, value } => set(slot_at(place), &[value]),
+            Damage::KeyNameByte { place, value } => set(slot_at(place) + 1, &[value]),
+            Damage::DataLength { place, value } => {
+                set(slot_at(place) + DATA_LENGTH_AT, &value.to_le_bytes());
+            }
+            Damage::Bits { place, value } => set(slot_at(place) + BITS_AT, &value.to_le_bytes()),
+            Damage::ExportAllowed { place, value } => {
+                set(slot_at(place) + EXPORT_ALLOWED_AT, &[value]);
+            }
+            Damage::VerifyAllowed { place, value } => {
+                set(slot_at(place) + VERIFY_ALLOWED_AT, &[value]);
+            }
+            Damage::CopyApplicationName { from, to } => {
+                copy(registry, line_at(from), line_at(to), 65);
+            }
+            Damage::CopySlot { from, to } => {
+                copy(registry, slot_at(from), slot_at(to), SLOT_SIZE);
+            }
+            Damage::CopyLine { from, to } => {
+                copy(registry, line_at(from), line_at(to), LINE_SIZE);
+            }
+            Damage::ClearSlot { place } => set(slot_at(place), &[0; SLOT_SIZE]),
+            Damage::ClearLine { line } => set(line_at(line), &[0; LINE_SIZE]),
+            Damage::Resize { size } => registry.resize(size, 0),
+        }
+    }
+}
+
+fn copy(registry: &mut [u8], from: usize, to: usize, size: usize) {
+    if from.max(to) + size <= registry.len() {
+        registry.copy_within(from..from + size, to);
+    }
+}
+
+// ---- bodies
+
+/// A varint of exactly `length` bytes, up to ten, longer than needed if so asked.
+pub fn long_varint(value: u64, length: usize) -> Vec<u8> {
+    let mut bytes: Vec<u8> = (0..length)
+        .map(|place| (value >> (7 * place)) as u8 | 0x80)
+        .collect();
+    bytes[length - 1] &= 0x7F;
+    bytes
+}
+
+/// Most often the shortest varint.
+fn some_varint(random: &mut Random, value: u64) -> Vec<u8> {
+    let shortest = varint(value);
+    if random.once_in(4) {
+        let length = shortest.len() + random.below(11 - shortest.len());
+        return long_varint(value, length);
+    }
+    shortest
+}
+
+/// One field, listed or not, of any wire type; whole more often than not.
+fn field(random: &mut Random, kinds: &[u64]) -> Vec<u8> {
+    let listed = !kinds.is_empty() && !random.once_in(12);
+    let (number, wire) = if listed {
+        let place = random.below(kinds.len());
+        (place as u64 + 1, kinds[place])
+    } else {
+        let number = random.pick(&[
+            0,
+            1,
+            2,
+            3,
+            4,
+            5,
+            6,
+            16,
+            0x1FFF_FFFF,
+            0x2000_0000,
+            0x2000_0001,
+        ]);
+        (number, random.below(8) as u64)
+    };
+    let tag = some_varint(random, number << 3 | wire);
+    let content = match wire {
+        0 => {
+            let value = random.number();
+            some_varint(random, value)
+        }
+        1 => random.bytes(8),
+        2 => {
+            let length = random.pick(&[0, 1, 1, 2, 3, 32, 33, 127, 128, 600]);
+            let bytes = random.bytes(length);
+            // A length that is not theirs most often makes a cut field.
+            let length = match random.below(16) {
+                0 => random.number(),
+                _ => length as u64,
+            };
+            [some_varint(random, length), bytes].concat()
+        }
+        5 => random.bytes(4),
+        _ => Vec::new(),
+    };
+    [tag, content].concat()
+}
+
+/// A message whose fields number 1, 2, .. have these wire types, with slips now and then.
+pub fn message(random: &mut Random, wire_types: &[u64]) -> Vec<u8> {
+    let count = random.pick(&[0, 1, 1, 2, 3, 5, 7]);
+    (0..count).flat_map(|_| field(random, wire_types)).collect()
+}
+
+/// An Import that is allowed more often than not.
+pub fn import_message(random: &mut Random) -> Vec<u8> {
+    let key = key(random, 0);
+    let name = random.pick(&[key.name.clone(), key.name, vec![b'n'; 33], b"a b".to_vec()]);
+    let bits = random.pick(&[1_024, 2_048, 4_096, 1 << 32 | 2_048, 1_016, 1_028, 4_104]);
+    let flags = [random.number(), u64::from(key.export_allowed)];
+    let mut fields = vec![
+        bytes_field(1, &name),
+        bytes_field(2, &key.data),
+        [vec![0x18], some_varint(random, bits)].concat(),
+        [vec![0x20], some_varint(random, flags[0])].concat(),
+        [vec![0x28], some_varint(random, flags[1])].concat(),
+    ];
+    if random.once_in(4) {
+        fields.push(random.pick(&fields));
+    }
+    if random.once_in(4) {
+        fields.remove(random.below(5));
+    }
+    random.shuffle(&mut fields);
+    fields.concat()
+}
+
+/// Bytes with one change: a bit, a byte left out or put in, or the end cut off.
+pub fn mutated(random: &mut Random, mut bytes: Vec<u8>) -> Vec<u8> {
+    let at = random.below(bytes.len() + 1);
+    match random.below(4) {
+        0 if at < bytes.len() => bytes[at] ^= 1 << random.below(8),
+        1 if at < bytes.len() => {
+            bytes.remove(at);
+        }
+        2 => bytes.truncate(at),
+        _ => bytes.insert(at, random.byte()),
+    }
+    bytes
+}

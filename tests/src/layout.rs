@@ -1,0 +1,57 @@
+//! Where things lie in registry memory, by docs/LAYOUT.md.
+
+pub const LINES: usize = 8;
+pub const SLOTS: usize = 4;
+pub const LINE_SIZE: usize = 2_621;
+pub const SLOT_SIZE: usize = 639;
+
+// Offsets in a slot.
+pub const DATA_LENGTH_AT: usize = 33;
+pub const DATA_AT: usize = 35;
+pub const BITS_AT: usize = 635;
+pub const EXPORT_ALLOWED_AT: usize = 637;
+pub const VERIFY_ALLOWED_AT: usize = 638;
+
+pub const LONGEST_APPLICATION_NAME: usize = 64;
+pub const LONGEST_KEY_NAME: usize = 32;
+pub const LONGEST_DATA: usize = 600;
+
+/// A slot of a line.
+#[derive(Clone, Copy, Debug, PartialEq, Eq)]
+pub struct Place {
+    pub line: usize,
+    pub slot: usize,
+}
+
+impl Place {
+    pub fn all() -> impl Iterator<Item = Place> {
+        (0..LINES).flat_map(|line| (0..SLOTS).map(move |slot| Place { line, slot }))
+    }
+}
+
+/// What a slot holds.
+#[derive(Clone, Debug, PartialEq, Eq)]
+pub struct Key {
+    pub name: Vec<u8>,
+    pub data: Vec<u8>,
+    pub bits: u16,
+    pub export_allowed: bool,
+    pub verify_allowed: bool,
+}
+
+pub fn line_at(line: usize) -> usize {
+    line * LINE_SIZE
+}
+
+pub fn slot_at(place: Place) -> usize {
+    line_at(place.line) + 65 + place.slot * SLOT_SIZE
+}
+
+pub fn slot_bytes(registry: &[u8], place: Place) -> &[u8] {
+    &registry[slot_at(place)..][..SLOT_SIZE]
+}
+
+/// The name at the beginning of a line or a slot: a length, then so many bytes.
+pub fn name_at(registry: &[u8], at: usize) -> &[u8] {
+    &registry[at + 1..][..usize::from(registry[at])]
+}

@@ -1,0 +1,191 @@
+//! Plain answers for leaves that the reference has no public function for, from document 01's text
+//! and docs/LAYOUT.md.
+
+use crate::foreign::Schema;
+use crate::layout::*;
+
+// ---- "Operations and their fields", Reading
+
+/// "Varints take up to ten bytes, longer-than-needed forms are read, a tenth byte above 1 is not."
+pub fn read_varint(bytes: &[u8], at: usize) -> Option<(u64, usize)> {
+    let bytes = bytes.get(at..)?;
+    let last = bytes.iter().take(10).position(|&byte| byte < 0x80)?;
+    if last == 9 && bytes[9] > 1 {
+        return None;
+    }
+    let value = bytes[..=last]
+        .iter()
+        .rev()
+        .fold(0, |value: u64, &byte| value << 7 | u64::from(byte & 0x7F));
+    Some((value, at + last + 1))
+}
+
+#[derive(Clone, Copy, Debug, PartialEq, Eq)]
+enum Kind {
+    Bytes,
+    Uint32,
+    Bool,
+}
+
+/// The listed field numbers of a message, from 1.
+fn kinds(schema: Schema) -> &'static [Kind] {
+    match schema {
+        Schema::NoFields => &[],
+        Schema::ListOpcodes => &[Kind::Uint32],
+        Schema::Import => &[
+            Kind::Bytes,
+            Kind::Bytes,
+            Kind::Uint32,
+            Kind::Bool,
+            Kind::Bool,
+        ],
+        Schema::Name => &[Kind::Bytes],
+    }
+}
+
+/// What a field holds; an absent one is 0, false or empty.
+#[derive(Clone, Copy, Debug, Default, PartialEq, Eq)]
+pub struct Value<'a> {
+    pub bytes: &'a [u8],
+    pub number: u64,
+}
+
+/// The values of field numbers 1 to 5, or where the tag of the first unreadable field starts.
+pub fn read_body(body: &[u8], schema: Schema) -> Result<[Value<'_>; 5], usize> {
+    let mut values = [Value::default(); 5];
+    let mut at = 0;
+    while at < body.len() {
+        let (place, value, next) = read_field(body, at, kinds(schema)).ok_or(at)?;
+        values[place] = value;
+        at = next;
+    }
+    Ok(values)
+}
+
+/// The place of a listed field among the values, its value, and where the next one starts.
+fn read_field<'a>(body: &'a [u8], at: usize, kinds: &[Kind]) -> Option<(usize, Value<'a>, usize)> {
+    let (tag, content) = read_varint(body, at)?;
+    if tag > 0xFFFF_FFFF {
+        return None;
+    }
+    let place = usize::try_from(tag / 8).ok()?.checked_sub(1)?;
+    let (varint, behind) = read_varint(body, content)?;
+    let number = |number| (place, Value { number, bytes: &[] }, behind);
+    match (kinds.get(place)?, tag % 8) {
+        (Kind::Uint32, 0) => Some(number(varint & 0xFFFF_FFFF)),
+        (Kind::Bool, 0) => Some(number(u64::from(varint != 0))),
+        (Kind::Bytes, 2) => {
+            let end = behind.checked_add(usize::try_from(varint).ok()?)?;
+            let bytes = body.get(behind..end)?;
+            Some((place, Value { bytes, number: 0 }, end))
+        }
+        _ => None,
+    }
+}
+
+// ---- Writing: "shortest varints, zero values left out"
+
+pub fn varint(mut number: u64) -> Vec<u8> {
+    let mut bytes = Vec::new();
+    while number > 0x7F {
+        bytes.push(number as u8 | 0x80);
+        number >>= 7;
+    }
+    bytes.push(number as u8);
+    bytes
+}
+
+pub fn number_field(number: u64, value: u64) -> Vec<u8> {
+    match value {
+        0 => Vec::new(),
+        _ => [varint(number << 3), varint(value)].concat(),
+    }
+}
+
+pub fn bytes_field(number: u64, bytes: &[u8]) -> Vec<u8> {
+    match bytes {
+        [] => Vec::new(),
+        _ => [&varint(number << 3 | 2), &varint(bytes.len() as u64), bytes].concat(),
+    }
+}
+
+// ---- "Bytes on the wire"
+
+/// H, major, minor, provider, session, content type, accept type, auth type, C, A, opcode.
+pub fn read_header(bytes: &[u8]) -> Option<[u64; 11]> {
+    let mut rest = bytes.get(..28)?.iter().skip(4);
+    Some([2, 1, 1, 1, 8, 1, 1, 1, 4, 2, 2].map(|width| {
+        let field: Vec<_> = rest.by_ref().take(width).collect();
+        field
+            .into_iter()
+            .rfold(0, |number, &byte| number << 8 | u64::from(byte))
+    }))
+}
+
+pub fn response_header(
+    provider: u8,
+    session: u64,
+    content_length: u32,
+    opcode: u16,
+    status: u16,
+) -> Vec<u8> {
+    [
+        &0x5EC0_A710_u32.to_le_bytes()[..],
+        &20_u16.to_le_bytes(),
+        &[1, 0, provider],
+        &session.to_le_bytes(),
+        &[1],
+        &content_length.to_le_bytes(),
+        &opcode.to_le_bytes(),
+        &status.to_le_bytes(),
+    ]
+    .concat()
+}
+
+// ---- "Roster, registry, connection, tally"
+
+/// "a name not on the roster": an empty one is on none.
+pub fn find_application(registry: &[u8], name: &[u8]) -> Option<usize> {
+    (0..LINES).find(|&line| !name.is_empty() && name_at(registry, line_at(line)) == name)
+}
+
+/// The lowest-numbered slot of the line with this name; a free slot has the empty one.
+pub fn find_slot(registry: &[u8], line: usize, name: &[u8]) -> Option<usize> {
+    (0..SLOTS).find(|&slot| name_at(registry, slot_at(Place { line, slot })) == name)
+}
+
+/// A slot that holds this key, the unused bytes zero.
+pub fn slot_of(key: &Key) -> Vec<u8> {
+    let padded = |bytes: &[u8], size: usize| {
+        let mut bytes = bytes.to_vec();
+        bytes.resize(size, 0);
+        bytes
+    };
+    [
+        vec![key.name.len() as u8],
+        padded(&key.name, LONGEST_KEY_NAME),
+        (key.data.len() as u16).to_le_bytes().to_vec(),
+        padded(&key.data, LONGEST_DATA),
+        key.bits.to_le_bytes().to_vec(),
+        vec![key.export_allowed.into(), key.verify_allowed.into()],
+    ]
+    .concat()
+}
+
+pub fn data_in(slot: &[u8]) -> &[u8] {
+    let length = u16::from_le_bytes([slot[DATA_LENGTH_AT], slot[DATA_LENGTH_AT + 1]]);
+    &slot[DATA_AT..][..length.into()]
+}
+
+/// "Name 1 to 32 bytes, each 0x21 to 0x7E"
+pub fn key_name_is_legal(name: &[u8]) -> bool {
+    (1..=32).contains(&name.len()) && name.iter().all(|byte| (0x21..=0x7E).contains(byte))
+}
+
+/// "data 1 to 600 bytes, any content; bits 1,024 to 4,096 in multiples of 8; else 1135"
+pub fn import_allows(name: &[u8], data: &[u8], bits: u64) -> bool {
+    key_name_is_legal(name)
+        && (1..=600).contains(&data.len())
+        && (1_024..=4_096).contains(&bits)
+        && bits.is_multiple_of(8)
+}

@@ -1,0 +1,177 @@
+//! Message bodies: document 01, "Operations and their fields", Reading.
+
+use razidkot_tests::ask::{self, ask, import_body, registry_of, Answer};
+use razidkot_tests::foreign::{self, Schema, Value};
+use razidkot_tests::generate::{import_message, message, mutated, Random};
+use razidkot_tests::layout::{slot_bytes, Key, Place};
+use razidkot_tests::oracle;
+use razidkot_tests::run::{assert_agree, for_seeds, Outcomes};
+
+const APPLICATION: &[u8] = b"application";
+
+/// Does the leaf find the values, or the place of the first unreadable field, of the oracle?
+fn is_read_as_the_oracle_reads_it(body: &[u8], schema: Schema) -> bool {
+    match (
+        foreign::read_body(body, schema),
+        oracle::read_body(body, schema),
+    ) {
+        (Ok(values), Ok(expected)) => values.iter().zip(expected).all(|(value, expected)| {
+            bytes_of(body, value) == expected.bytes && value.number == expected.number
+        }),
+        (Err(place), Err(expected)) => place == expected,
+        _ => false,
+    }
+}
+
+fn bytes_of<'a>(body: &'a [u8], value: &Value) -> &'a [u8] {
+    &body[value.start..][..value.length]
+}
+
+/// A message of the schema, one with a slip, or any bytes.
+fn some_body(random: &mut Random, schema: Schema) -> Vec<u8> {
+    let wire_types: &[u64] = match schema {
+        Schema::NoFields => &[],
+        Schema::ListOpcodes => &[0],
+        Schema::Import => &[2, 2, 0, 0, 0],
+        Schema::Name => &[2],
+    };
+    match random.below(8) {
+        0 => {
+            let length = random.below(24);
+            random.bytes(length)
+        }
+        1 | 2 => {
+            let body = message(random, wire_types);
+            mutated(random, body)
+        }
+        3 if schema == Schema::Import => {
+            let body = import_message(random);
+            mutated(random, body)
+        }
+        4 | 5 if schema == Schema::Import => import_message(random),
+        _ => message(random, wire_types),
+    }
+}
+
+/// Runs both on so many bodies; `agrees` says whether the reference does as well.
+fn compare(schema: Schema, count: u64, agrees: impl Fn(&[u8]) -> bool) -> Outcomes {
+    let mut outcomes = Outcomes::default();
+    for_seeds(count, |random| {
+        let body = some_body(random, schema);
+        assert_agree(&body, |body| is_read_as_the_oracle_reads_it(body, schema));
+        assert_agree(&body, &agrees);
+        outcomes.count(foreign::read_body(&body, schema).is_ok());
+    });
+    outcomes
+}
+
+#[test]
+fn a_message_with_no_input_has_no_fields() {
+    let registry = registry_of(&[]);
+    let outcomes = compare(Schema::NoFields, 10_000, |body| {
+        let readable = foreign::read_body(body, Schema::NoFields).is_ok();
+        [ask::PING, ask::LIST_PROVIDERS].into_iter().all(|opcode| {
+            let status = ask(&registry, opcode, None, body).status;
+            (status != ask::DESERIALIZING_BODY_FAILED) == readable
+        })
+    });
+    outcomes.assert_often(&[true, false], 500);
+}
+
+#[test]
+fn list_opcodes_has_the_low_32_bits_of_its_provider() {
+    let registry = registry_of(&[]);
+    let outcomes = compare(Schema::ListOpcodes, 10_000, |body| {
+        let Answer {
+            status,
+            body: answer,
+            ..
+        } = ask(&registry, ask::LIST_OPCODES, None, body);
+        match foreign::read_body(body, Schema::ListOpcodes) {
+            Err(_) => status == ask::DESERIALIZING_BODY_FAILED,
+            Ok([provider, ..]) => match provider.number {
+                0 => answer == [0x0A, 3, 1, 8, 9],
+                1 => answer == [0x0A, 3, 3, 6, 7],
+                _ => status == ask::PROVIDER_DOES_NOT_EXIST,
+            },
+        }
+    });
+    outcomes.assert_often(&[true, false], 1_000);
+}
+
+#[test]
+fn an_import_has_the_last_of_each_of_its_five_fields() {
+    let registry = registry_of(&[APPLICATION.to_vec()]);
+    let allowed = std::cell::Cell::new(0);
+    let outcomes = compare(Schema::Import, 20_000, |body| {
+        let answer = ask(&registry, ask::IMPORT, Some(APPLICATION), body);
+        let Ok([name, data, bits, export_allowed, verify_allowed]) =
+            foreign::read_body(body, Schema::Import)
+        else {
+            return answer.status == ask::DESERIALIZING_BODY_FAILED;
+        };
+        let (name, data) = (bytes_of(body, &name), bytes_of(body, &data));
+        if !oracle::import_allows(name, data, bits.number) {
+            return answer.status == ask::INVALID_ARGUMENT;
+        }
+        allowed.set(allowed.get() + 1);
+        let key = Key {
+            name: name.to_vec(),
+            data: data.to_vec(),
+            bits: bits.number as u16,
+            export_allowed: export_allowed.number == 1,
+            verify_allowed: verify_allowed.number == 1,
+        };
+        let slot = slot_bytes(&answer.outcome.registry, Place { line: 0, slot: 0 });
+        answer.status == ask::SUCCESS && slot == oracle::slot_of(&key)
+    });
+    outcomes.assert_often(&[true, false], 3_000);
+    assert!(allowed.get() > 500, "{allowed:?}");
+}
+
+#[test]
+fn destroy_and_export_have_a_name() {
+    const NAMES: [&[u8]; 2] = [b"k", &[b'k'; 32]];
+    let mut registry = registry_of(&[APPLICATION.to_vec()]);
+    for (name, data) in NAMES.into_iter().zip([b"first", b"other"]) {
+        let key = Key {
+            name: name.to_vec(),
+            data: data.to_vec(),
+            bits: 2_048,
+            export_allowed: true,
+            verify_allowed: true,
+        };
+        registry = ask(
+            &registry,
+            ask::IMPORT,
+            Some(APPLICATION),
+            &import_body(&key),
+        )
+        .outcome
+        .registry;
+    }
+    let found = std::cell::Cell::new(0);
+    let agrees = |body: &[u8]| {
+        let expected = match foreign::read_body(body, Schema::Name) {
+            Err(_) => ask::DESERIALIZING_BODY_FAILED,
+            Ok([name, ..]) => match bytes_of(body, &name) {
+                name if NAMES.contains(&name) => ask::SUCCESS,
+                name if oracle::key_name_is_legal(name) => ask::DOES_NOT_EXIST,
+                _ => ask::INVALID_ARGUMENT,
+            },
+        };
+        found.set(found.get() + u32::from(expected == ask::SUCCESS));
+        [ask::DESTROY, ask::EXPORT]
+            .into_iter()
+            .all(|opcode| ask(&registry, opcode, Some(APPLICATION), body).status == expected)
+    };
+    let outcomes = compare(Schema::Name, 10_000, agrees);
+    outcomes.assert_often(&[true, false], 1_000);
+    // The generated names are seldom those of the keys.
+    for_seeds(1_000, |random| {
+        let name = random.pick(&NAMES);
+        let body = [message(random, &[2]), ask::name_body(name)].concat();
+        assert_agree(&body, agrees);
+    });
+    assert!(found.get() > 300, "{found:?}");
+}
