@@ -1,10 +1,12 @@
 // Names: which are legal, and where one stands among blocks that begin with names.
+use wire::bytes::equal;
 ghost use mathlib.Core.Path.{_≡_};
+ghost use mathlib.Core.Bool.{not};
 ghost use Prim.Native.Nat.{_+_, _*_, _≤_, _<_};
 ghost use lib.Dec.{eqb};
 ghost use lib.ListN.{length, drop};
 ghost use Rattle.wire.specs.Lists.{all};
-ghost use Rattle.registry.specs.Names.{isNameByte, legalName, indexFrom, distinct};
+ghost use Rattle.registry.specs.Names.{isNameByte, legalName, indexFrom, absent, distinct};
 ghost use Rattle.registry.specs.Check.{blockNames};
 
 pub fn wide(x: u8) -> usize
@@ -82,6 +84,24 @@ pub fn scan(s: &[u8], head: usize, size: usize, count: usize, from: usize, name:
     n
 }
 
+// Whether one of the blocks from `from` on has the name.
+fn is_among(s: &[u8], head: usize, size: usize, count: usize, from: usize, name: &[u8]) -> bool
+    requires { ⌜ (length (now s) ≡ head + count * size) × (256 ≤ size) × (from ≤ count) ⌝ }
+    ensures { λ r. ⌜ r ≡ not (absent (now (name .entry)) (drop from (blockNames head size count (now (s .entry))))) ⌝ }
+{
+    let mut i = from;
+    while i < count {
+        let at = head + i * size;
+        let begin = at + 1;
+        let end = begin + wide(s[at]);
+        if equal(name, &s[begin..end]) {
+            return true;
+        }
+        i += 1;
+    }
+    false
+}
+
 // Whether no name but the empty one stands twice.
 pub fn are_distinct(s: &[u8], head: usize, size: usize, count: usize) -> bool
     requires { ⌜ (length (now s) ≡ head + count * size) × (256 ≤ size) ⌝ }
@@ -95,7 +115,7 @@ pub fn are_distinct(s: &[u8], head: usize, size: usize, count: usize) -> bool
         let end = begin + n;
         i += 1;
         if n != 0 {
-            if scan(s, head, size, count, i, &s[begin..end]) < count {
+            if is_among(s, head, size, count, i, &s[begin..end]) {
                 return false;
             }
         }

@@ -1,12 +1,12 @@
 -- `registry::names::are_distinct` meets its contract.
-use Rattle.registry.specs.Names.{nameIn, indexFrom, absent, distinct}
+use Rattle.registry.specs.Names.{nameIn, absent, distinct}
 use Rattle.registry.specs.Check.{blockNames}
-use Rattle.registry.proofs.NameLaws.{index-found, index-none, lone, lone-empty, lone-named}
-use Rattle.registry.proofs.BlockNameLaws.{fits, blockAt, name-at, name-length, distinct-pass, distinct-fail, distinct-end, length-rest}
+use Rattle.registry.proofs.NameLaws.{lone, lone-empty, lone-named}
+use Rattle.registry.proofs.BlockNameLaws.{fits, blockAt, name-at, name-length, distinct-pass, distinct-fail, distinct-end}
 use mathlib.Core.Path.{_≡_, refl, sym, ap, _∙_, subst}
 use mathlib.Core.List.{List, [], _∷_, _++_}
 use mathlib.Core.Logic.{⊎-elim}
-use mathlib.Core.Bool.{Bool, true, false, cond, _&&_, _||_}
+use mathlib.Core.Bool.{true, false, not}
 use Prim.Native.Nat.{ℕ, zero, suc, _+_, _*_, _-_, _≤_, _<_}
 use native.Mathlib.Numerals.{add-one}
 use native.Mathlib.Omega.{arith}
@@ -64,22 +64,18 @@ long c =
     let a = start (in-loop c) .args in
     name-length (a .size) (bytes c) (at (in-loop c)) (omega arith) (room (in-loop c)) (byte c) ∙ sym (c .wide .ensures .0)
 
--- the scan was for the name of this block
-scanned : (c : tie.After-scan Inv-loop μ-loop) → let w = c .before .before .before in c .scan .result ≡ indexFrom (there w) (rest w) (i (in-loop w) + 1)
-scanned c =
+-- the search was for the name of this block
+searched : (c : tie.After-is-among Inv-loop μ-loop) → let w = c .before .before .before in c .is-among .result ≡ not (absent (there w) (rest w))
+searched c =
     let w = c .before .before .before in
     let a = start (in-loop w) .args in
     let part : take (at (in-loop w) + 1 + w .wide .result - (at (in-loop w) + 1)) (drop (at (in-loop w) + 1) (bytes w)) ≡ there w =
     ap (λ (n : ℕ). take (at (in-loop w) + 1 + n - (at (in-loop w) + 1)) (drop (at (in-loop w) + 1) (bytes w))) (w .wide .ensures .0)
     ∙ sym (name-at (a .size) (bytes w) (at (in-loop w)) (omega arith) (byte w)) in
-    c .scan .ensures ∙ ap (λ (x : List ℕ). indexFrom x (rest w) (i (in-loop w) + 1)) part
+    c .is-among .ensures ∙ ap (λ (x : List ℕ). not (absent x (rest w))) part
 
 named : (c : tie.Then1 Inv-loop μ-loop) → lone (there (c .before)) (rest (c .before)) ≡ absent (there (c .before)) (rest (c .before))
 named c = lone-named (there (c .before)) (rest (c .before)) (λ e. c .if1 .taken (sym (long (c .before)) ∙ e))
-
--- behind the last
-count-rest : (c : After-wide) → let a = start (in-loop c) .args in i (in-loop c) + 1 + length (rest c) ≡ a .count
-count-rest c = let a = start (in-loop c) .args in length-rest (a .head) (a .size) (a .count) (bytes c) (i (in-loop c)) (in-loop c .loop-test .taken)
 
 again : (c : After-wide) → lone (there c) (rest c) ≡ true → let a = start (in-loop c) .args in distinct (blockNames (a .head) (a .size) (a .count) (bytes c)) ≡ distinct (rest c)
 again c e = let a = start (in-loop c) .args in in-loop c .before .loop .inv .1 ∙ distinct-pass (a .head) (a .size) (a .count) (bytes c) (i (in-loop c)) (in-loop c .loop-test .taken) e
@@ -108,24 +104,24 @@ add-end c = omega (arith, within c)
 add-i : tie.Need-add-i Inv-loop μ-loop
 add-i c = search needs
 
-sub-scan : tie.Need-sub-scan Inv-loop μ-loop
-sub-scan c = search needs
+sub-is-among : tie.Need-sub-is-among Inv-loop μ-loop
+sub-is-among c = search needs
 
-part-scan-start : tie.Need-part-scan-start Inv-loop μ-loop
-part-scan-start c = search needs
+part-is-among-start : tie.Need-part-is-among-start Inv-loop μ-loop
+part-is-among-start c = search needs
 
-part-scan-end : tie.Need-part-scan-end Inv-loop μ-loop
-part-scan-end c = omega (arith, within (c .before))
+part-is-among-end : tie.Need-part-is-among-end Inv-loop μ-loop
+part-is-among-end c = omega (arith, within (c .before))
 
-scan-requires : tie.Need-scan-requires Inv-loop μ-loop
-scan-requires c κs = search needs
+is-among-requires : tie.Need-is-among-requires Inv-loop μ-loop
+is-among-requires c κs = search needs
 
 returns : tie.Need-returns Inv-loop μ-loop
 returns c =
     let w = c .before .before .before .before in
     let a = start (in-loop w) .args in
-    let less : indexFrom (there w) (rest w) (i (in-loop w) + 1) < i (in-loop w) + 1 + length (rest w) = rw (← scanned (c .before), count-rest w) (c .if2 .taken) in
-    sym (in-loop w .before .loop .inv .1 ∙ distinct-fail (a .head) (a .size) (a .count) (bytes w) (i (in-loop w)) (in-loop w .loop-test .taken) (named (c .before .before .before) ∙ index-found (there w) (rest w) (i (in-loop w) + 1) less))
+    let found : absent (there w) (rest w) ≡ false = not-true _ (sym (searched (c .before)) ∙ c .if2 .taken) in
+    sym (in-loop w .before .loop .inv .1 ∙ distinct-fail (a .head) (a .size) (a .count) (bytes w) (i (in-loop w)) (in-loop w .loop-test .taken) (named (c .before .before .before) ∙ found))
 
 loop-less : tie.Need-loop-less Inv-loop μ-loop
 loop-less c = search needs
@@ -133,8 +129,8 @@ loop-less c = search needs
 loop-again : tie.Need-loop-again Inv-loop μ-loop
 loop-again c =
     let w = c .before .before .before .before in
-    let more : i (in-loop w) + 1 + length (rest w) ≤ indexFrom (there w) (rest w) (i (in-loop w) + 1) = rw (← scanned (c .before), count-rest w) (c .if2 .left) in
-    (search needs, again w (named (c .before .before .before) ∙ index-none (there w) (rest w) (i (in-loop w) + 1) more))
+    let none : absent (there w) (rest w) ≡ true = not-false _ (sym (searched (c .before)) ∙ c .if2 .left) in
+    (search needs, again w (named (c .before .before .before) ∙ none))
 
 loop-less-2 : tie.Need-loop-less-2 Inv-loop μ-loop
 loop-less-2 c = search needs
@@ -163,10 +159,10 @@ are-distinct-spec =
     add-begin
     add-end
     add-i
-    sub-scan
-    part-scan-start
-    part-scan-end
-    scan-requires
+    sub-is-among
+    part-is-among-start
+    part-is-among-end
+    is-among-requires
     returns
     loop-less
     loop-again
