@@ -6,3 +6,5 @@ pub mod JudgementLaws
 pub mod ResponseLaws
 pub mod CallLaws
 pub mod Demand3
+pub mod OutputLaws
+pub mod AnswerLaws
