@@ -7,5 +7,7 @@ pub mod ResponseLaws
 pub mod CallLaws
 pub mod CountingLaws
 pub mod Demand3
-pub mod OrderLaws
+pub mod AnswerLaws
 pub mod DecidedLaws
+pub mod OrderLaws
+pub mod OutputLaws

@@ -29,8 +29,8 @@ ghost use mathlib.Core.Bool.{true, false};
 ghost use mathlib.Core.List.{List, []};
 ghost use mathlib.Core.Path.{_≡_};
 ghost use Prim.Native.Nat.{ℕ, _≤_, _<_};
-ghost use lib.ListN.{length, take};
-ghost use Rattle.wire.specs.Request.{headerLength, requestLength};
+ghost use lib.ListN.{length};
+ghost use Rattle.wire.specs.Request.{requestLength};
 ghost use Rattle.wire.specs.Response.{responseBytes};
 ghost use Rattle.wire.specs.Wrote.{Wrote};
 ghost use Rattle.stream.specs.Frame.{legalStart, oversized};
@@ -39,8 +39,8 @@ ghost use Rattle.registry.specs.Registry.{lineCount, registrySize, slotsOf, cha
 ghost use Rattle.registry.specs.WellFormed.{wellFormedRegistry};
 ghost use Rattle.service.specs.Status.{statusNumber};
 ghost use Rattle.service.specs.Judgement.{judgement};
-ghost use Rattle.service.specs.Decided.{SafeOutput, SafeEdit, outputBytes, changeOf};
-ghost use Rattle.service.specs.Answers.{AnsweredBy};
+ghost use Rattle.service.specs.Decided.{SafeOutput, SafeEdit, outputBytes, changeOf, Decided};
+ghost use Rattle.service.specs.Answers.{AnsweredBy, PassedHeader, resultForNamed, resultForNobody, ResultAnswered};
 
 // How long a response's body is.
 fn output_size(registry: &[u8], line: Line, output: Output) -> usize
@@ -170,7 +170,10 @@ fn refuse(out: &mut [u8], h: Header, status: Status) -> Answered
 }
 
 // What the operation comes to for an application: core for provider 0, keystore for provider 1.
-fn decide(h: Header, body: &[u8], registry: &[u8], line: Line) -> Decision {
+fn decide(h: Header, body: &[u8], registry: &[u8], line: Line) -> Decision
+    requires { ⌜ PassedHeader h × (wellFormedRegistry (now registry) ≡ true) × (line .0 < lineCount) ⌝ }
+    ensures { λ r. ⌜ Decided (slotsOf (now (registry .entry)) line) (now (body .entry)) (resultForNamed h (now (body .entry)) (now (registry .entry)) line) r ⌝ }
+{
     if h.provider == 0 {
         return perform_core(h.opcode, body);
     }
@@ -178,13 +181,11 @@ fn decide(h: Header, body: &[u8], registry: &[u8], line: Line) -> Decision {
 }
 
 // A request whose header and auth bytes have passed, answered for an application.
-fn answer_named(
-    out: &mut [u8],
-    h: Header,
-    body: &[u8],
-    registry: &mut [u8],
-    line: Line,
-) -> Answered {
+fn answer_named(out: &mut [u8], h: Header, body: &[u8], registry: &mut [u8], line: Line) -> Answered
+    requires { ⌜ PassedHeader h × (wellFormedRegistry (now registry) ≡ true) × (line .0 < lineCount) × (1024 ≤ length (now out)) ⌝ }
+    ensures { λ r. ⌜ ResultAnswered h (resultForNamed h (now (body .entry)) (now (registry .entry)) line) (Asker.Named line) (now (out .entry)) (now (out .exit)) r ⌝ }
+    ensures { λ _. ⌜ now (registry .exit) ≡ changed (now (registry .entry)) line (resultForNamed h (now (body .entry)) (now (registry .entry)) line .change) ⌝ }
+{
     let d = decide(h, body, registry, line);
     let status = d.status;
     let output = d.output;
@@ -198,7 +199,10 @@ fn answer_named(
 }
 
 // The same for nobody that is named: the keystore is not for them.
-fn answer_nobody(out: &mut [u8], h: Header, body: &[u8], registry: &[u8]) -> Answered {
+fn answer_nobody(out: &mut [u8], h: Header, body: &[u8], registry: &[u8]) -> Answered
+    requires { ⌜ PassedHeader h × (wellFormedRegistry (now registry) ≡ true) × (1024 ≤ length (now out)) ⌝ }
+    ensures { λ r. ⌜ ResultAnswered h (resultForNobody h (now (body .entry))) Asker.Nobody (now (out .entry)) (now (out .exit)) r ⌝ }
+{
     if h.provider == 1 {
         return refuse(out, h, Status::NotAuthenticated);
     }
