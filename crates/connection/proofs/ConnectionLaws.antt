@@ -1,14 +1,14 @@
 -- A well-formed connection that is stored is well formed in memory, and loaded again it is the same.
-use mathlib.Core.Path.{_≡_, refl, sym, ap, _∙_}
+use mathlib.Core.Path.{_≡_, refl, ap}
 use Prim.Native.Nat.{ℕ, _+_, _-_, _≤_}
-use mathlib.Core.Bool.{Bool, true, true≢false, _&&_}
+use mathlib.Core.Bool.{true, _&&_}
 use mathlib.Core.List.{List, [], _∷_}
 use native.Mathlib.Omega.{arith}
 use lib.ListN.{length, drop, replicate, replicate-append-replicate}
 use lib.Seq.{take-append-seam, drop-at}
 use lib.Dec.{leb, ltb, eqb}
 use borrow.Author.Tests.{leb-true, eqb-true, eq-eqb, ltb-false}
-use Rattle.wire.specs.Lists.{same, padded}
+use Rattle.wire.specs.Lists.{padded}
 use Rattle.wire.specs.Numbers.{littleEndianOf, field}
 use Rattle.wire.specs.Request.{magicNumber, magic, headerSize, contentLength, authLength, headerLength}
 use Rattle.wire.proofs.TestLaws.{and-left, and-right, or-left, or-right}

@@ -1,7 +1,7 @@
 -- What is wanted of a request that has begun, and what its bytes then are.
-use mathlib.Core.Path.{_≡_, refl, sym, ap, ap₂, _∙_}
+use mathlib.Core.Path.{_≡_, sym, ap, ap₂, _∙_}
 use Prim.Native.Nat.{ℕ, _+_, _-_, _≤_, _<_}
-use mathlib.Core.Bool.{Bool, true, false, true≢false}
+use mathlib.Core.Bool.{true, false, true≢false}
 use mathlib.Core.List.{List, [], _++_, append-assoc, append-nil}
 use native.Mathlib.Omega.{arith}
 use borrow.Author.Tests.{lt-ltb, le-ltb, ltb-false}
@@ -10,8 +10,8 @@ use lib.ListN.{length, take, drop, replicate, length-append, length-drop}
 use lib.Seq.{take-all, take-add, take-append-seam, length-take-le}
 use Rattle.wire.specs.Request.{headerSize, contentLength, authLength, headerLength, requestLength}
 use Rattle.wire.proofs.TestLaws.{or-left, or-right}
-use Rattle.stream.specs.Frame.{headerMost, contentMost, authMost, legalStart, oversized, unfinished, badStart, skipped, whole, next}
-use Rattle.stream.proofs.FrameLaws.{Unfinished, short, inHeader, inBody, legal-size, legalStart-append, headerSize-append, requestLength-append, oversized-append, next-short}
+use Rattle.stream.specs.Frame.{contentMost, authMost, legalStart, oversized, unfinished, badStart, skipped, whole, next}
+use Rattle.stream.proofs.FrameLaws.{Unfinished, short, inHeader, inBody, legal-size, legalStart-append, headerSize-append, requestLength-append, oversized-append}
 use Rattle.stream.proofs.ChunkLaws.{unfinished-held, bad-found, whole-found, skipped-found}
 use Rattle.stream.specs.Rules.{opened}
 use Rattle.connection.specs.Connection.{heldMost, connectionSize, connectionBytes}

@@ -4,7 +4,6 @@ use native.Mathlib.Omega.{arith}
 use mathlib.Core.Path.{_≡_}
 use mathlib.Core.List.{List}
 use lib.ListN.{length}
-use Rattle.wire.specs.Scan.{Turn, scanAt}
 use Rattle.protobuf.specs.Message.{stepAt, allAbsent}
 use Rattle.protobuf.specs.Body.{turnOf, turnAt, bodyAt, bodyOf}
 use Rattle.protobuf.specs.declared.message.Schema.{Schema}

@@ -1,13 +1,10 @@
 -- Whatever is read at a position ends behind it, and it and its bytes are within the body.
 use Prim.Native.Nat.{ℕ, zero, suc, _+_, _-_, _/_, _%_, _^_, _≤_, _<_}
 use native.Mathlib.Omega.{arith}
-use mathlib.Core.Path.{_≡_, refl}
 use mathlib.Core.List.{List}
-use mathlib.Core.Bool.{Bool, true, false}
 use lib.ListN.{length, getD}
 use lib.Dec.{ltb, leb, eqb}
 use borrow.Author.Tests.{ltb-true, leb-true}
-use Rattle.wire.specs.Choice.{if_then_else_}
 use Rattle.protobuf.specs.Varint.{below, varintOf, varintAt}
 use Rattle.protobuf.specs.Field.{varintThen, numberAt, fixedAt, spanAt, contentAt, fieldAt}
 use Rattle.protobuf.specs.declared.varint.Varint.{Varint}

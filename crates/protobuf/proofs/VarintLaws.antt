@@ -1,9 +1,9 @@
 -- Laws of `varintOf`, and of the sum that `read_varint` keeps while it reads.
-use Prim.Native.Nat.{ℕ, zero, suc, _+_, _-_, _*_, _^_, _≤_, _<_, zero-le}
-use native.Mathlib.Nat.{mul-one, zero-add, add-mul, mul-assoc, mul-comm, pow-suc, mul-le-mul-right, le-mul-of-pos-right, one-le-pow}
+use Prim.Native.Nat.{ℕ, zero, suc, _+_, _-_, _*_, _^_, _≤_, _<_}
+use native.Mathlib.Nat.{add-mul, mul-assoc, mul-comm, pow-suc, mul-le-mul-right, le-mul-of-pos-right, one-le-pow}
 use native.Mathlib.Omega.{arith}
-use native.Mathlib.Numerals.{add-one, sub-one}
-use mathlib.Core.Path.{_≡_, refl, ap, sym, _∙_}
+use native.Mathlib.Numerals.{sub-one}
+use mathlib.Core.Path.{_≡_, refl, ap}
 use mathlib.Core.List.{List}
 use lib.ListN.{length, getD}
 use lib.Dec.{lit<}

@@ -1,15 +1,15 @@
 -- A slot that is filled or cleared is read as the key, or as free, and every other slot of every line stays.
-use mathlib.Core.Path.{_≡_, refl, sym, ap, _∙_}
+use mathlib.Core.Path.{_≡_, sym, ap, _∙_}
 use mathlib.Core.Logic.{_⊎_, inl, inr, ⊎-elim}
 use mathlib.Core.List.{List, []}
-use Prim.Native.Nat.{ℕ, _+_, _*_, _≤_, _<_}
+use Prim.Native.Nat.{ℕ, _+_, _≤_, _<_}
 use native.Mathlib.Decide.{decLt}
 use native.Mathlib.Omega.{arith}
 use lib.ListN.{length, take, drop, getD, length-replicate}
 use Rattle.wire.specs.Lists.{put}
 use Rattle.wire.proofs.PutLaws.{part-put, part-before, part-behind}
-use Rattle.registry.specs.Slots.{Key, Entry, free, held, keyNameMost, dataMost, keyBytes, slotBytes, slotOf, slotSize}
-use Rattle.registry.specs.Registry.{lineCount, slotCount, lineHead, lineSize, registrySize, slotsOf, fill, clear, place, changed}
+use Rattle.registry.specs.Slots.{Key, free, held, keyNameMost, keyBytes, slotBytes, slotOf, slotSize}
+use Rattle.registry.specs.Registry.{lineCount, slotCount, registrySize, slotsOf, fill, clear, place, changed}
 use Rattle.registry.specs.declared.Line.{Line}
 use Rattle.registry.specs.declared.Slot.{Slot}
 use Rattle.registry.proofs.SlotLaws.{Legal, key-length, short-name, short-data, slot-back}

@@ -1,12 +1,11 @@
 -- What a scan's answer says of an application and of a slot.
-use mathlib.Core.Path.{_≡_, refl, sym, ap, _∙_}
+use mathlib.Core.Path.{_≡_, sym, ap, _∙_}
 use mathlib.Core.List.{List, map}
 use Prim.Native.Nat.{ℕ, _≤_, _<_}
 use borrow.Author.Tests.{lt-ltb, le-ltb}
-use lib.ListN.{length, drop}
-use Rattle.wire.specs.Choice.{if_then_else_}
+use lib.ListN.{length}
 use Rattle.registry.specs.Names.{indexFrom}
-use Rattle.registry.specs.Slots.{nameOf, slotOf, slotSize}
+use Rattle.registry.specs.Slots.{nameOf, slotSize}
 use Rattle.registry.specs.Registry.{lineCount, slotCount, lineHead, lineSize, slotsIn, applicationNamed, lineAt, slotsOf, slotNamed}
 use Rattle.registry.specs.Check.{blockNames, applicationFound}
 use Rattle.registry.specs.declared.Line.{Line}

@@ -1,5 +1,5 @@
 -- Laws of names: where one is found, and that another name put into a list of distinct ones keeps them distinct.
-use mathlib.Core.Path.{_≡_, refl, sym, ap, ap₂, _∙_}
+use mathlib.Core.Path.{_≡_, refl, sym, ap₂, _∙_}
 use mathlib.Core.Bool.{Bool, true, false, not, _&&_}
 use mathlib.Core.List.{List, [], _∷_, _++_}
 use Prim.Native.Nat.{ℕ, zero, suc, _+_, _-_, _≤_, _<_}
@@ -8,7 +8,7 @@ use borrow.Author.Tests.{leb-true, ne-eqb}
 use lib.ListN.{length, getD, set}
 use lib.Dec.{leb, eqb}
 use Rattle.wire.specs.Choice.{if_then_else_}
-use Rattle.wire.specs.Lists.{all, every, same}
+use Rattle.wire.specs.Lists.{all, same}
 use Rattle.wire.proofs.TestLaws.{and-left, and-right, every-at, not-true}
 use Rattle.wire.proofs.ListLaws.{same-comm, all-append, all-set}
 use Rattle.registry.specs.Names.{isNameByte, legalName, indexFrom, absent, distinct}

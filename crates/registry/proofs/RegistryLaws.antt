@@ -10,7 +10,7 @@ use lib.ListN.{length, take, drop, getD, length-map}
 use lib.Seq.{drop-drop}
 use lib.Dec.{ltb}
 use Rattle.wire.specs.Choice.{if_then_else_}
-use Rattle.wire.specs.Lists.{same, blocks}
+use Rattle.wire.specs.Lists.{same}
 use Rattle.wire.proofs.TestLaws.{and-left, and-right, some≢none}
 use Rattle.wire.proofs.ListLaws.{part-of-part, same-true}
 use Rattle.wire.proofs.BlockLaws.{length-blocks, block-at}

@@ -9,10 +9,9 @@ use native.Mathlib.Omega.{arith}
 use borrow.Author.Tests.{ne-eqb, leb-false}
 use lib.ListN.{length, take, drop, replicate, length-append, length-replicate, length-map, replicate-append-replicate}
 use lib.Seq.{take-at, drop-at, take-append-seam, drop-append-seam, drop-drop}
-use lib.Dec.{leb, eqb}
+use lib.Dec.{eqb}
 use Rattle.wire.specs.Choice.{if_then_else_, firstOf}
 use Rattle.wire.specs.Lists.{all, isZero, same, padded, blocks}
-use Rattle.wire.specs.Scan.{Turn, on, out}
 use Rattle.wire.proofs.TestLaws.{and-left, and-right, not-false, none-first, some≢none}
 use Rattle.wire.proofs.ListLaws.{all-append, all-zeros, length-padded}
 use Rattle.wire.proofs.BlockLaws.{Sized, length-flatten, blocks-flatten, zero-blocks}
@@ -20,11 +19,11 @@ use Rattle.wire.proofs.ScanLaws.{TurnHas, scan-has}
 use Rattle.registry.specs.Names.{legalName, nameIn, absent, distinct}
 use Rattle.registry.specs.Slots.{slotSize}
 use Rattle.registry.specs.Registry.{lineCount, slotCount, applicationNameMost, lineHead, lineSize, registrySize, linesIn, namesIn, slotsIn, lineOf, registryOf}
-use Rattle.registry.specs.WellFormed.{isUsed, noneUsed, usedFirst, legalIfUsed, freeIfUnused, slotsWellFormed, zerosBehindName, keysDistinct, wellFormedRegistry}
-use Rattle.registry.specs.Roster.{recordLength, valueIn, recordFaults, Roster, applications, faulty, recordTurn, rosterOf, RosterOutcome, rosterInto, loadRoster}
+use Rattle.registry.specs.WellFormed.{isUsed, noneUsed, usedFirst, zerosBehindName, wellFormedRegistry}
+use Rattle.registry.specs.Roster.{valueIn, recordFaults, Roster, applications, faulty, recordTurn, rosterOf, RosterOutcome, rosterInto, loadRoster}
 use Rattle.registry.specs.declared.RosterFault.{RosterFault}
 use Rattle.registry.specs.declared.RosterFault.the-variants.{WrongMemorySize}
-use Rattle.registry.proofs.NameLaws.{legal-some, legal-short, lone, distinct-cons, apart-absent, distinct-snoc, distinct-empty}
+use Rattle.registry.proofs.NameLaws.{legal-some, legal-short, lone, distinct-cons, apart-absent, distinct-snoc}
 use Rattle.registry.proofs.WellFormedLaws.{Lines, well-of, zeros-good, zeros-distinct, zero-lines}
 
 -- ---- what reading a roster collects: at most eight legal, distinct names

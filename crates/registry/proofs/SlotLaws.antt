@@ -2,7 +2,7 @@
 use mathlib.Core.Path.{_≡_, refl, sym, ap, _∙_}
 use mathlib.Core.Bool.{Bool, true, false, _||_}
 use mathlib.Core.List.{List, [], _∷_, _++_, append-assoc}
-use Prim.Native.Nat.{ℕ, zero, suc, _+_, _-_, _≤_, _<_, min}
+use Prim.Native.Nat.{ℕ, zero, suc, _+_, _-_, _≤_, _<_}
 use native.Mathlib.Omega.{arith}
 use borrow.Author.Tests.{ne-eqb, eqb-false, leb-true, le-leb, lt-leb}
 use lib.ListN.{length, take, drop, getD, replicate, length-append, length-replicate, length-take, length-drop}
@@ -16,7 +16,7 @@ use Rattle.wire.proofs.ListLaws.{all-zeros, length-padded}
 use Rattle.wire.proofs.NumberLaws.{length-number, field-back}
 use Rattle.registry.specs.Names.{legalName, nameIn}
 use Rattle.registry.specs.Slots.{Key, Entry, free, held, nameOf, keyNameMost, dataMost, legalData, legalBits, dataLengthAt, dataAt, bitsAt, exportAt, verifyAt, slotSize, flag, keyBytes, slotBytes, dataIn, keyIn, slotOf, behindName, behindData, keyTests, wellFormedSlot}
-use Rattle.registry.proofs.NameLaws.{legal-some, legal-short}
+use Rattle.registry.proofs.NameLaws.{legal-short}
 
 -- ---- what bytes stand for
 

@@ -1,20 +1,20 @@
 -- A well-formed registry stays so when a slot of a used line is filled with a legal key, or cleared.
 use mathlib.Core.Path.{_≡_, refl, sym, ap, ap₂, _∙_, subst}
-use mathlib.Core.Bool.{Bool, true, false, not, _&&_, _||_}
-use mathlib.Core.List.{List, [], _∷_, _++_, map}
+use mathlib.Core.Bool.{Bool, true, not, _&&_, _||_}
+use mathlib.Core.List.{List, [], _∷_, map}
 use Prim.Native.Nat.{ℕ, zero, suc, _+_, _-_, _*_, _≤_, _<_, min}
 use native.Mathlib.Omega.{arith}
-use borrow.Author.Tests.{eqb-true, eq-eqb, leb-true}
+use borrow.Author.Tests.{eqb-true, eq-eqb}
 use lib.ListN.{length, take, drop, getD, set, length-take, length-drop, List·getD-map, length-map}
 use lib.Seq.{getD-take, map-set-same, length-take-le, drop-drop}
-use lib.Dec.{leb, eqb}
+use lib.Dec.{eqb}
 use Rattle.wire.specs.Lists.{all, isZero, put, blocks}
 use Rattle.wire.proofs.TestLaws.{and-left, and-right, every-at}
 use Rattle.wire.proofs.ListLaws.{part-of-part, all-at, all-set, all-take, all-drop, zero-at, map-set}
 use Rattle.wire.proofs.PutLaws.{length-put, take-put, drop-put}
 use Rattle.wire.proofs.BlockLaws.{length-blocks, block-at, all-block, zero-blocks, blocks-put, blocks-put-whole}
 use Rattle.registry.specs.Names.{legalName, nameIn, absent, distinct}
-use Rattle.registry.specs.Slots.{Key, Entry, free, nameOf, keyBytes, slotBytes, slotOf, slotSize, behindName, wellFormedSlot}
+use Rattle.registry.specs.Slots.{Key, Entry, free, keyBytes, slotBytes, slotOf, slotSize, wellFormedSlot}
 use Rattle.registry.specs.Registry.{lineCount, slotCount, applicationNameMost, lineHead, lineSize, registrySize, linesIn, namesIn, slotsIn, lineAt, slotsOf, slotNamed, Change, unchanged, fill, clear, place, changed}
 use Rattle.registry.specs.WellFormed.{isUsed, noneUsed, usedFirst, legalIfUsed, freeIfUnused, slotsWellFormed, zerosBehindName, keysDistinct, registryTests, wellFormedRegistry}
 use Rattle.registry.specs.declared.Line.{Line}
@@ -22,7 +22,7 @@ use Rattle.registry.specs.declared.Slot.{Slot}
 use Rattle.registry.specs.declared.Found.the-variants.{At, Nothing}
 use Rattle.registry.proofs.NameLaws.{legal-short, lone, lone-absent, Apart, apart-empty, apart-absent, distinct-set, distinct-empty}
 use Rattle.registry.proofs.SlotLaws.{Legal, ShortEntry, entry-short, free-good, key-good, key-length, key-name}
-use Rattle.registry.proofs.RegistryLaws.{Used, length-slots, found-below, found-none, slot-names, slot-there}
+use Rattle.registry.proofs.RegistryLaws.{Used, length-slots, found-below, found-none, slot-names}
 
 -- ---- the clauses, one by one
 

@@ -1,11 +1,11 @@
 -- A buffer that is written from the front, part by part: its length is n, and its first a bytes are p.
 use mathlib.Core.Path.{_≡_, refl, sym, ap, _∙_, subst}
 use mathlib.Core.List.{List, [], _∷_, _++_, append-assoc}
-use Prim.Native.Nat.{ℕ, suc, _+_, _-_, _≤_, _<_}
+use Prim.Native.Nat.{ℕ, _+_, _-_, _≤_, _<_}
 use native.Mathlib.Numerals.{add-one}
 use native.Mathlib.Omega.{arith}
 use lib.ListN.{length, take, drop, set, length-set, length-append, length-drop}
-use lib.Seq.{take-suc-set, take-at, take-all, length-take-le, drop-drop}
+use lib.Seq.{take-suc-set, take-at, take-all, length-take-le}
 use borrow.Rule.Slice.PartMut.{putMid}
 
 pub record Written (n : ℕ) (s p : List ℕ) (a : ℕ) : Type 0 where

@@ -1,11 +1,11 @@
 -- Cases that the ★ table does not reach, in one table under one claim: a header with H = 30, an export of each of two
 -- keys, and one name held by two applications.
-use mathlib.Core.Path.{_≡_, refl}
+use mathlib.Core.Path.{refl}
 use Prim.Native.Nat.{ℕ, _+_}
 use mathlib.Core.Bool.{true, false}
 use mathlib.Core.List.{List, [], _∷_, _++_}
 use lib.ListN.{length}
-use Rattle.registry.specs.Slots.{Entry, free, held}
+use Rattle.registry.specs.Slots.{free, held}
 use Rattle.service.specs.Text.{ascii}
 use Rattle.service.proofs.Cases.{Case, showing, Holds, AllHold, case-of, longRequest, request, response, key, keyBody, nameBody, imported, allFree}
 

@@ -1,20 +1,20 @@
 -- What every call keeps to, whatever it is lent: it is refused exactly in the five cases, a refused one alters nothing, an
 -- empty chunk alters nothing, at most 629 bytes are written, and the response buffer keeps its length.
-use mathlib.Core.Path.{_≡_, refl, ap, _∙_, subst}
-use mathlib.Core.Bool.{Bool, true, false, not}
+use mathlib.Core.Path.{_≡_, refl, _∙_, subst}
+use mathlib.Core.Bool.{true}
 use mathlib.Core.Option.{Option, none, some}
 use mathlib.Core.List.{List, [], _∷_, _++_}
 use Prim.Native.Nat.{ℕ, _+_, _≤_}
 use native.Mathlib.Omega.{arith}
 use borrow.Author.Tests.{ltb-false}
 use lib.ListN.{length, drop, length-append, length-drop}
-use lib.Dec.{leb, ltb}
+use lib.Dec.{leb}
 use Rattle.wire.specs.Choice.{firstOf}
 use Rattle.wire.proofs.TestLaws.{either, none-first, not-false, some≢none}
 use Rattle.stream.specs.Frame.{Next, unfinished, badStart, skipped, whole, next}
-use Rattle.stream.specs.Rules.{Connection, opened, skipping, closed, State, judge}
+use Rattle.stream.specs.Rules.{Connection, opened, skipping, closed, State}
 use Rattle.stream.specs.Call.{Step, keep, respond, dropByte, openRule, skipRule, byteRule, Effect, callRule}
-use Rattle.stream.specs.Calls.{Call, Answer, refused, took, CallOutcome, callOn}
+use Rattle.stream.specs.Calls.{Call, refused, took, CallOutcome, callOn}
 use Rattle.stream.proofs.CallLaws.{call-responds, call-goes-on}
 use Rattle.connection.specs.Connection.{wellFormedConnection}
 use Rattle.connection.proofs.ConnectionLaws.{store-load}

@@ -1,5 +1,5 @@
 -- What a case of a table says, and that it is computed from the rules on a whole stream.
-use mathlib.Core.Path.{_≡_, refl}
+use mathlib.Core.Path.{_≡_}
 use Prim.Native.Nat.{ℕ, _+_}
 use mathlib.Core.Bool.{true, false}
 use mathlib.Core.Option.{some}
@@ -16,7 +16,7 @@ use Rattle.protobuf.specs.Field.{numberAt, fixedAt, spanAt, contentAt, fieldAt}
 use Rattle.protobuf.specs.Message.{withValue, itemOf, stepAt}
 use Rattle.protobuf.specs.Written.{varintWithin, varint, numberField, bytesField, packedField}
 use Rattle.registry.specs.Names.{legalName, indexFrom}
-use Rattle.registry.specs.Slots.{Key, Entry, free, held, legalData, legalBits, keyBytes, slotBytes, slotOf}
+use Rattle.registry.specs.Slots.{Entry, free, held, legalData, legalBits, keyBytes, slotBytes, slotOf}
 use Rattle.registry.specs.Registry.{applicationNamed, slotsOf, slotNamed, changed, lineOf, registryOf}
 use Rattle.registry.specs.Roster.{faultNumber, recordFaults, Roster, applications, faulty, recordTurn, rosterOf}
 use Rattle.stream.specs.Frame.{legalStart, oversized, next}

@@ -1,7 +1,7 @@
 -- DEMAND 3, as one claim, at document 01's judgement and on memory as the code has it.
-use mathlib.Core.Path.{_≡_, refl, ap, _∙_}
-use mathlib.Core.Bool.{Bool, true}
-use mathlib.Core.Option.{Option, none, some}
+use mathlib.Core.Path.{_≡_}
+use mathlib.Core.Bool.{true}
+use mathlib.Core.Option.{none}
 use mathlib.Core.List.{List, [], flatten}
 use Prim.Native.Nat.{ℕ, _+_, _≤_}
 use native.Mathlib.Omega.{arith}
@@ -9,12 +9,11 @@ use borrow.Author.Tests.{le-ltb}
 use lib.ListN.{length}
 use Rattle.wire.specs.Choice.{firstOf}
 use Rattle.stream.specs.Rules.{heldBytes, State, rules}
-use Rattle.stream.specs.Call.{wellFormed}
 use Rattle.stream.specs.Calls.{Call, CallsOutcome, joinedResponses, takenStream, handOver, answersByRules}
 use Rattle.stream.proofs.KeptLaws.{rules-connection, rules-kept}
 use Rattle.stream.proofs.CallsLaws.{Lawful, follows-rules}
 use Rattle.stream.proofs.DeliveryLaws.{within, noneRefused, delivered}
-use Rattle.connection.specs.Connection.{connectionOf, wellFormedConnection}
+use Rattle.connection.specs.Connection.{connectionOf}
 use Rattle.connection.proofs.ConnectionLaws.{load-store, stored-good}
 use Rattle.registry.specs.WellFormed.{wellFormedRegistry}
 use Rattle.service.specs.Counters.{Counts, totalsOf, countersOf, largestCount, largestCounter}

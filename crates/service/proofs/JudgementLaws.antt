@@ -1,6 +1,6 @@
 -- What the judgement keeps: a well-formed registry stays well formed, a status other than 0 leaves it alone, and no counter
 -- rises by more than one.
-use mathlib.Core.Path.{_≡_, refl, sym, ap, _∙_, subst}
+use mathlib.Core.Path.{_≡_, refl, sym, ap}
 use mathlib.Core.Bool.{Bool, true, false}
 use mathlib.Core.Option.{Option, none, some}
 use mathlib.Core.List.{List, [], _∷_}
@@ -14,8 +14,8 @@ use Rattle.stream.specs.Frame.{oversized}
 use Rattle.stream.specs.Rules.{Verdict, judge}
 use Rattle.stream.proofs.KeptLaws.{Keeps}
 use Rattle.registry.specs.Names.{legalName}
-use Rattle.registry.specs.Slots.{Key, Entry, keyNameMost, legalData, legalBits}
-use Rattle.registry.specs.Registry.{applicationNamed, slotsOf, Change, unchanged, changed}
+use Rattle.registry.specs.Slots.{Key, keyNameMost, legalData, legalBits}
+use Rattle.registry.specs.Registry.{applicationNamed, unchanged, changed}
 use Rattle.registry.specs.WellFormed.{wellFormedRegistry}
 use Rattle.registry.specs.declared.Line.{Line}
 use Rattle.registry.proofs.SlotLaws.{Legal}
@@ -26,7 +26,6 @@ use Rattle.service.specs.Operations.{Result, success, refuse, importBits
 use Rattle.service.specs.Counters.{Counts, noCounts, increment, indexOf, countRefused, countServed, count, maximum, largestCount}
 use Rattle.service.specs.Judgement.{applicationOf, askersSlots, resultOf, changedBy, verdictOf, refusedEarly, judgement}
 use Rattle.service.specs.declared.Status.{Status}
-use Rattle.service.specs.declared.Status.the-variants.{Success}
 use Rattle.service.proofs.Results.{by-result}
 
 -- ---- the application that asks

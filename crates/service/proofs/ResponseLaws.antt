@@ -1,19 +1,18 @@
 -- Every response has at most 629 bytes, where the registry is well formed.
 use mathlib.Core.Path.{_≡_, subst}
-use mathlib.Core.Bool.{Bool, true, false}
+use mathlib.Core.Bool.{true}
 use mathlib.Core.Option.{Option, none, some}
 use mathlib.Core.List.{List, [], _∷_, _++_}
 use Prim.Native.Nat.{ℕ, _+_, _*_, _/_, _≤_, _<_}
 use native.Mathlib.Omega.{arith}
-use borrow.Author.Tests.{lt-ltb, ltb-false}
+use borrow.Author.Tests.{lt-ltb}
 use lib.ListN.{length, take, getD, length-append}
-use lib.Dec.{ltb, leb}
+use lib.Dec.{ltb}
 use Rattle.wire.specs.Lists.{all}
 use Rattle.wire.specs.Numbers.{littleEndianOf}
 use Rattle.wire.specs.Request.{Request, requestOf}
 use Rattle.wire.specs.Response.{responseHeader, responseBytes}
 use Rattle.wire.proofs.TestLaws.{either}
-use Rattle.wire.proofs.ListLaws.{all-append}
 use Rattle.stream.specs.Frame.{oversized}
 use Rattle.stream.specs.Rules.{Verdict, judge, Outcome, Progress, answer, finish, rulesFrom, start, rules}
 use Rattle.stream.proofs.AccountingLaws.{by-requests}

@@ -1,9 +1,9 @@
 -- Document 01's cases marked ★: one table, one claim, computed from the rules on whole streams.
-use mathlib.Core.Path.{_≡_, refl}
+use mathlib.Core.Path.{refl}
 use Prim.Native.Nat.{ℕ, _+_}
 use mathlib.Core.List.{List, [], _∷_, _++_}
-use lib.ListN.{length, replicate}
-use Rattle.registry.specs.Slots.{Entry, free, held}
+use lib.ListN.{replicate}
+use Rattle.registry.specs.Slots.{free}
 use Rattle.service.specs.Text.{ascii}
 use Rattle.service.proofs.Cases.{Case, showing, Holds, AllHold, case-of, longRequest, request, response, key, keyBody, nameBody, imported, allFree}
 

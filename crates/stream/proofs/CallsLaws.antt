@@ -1,7 +1,7 @@
 -- DEMAND 3 for every judgement, every way of keeping its state in memory and every rule of refusing calls: a list of calls
 -- gives what the rules give for the joined stream of taken bytes, uncut.
 use mathlib.Core.Path.{_≡_, refl, sym, ap, ap₂, _∙_, subst}
-use Prim.Native.Nat.{ℕ, zero, suc, _+_}
+use Prim.Native.Nat.{ℕ, _+_}
 use mathlib.Core.Bool.{true}
 use mathlib.Core.Option.{Option, none, some}
 use mathlib.Core.List.{List, [], _∷_, _++_, flatten, append-assoc, append-nil}
@@ -9,7 +9,7 @@ use lib.ListN.{length, take, drop}
 use lib.Seq.{take-append-seam}
 use Rattle.stream.specs.Rules.{Judgement, heldBytes, State, Outcome, rules}
 use Rattle.stream.specs.Call.{wellFormed, Effect, callRule, fresh}
-use Rattle.stream.specs.Calls.{Call, Answer, refused, took, Layout, CallOutcome, CallsOutcome, callOn, callsOn, joinedResponses, takenStream, bytesToAnswer, responseTo, answersByRules}
+use Rattle.stream.specs.Calls.{Call, Answer, refused, took, Layout, CallsOutcome, callOn, callsOn, joinedResponses, takenStream, responseTo, answersByRules}
 use Rattle.stream.proofs.RulesLaws.{withResponse, rules-fresh}
 use Rattle.stream.proofs.CallLaws.{CallFacts, call-facts, call-response}
 use Rattle.stream.proofs.AccountingLaws.{rules-accounted}

@@ -5,12 +5,12 @@ use mathlib.Core.Bool.{Bool, true, false, true≢false, _&&_}
 use mathlib.Core.Option.{Option, none, some}
 use mathlib.Core.List.{List, [], _∷_, _++_, append-assoc, append-nil}
 use native.Mathlib.Omega.{arith}
-use lib.ListN.{length, take, drop, length-append}
+use lib.ListN.{length, take, length-append}
 use lib.Seq.{take-append-le, take-append-add, take-length}
 use lib.Dec.{leb, ltb, eqb}
 use borrow.Author.Tests.{ltb-true, ltb-false, leb-true, leb-false, lt-leb, le-leb}
-use Rattle.wire.specs.Choice.{if_then_else_}
 use Rattle.wire.specs.Request.{headerSize, contentLength, authLength, headerLength, requestLength}
+use Rattle.wire.proofs.TestLaws.{and-left, and-right}
 use Rattle.stream.specs.Frame.{legalStart, oversized, Next, unfinished, badStart, skipped, whole, next}
 use Rattle.stream.specs.Rules.{Verdict, Judgement, Connection, opened, skipping, closed, State, judge}
 use Rattle.stream.specs.Effects.{waiting, answering, dropping}
@@ -507,15 +507,6 @@ whole-fits held chunk n u q =
     (omega arith, omega arith)
 
 -- ---- LAW 4: any connection that is well formed
-
-and-left : (a b : Bool) → (a && b) ≡ true → a ≡ true
-and-left true b h = refl
-and-left false b h = h
-
-and-right : (a b : Bool) → (a && b) ≡ true → b ≡ true
-and-right true b h = h
-and-right false true h = refl
-and-right false false h = h
 
 skipping-more : (header : List ℕ) (toGo : ℕ) → wellFormed (skipping header toGo) ≡ true → 1 ≤ toGo
 unfolding wellFormed

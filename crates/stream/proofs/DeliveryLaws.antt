@@ -13,9 +13,9 @@ use Rattle.wire.specs.Lists.{all}
 use Rattle.wire.proofs.TestLaws.{and-left, and-right}
 use Rattle.stream.specs.Rules.{Judgement, State, rules}
 use Rattle.stream.specs.Call.{byteRule, callRule, fresh}
-use Rattle.stream.specs.Calls.{Call, Answer, took, Layout, CallOutcome, CallsOutcome, callOn, callsOn, leaving, handOver, takenStream}
+use Rattle.stream.specs.Calls.{Call, Answer, took, Layout, CallsOutcome, callsOn, leaving, handOver, takenStream}
 use Rattle.stream.proofs.CallLaws.{call-responds, call-goes-on, call-facts}
-use Rattle.stream.proofs.CallsLaws.{Lawful, after, seenThen, call-took, fresh-memory, took-taken}
+use Rattle.stream.proofs.CallsLaws.{Lawful, after, call-took, fresh-memory, took-taken}
 
 -- every chunk has at most so many bytes
 abbrev pub within : (most : ℕ) → List (List ℕ) → Bool

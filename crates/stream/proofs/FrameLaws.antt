@@ -1,17 +1,17 @@
 -- What a request's beginning tells stays so when more bytes follow.
-use mathlib.Core.Path.{_≡_, refl, sym, ap, ap₂, _∙_, subst}
-use Prim.Native.Nat.{ℕ, zero, suc, _+_, _-_, _*_, _≤_, _<_}
-use mathlib.Core.Bool.{Bool, true, false, true≢false, _&&_, _||_}
+use mathlib.Core.Path.{_≡_, refl, sym, ap, ap₂, _∙_}
+use Prim.Native.Nat.{ℕ, suc, _+_, _-_, _≤_, _<_}
+use mathlib.Core.Bool.{Bool, true, false, true≢false, _||_}
 use mathlib.Core.List.{List, [], _∷_, _++_}
 use native.Mathlib.Omega.{arith}
-use lib.ListN.{length, take, drop, length-append, length-drop, take-append-drop}
-use lib.Seq.{drop-append-le, take-append-le, length-take-le, drop-length, take-length, drop-at, take-at}
+use lib.ListN.{length, take, drop, length-append, take-append-drop}
+use lib.Seq.{take-append-le, length-take-le}
 use lib.Dec.{leb, ltb, eqb}
 use borrow.Author.Tests.{ltb-true, ltb-false, lt-ltb, le-ltb, leb-true}
-use Rattle.wire.specs.Request.{magicNumber, magic, headerSize, contentLength, authLength, headerLength, requestLength}
+use Rattle.wire.specs.Request.{magicNumber, magic, headerSize, headerLength, requestLength}
 use Rattle.wire.proofs.TestLaws.{and-left, and-right}
 use Rattle.wire.proofs.NumberLaws.{field-append}
-use Rattle.stream.specs.Frame.{legalStart, oversized, Next, unfinished, badStart, skipped, whole, next}
+use Rattle.stream.specs.Frame.{legalStart, oversized, unfinished, badStart, skipped, whole, next}
 
 -- ---- fields
 

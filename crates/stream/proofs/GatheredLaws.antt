@@ -1,17 +1,16 @@
 -- What a call does to an open connection, told from the bytes that were gathered: those held, and the first ones of the chunk.
-use mathlib.Core.Path.{_≡_, refl, sym, ap, ap₂, _∙_}
+use mathlib.Core.Path.{_≡_, sym, ap, ap₂, _∙_}
 use Prim.Native.Nat.{ℕ, _+_, _-_, _≤_, _<_}
-use mathlib.Core.Bool.{true, false}
-use mathlib.Core.List.{List, [], _∷_, _++_, append-assoc}
+use mathlib.Core.List.{List, [], _++_, append-assoc}
 use native.Mathlib.Omega.{arith}
 use lib.ListN.{length, take, drop, length-append, length-drop, take-append-drop}
 use lib.Seq.{take-all, take-append-seam, take-append-add, length-take-le}
 use Rattle.wire.specs.Request.{headerLength, requestLength}
-use Rattle.stream.specs.Frame.{legalStart, Next, unfinished, badStart, skipped, whole, next}
+use Rattle.stream.specs.Frame.{unfinished, badStart, skipped, whole, next}
 use Rattle.stream.specs.Rules.{Verdict, Judgement, opened, skipping, closed, State, judge}
 use Rattle.stream.specs.Effects.{waiting, answering}
 use Rattle.stream.specs.Call.{callRule}
-use Rattle.stream.proofs.FrameLaws.{Skipped, whole-append, bad-append, header-length, next-skipped}
+use Rattle.stream.proofs.FrameLaws.{Skipped, whole-append, bad-append, header-length}
 use Rattle.stream.proofs.ChunkLaws.{bad-found, whole-found, skipped-found, missing-found, skipped-stays, skipped-ends, judge-large, call-unfinished, call-bad, call-large, call-whole}
 
 -- a request to skip that has begun

@@ -1,17 +1,17 @@
 -- One byte more on the stream: the rules give what the byte rule gives after them.
-use mathlib.Core.Path.{_≡_, refl, sym, ap, ap₂, _∙_, subst}
-use Prim.Native.Nat.{ℕ, zero, suc, _+_, _-_, _*_, _≤_, _<_}
-use mathlib.Core.Bool.{Bool, true, false, _&&_, _||_}
+use mathlib.Core.Path.{_≡_, refl, sym, ap, ap₂, _∙_}
+use Prim.Native.Nat.{ℕ, zero, suc, _+_, _-_, _≤_, _<_}
+use mathlib.Core.Bool.{Bool, true, false, _||_}
 use mathlib.Core.Option.{Option, none, some}
-use mathlib.Core.List.{List, [], _∷_, _++_, append-assoc, append-nil}
+use mathlib.Core.List.{List, [], _∷_, _++_}
 use native.Mathlib.Omega.{arith}
-use native.Mathlib.Nat.{le-refl, zero-add}
-use lib.ListN.{length, take, drop, getElem?, length-append, length-drop, take-append-drop}
-use lib.Seq.{drop-append-le, take-append-le, length-take-le, drop-length, take-length, drop-at, take-at}
-use lib.Dec.{leb, ltb, eqb}
-use borrow.Author.Tests.{ltb-true, ltb-false, leb-true, leb-false, lt-ltb, le-ltb, lt-leb, le-leb}
-use Rattle.wire.specs.Request.{headerSize, headerLength, requestLength}
-use Rattle.stream.specs.Frame.{legalStart, oversized, unfinished, badStart, skipped, whole, next}
+use native.Mathlib.Nat.{le-refl}
+use lib.ListN.{length, take, drop, length-drop}
+use lib.Seq.{drop-append-le, take-append-le, take-length}
+use lib.Dec.{leb}
+use borrow.Author.Tests.{leb-true, leb-false, lt-leb, le-leb}
+use Rattle.wire.specs.Request.{headerLength, requestLength}
+use Rattle.stream.specs.Frame.{legalStart, unfinished, badStart, skipped, whole, next}
 use Rattle.stream.specs.Rules.{Verdict, Judgement, opened, skipping, closed, Outcome, Progress, answer, finish, judge, rulesWithin, rulesFrom, start, rules}
 use Rattle.stream.specs.Call.{keep, respond, dropByte, openRule, skipRule, byteRule, fresh}
 use Rattle.stream.proofs.FrameLaws.{Unfinished, Skipped, Shape, isUnfinished, isBad, isSkipped, isWhole, shape, next-unfinished, next-bad, next-skipped, next-whole, next-short, whole-append, bad-append, length-snoc, whole-last, bad-last, header-length, skipped-kept, skipped-more, skipped-last}

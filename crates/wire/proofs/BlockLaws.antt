@@ -3,11 +3,11 @@ use mathlib.Core.Path.{_≡_, refl, sym, ap, _∙_}
 use mathlib.Core.Bool.{Bool, true, false}
 use mathlib.Core.List.{List, [], _∷_, _++_, flatten, append-assoc, append-nil}
 use Prim.Native.Nat.{ℕ, zero, suc, _+_, _*_, _≤_, _<_}
-use native.Mathlib.Nat.{zero-mul, suc-mul, add-comm, add-assoc, zero-add, le-of-suc-le-suc, not-suc-le-zero}
+use native.Mathlib.Nat.{zero-mul, suc-mul, add-comm, zero-add, le-of-suc-le-suc, not-suc-le-zero}
 use native.Mathlib.Numerals.{add-one}
 use native.Mathlib.Omega.{arith}
 use lib.ListN.{length, take, drop, getD, set, length-append, take-append-drop, length-drop, length-set, drop-of-length-le}
-use lib.Seq.{take-at, drop-at, drop-cons, drop-drop, drop-append-add, take-append-add, length-take-le}
+use lib.Seq.{take-at, drop-at, drop-cons, drop-drop, drop-append-add, length-take-le}
 use Rattle.wire.specs.Lists.{all, isZero, put, blocks}
 use Rattle.wire.proofs.TestLaws.{and-left, and-right}
 use Rattle.wire.proofs.ListLaws.{all-at, all-append, all-first, all-last, all-take, all-drop}

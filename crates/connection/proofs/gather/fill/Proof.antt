@@ -1,14 +1,14 @@
 -- `connection::gather::fill` meets its contract: the bytes wanted or left are put behind those held.
-use Prim.Native.Nat.{ℕ, _+_, _-_, _≤_, _<_, min}
-use mathlib.Core.Path.{_≡_, sym, ap, ap₂, _∙_}
+use Prim.Native.Nat.{ℕ, _+_, _-_, _≤_}
+use mathlib.Core.Path.{_≡_, ap, _∙_}
 use mathlib.Core.List.{List, _++_}
 use native.Mathlib.Omega.{arith}
 use lib.ListN.{length, take, drop, length-drop}
 use lib.Seq.{length-take-le}
-use Rattle.stream.specs.Frame.{unfinished, next}
+use Rattle.stream.specs.Frame.{next}
 use Rattle.stream.specs.Rules.{opened}
-use Rattle.connection.specs.Connection.{heldMost, connectionBytes}
-use Rattle.connection.specs.Gather.{wantedOf, heldIn, Holding, Filled}
+use Rattle.connection.specs.Connection.{connectionBytes}
+use Rattle.connection.specs.Gather.{wantedOf, heldIn, Holding}
 use Rattle.connection.proofs.GatherLaws.{wanted-more, wanted-few, holding-few, holding-size}
 use borrow.Author.Needs.{needs}
 use Rattle.connection.proofs.gather.fill.Statement.{statement}

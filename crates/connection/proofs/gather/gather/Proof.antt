@@ -1,17 +1,17 @@
-use Prim.Native.Nat.{ℕ, _+_, _-_, _≤_, _<_}
+use Prim.Native.Nat.{ℕ, _+_, _-_, _<_}
 use Prim.{⊥}
-use mathlib.Core.Logic.{_⊎_, inl, inr}
+use mathlib.Core.Logic.{inl, inr}
 use mathlib.Core.Path.{_≡_, refl, sym, ap, subst, _∙_}
-use mathlib.Core.List.{List, [], _∷_, _++_}
+use mathlib.Core.List.{List, [], _∷_}
 use denote.Enum.Declared.{tagOf}
 use types.Run.{OneOf}
 use Rattle.stream.proofs.frame.Frame.{the-type}
 use native.Mathlib.Omega.{arith}
-use lib.ListN.{length, take, drop, length-drop}
+use lib.ListN.{length}
 use borrow.Author.Needs.{needs}
 use Rattle.stream.specs.Frame.{Next, unfinished, badStart, skipped, whole, next}
 use Rattle.stream.specs.declared.frame.Frame.{Frame}
-use Rattle.stream.specs.declared.frame.Frame.the-variants.{Unfinished, BadStart, Skipped, Whole}
+use Rattle.stream.specs.declared.frame.Frame.the-variants.{Unfinished}
 use Rattle.stream.specs.Framed.{frameOf}
 use Rattle.connection.specs.Gather.{heldIn}
 use Rattle.connection.proofs.GatherLaws.{Part, part-none, part-holds, part-again, holding-few, holding-size, after-few, after-size, after-in, after-some, gathers}

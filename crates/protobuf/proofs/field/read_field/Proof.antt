@@ -1,8 +1,8 @@
 use Rattle.protobuf.specs.Field.{fieldAt}
 use Prim.Native.Nat.{_≤_, _<_, _^_}
-use borrow.Author.Tests.{lt-ltb, le-ltb, le-leb, lt-leb, eq-eqb, ne-eqb, leb-true}
+use borrow.Author.Tests.{lt-ltb, le-ltb, eq-eqb, ne-eqb}
 use native.Mathlib.Omega.{arith}
-use mathlib.Core.Path.{_≡_, refl, ap, sym, _∙_}
+use mathlib.Core.Path.{sym, _∙_}
 use borrow.Author.Needs.{needs}
 use Rattle.protobuf.proofs.field.read_field.Statement.{statement}
 use Rattle.protobuf.proofs.field.read_field.Tie as tie

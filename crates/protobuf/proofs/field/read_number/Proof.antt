@@ -1,5 +1,5 @@
 use Rattle.protobuf.specs.Field.{numberAt}
-use mathlib.Core.Path.{_≡_, refl, ap, sym, _∙_}
+use mathlib.Core.Path.{sym, _∙_}
 use borrow.Author.Needs.{needs}
 use Rattle.protobuf.proofs.field.read_number.Statement.{statement}
 use Rattle.protobuf.proofs.field.read_number.Tie as tie

@@ -1,4 +1,4 @@
-use borrow.Author.Tests.{lt-ltb, le-ltb, le-leb, lt-leb, eq-eqb, ne-eqb, leb-true}
+use borrow.Author.Tests.{eq-eqb, ne-eqb}
 use Rattle.protobuf.proofs.message.kind_of.Statement.{statement}
 use Rattle.protobuf.proofs.message.kind_of.Tie as tie
 use Rattle.protobuf.proofs.message.kind_of.Reads as reads

@@ -1,5 +1,5 @@
 use Rattle.protobuf.specs.Message.{itemOf, stepAt}
-use mathlib.Core.Path.{_≡_, refl, ap, sym, _∙_}
+use mathlib.Core.Path.{ap, sym, _∙_}
 use borrow.Author.Needs.{needs}
 use Rattle.protobuf.proofs.message.read_step.Statement.{statement}
 use Rattle.protobuf.proofs.message.read_step.Tie as tie

@@ -1,5 +1,5 @@
 use Rattle.protobuf.specs.Message.{withValue}
-use borrow.Author.Tests.{lt-ltb, le-ltb, le-leb, lt-leb, eq-eqb, ne-eqb, leb-true}
+use borrow.Author.Tests.{eq-eqb, ne-eqb}
 use Rattle.protobuf.proofs.message.with_value.Statement.{statement}
 use Rattle.protobuf.proofs.message.with_value.Tie as tie
 use Rattle.protobuf.proofs.message.with_value.Reads as reads

@@ -1,7 +1,7 @@
 -- `proto::read_varint` meets its contract. The loop's invariant: the varint of the bytes ahead, times the scale and on top of the value, is
 -- the varint at `at`; the value is below the scale. Assumes nothing.
-use Prim.Native.Nat.{ℕ, _≤_, _<_, _+_, _*_, _-_, _^_}
-use mathlib.Core.Path.{_≡_, refl, ap, sym, _∙_}
+use Prim.Native.Nat.{_≤_, _<_, _*_, _-_, _^_}
+use mathlib.Core.Path.{_≡_, refl}
 use native.Mathlib.Omega.{arith}
 use native.Mathlib.Nat.{mul-le-mul-right}
 use lib.ListN.{getD}

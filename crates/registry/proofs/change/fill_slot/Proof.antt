@@ -1,16 +1,14 @@
 -- `registry::change::fill_slot` meets its contract.
-use Prim.Native.Nat.{ℕ, _+_, _-_, _*_, _≤_}
-use mathlib.Core.Path.{_≡_, sym, ap, _∙_}
+use Prim.Native.Nat.{ℕ, _-_}
+use mathlib.Core.Path.{ap, _∙_}
 use mathlib.Core.List.{List}
-use native.Mathlib.Omega.{arith}
-use lib.ListN.{length, take, drop, replicate, length-replicate, length-drop}
-use lib.Seq.{length-take-le}
+use lib.ListN.{length}
 use Rattle.wire.specs.Lists.{put}
 use Rattle.wire.proofs.BufferLaws.{put-part}
-use Rattle.registry.specs.Slots.{free, slotBytes, slotSize, keyBytes}
+use Rattle.registry.specs.Slots.{slotSize}
 use Rattle.registry.specs.Check.{keyFrom}
 use Rattle.registry.proofs.SlotLaws.{length-key}
-use Rattle.registry.specs.Registry.{registrySize, place, changed}
+use Rattle.registry.specs.Registry.{place, changed}
 use borrow.Author.Needs.{needs}
 use Rattle.registry.proofs.change.fill_slot.Statement.{statement}
 use Rattle.registry.proofs.change.fill_slot.Tie as tie

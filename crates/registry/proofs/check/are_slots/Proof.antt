@@ -2,19 +2,17 @@
 use Rattle.wire.specs.Lists.{all, blocks}
 use Rattle.wire.proofs.BlockLaws.{blocks-pass, blocks-fail, blocks-end}
 use Rattle.registry.specs.Slots.{slotSize, wellFormedSlot}
-use Rattle.registry.specs.Registry.{slotCount, lineHead, lineSize}
+use Rattle.registry.specs.Registry.{slotCount, lineHead}
 use Rattle.wire.specs.Lists.{blocks}
 use lib.Seq.{drop-drop}
-use mathlib.Core.Path.{_≡_, refl, sym, ap, _∙_, subst}
-use mathlib.Core.List.{List, [], _∷_, _++_}
-use mathlib.Core.Logic.{⊎-elim}
-use mathlib.Core.Bool.{Bool, true, false, cond, _&&_, _||_}
-use Prim.Native.Nat.{ℕ, zero, suc, _+_, _*_, _-_, _≤_, _<_}
-use native.Mathlib.Numerals.{add-one}
+use mathlib.Core.Path.{_≡_, refl, sym, ap, _∙_}
+use mathlib.Core.List.{List, []}
+use mathlib.Core.Bool.{_||_}
+use Prim.Native.Nat.{ℕ, _+_, _*_, _-_, _≤_}
 use native.Mathlib.Omega.{arith}
 use borrow.Author.Needs.{needs}
-use borrow.Author.Tests.{lt-ltb, le-ltb, le-leb, lt-leb, eq-eqb, ne-eqb, ltb-true, leb-true, eqb-true, eqb-false, not-true, not-false}
-use lib.ListN.{length, take, drop, getD, set}
+use borrow.Author.Tests.{not-true, not-false}
+use lib.ListN.{take, drop}
 use Rattle.registry.proofs.check.are_slots.Statement.{statement}
 use Rattle.registry.proofs.check.are_slots.Tie as tie
 

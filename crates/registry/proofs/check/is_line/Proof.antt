@@ -9,7 +9,7 @@ use lib.ListN.{length, take, drop, getD, length-take, length-drop}
 use Rattle.wire.specs.Lists.{all, every, isZero}
 use Rattle.wire.proofs.TestLaws.{and-true}
 use Rattle.registry.specs.Names.{legalName, nameIn}
-use Rattle.registry.specs.Registry.{applicationNameMost, lineHead, lineSize}
+use Rattle.registry.specs.Registry.{applicationNameMost, lineHead}
 use Rattle.registry.specs.WellFormed.{zerosBehindName}
 use Rattle.registry.specs.Check.{blockNames, lineTests, wellFormedLine}
 use Rattle.registry.proofs.NameLaws.{legal-short}

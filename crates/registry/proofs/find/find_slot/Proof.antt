@@ -1,7 +1,6 @@
 -- `registry::find::find_slot` meets its contract.
 use Prim.Native.Nat.{ℕ, _+_, _-_, _*_}
 use mathlib.Core.Path.{_≡_, sym, ap, _∙_}
-use mathlib.Core.List.{List}
 use native.Mathlib.Omega.{arith}
 use lib.ListN.{take, drop}
 use Rattle.registry.specs.Names.{indexFrom}

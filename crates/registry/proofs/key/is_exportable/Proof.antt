@@ -1,11 +1,10 @@
 -- `registry::key::is_exportable` meets its contract.
 use Prim.Native.Nat.{ℕ, _+_, _-_, _≤_}
-use mathlib.Core.Path.{_≡_, sym, ap, _∙_}
-use mathlib.Core.List.{List}
+use mathlib.Core.Path.{sym}
 use native.Mathlib.Omega.{arith}
-use lib.ListN.{length, take, drop}
-use Rattle.registry.specs.Slots.{dataAt, slotSize}
-use Rattle.registry.specs.Registry.{registrySize, place}
+use lib.ListN.{length}
+use Rattle.registry.specs.Slots.{slotSize}
+use Rattle.registry.specs.Registry.{place}
 use Rattle.registry.proofs.KeyLaws.{export-there}
 use Rattle.registry.proofs.WellFormedLaws.{good-of}
 use borrow.Author.Needs.{needs}

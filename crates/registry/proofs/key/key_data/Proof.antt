@@ -6,7 +6,7 @@ use native.Mathlib.Omega.{arith}
 use lib.ListN.{length, take, drop}
 use Rattle.wire.specs.Numbers.{field}
 use Rattle.registry.specs.Slots.{dataMost, dataLengthAt, dataAt, slotSize}
-use Rattle.registry.specs.Registry.{registrySize, place}
+use Rattle.registry.specs.Registry.{place}
 use Rattle.registry.proofs.KeyLaws.{size-small, data-there}
 use Rattle.registry.proofs.WellFormedLaws.{good-of}
 use borrow.Author.Needs.{needs}

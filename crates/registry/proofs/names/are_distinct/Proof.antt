@@ -3,16 +3,14 @@ use Rattle.registry.specs.Names.{nameIn, absent, distinct}
 use Rattle.registry.specs.Check.{blockNames}
 use Rattle.registry.proofs.NameLaws.{lone, lone-empty, lone-named}
 use Rattle.registry.proofs.BlockNameLaws.{fits, blockAt, name-at, name-length, distinct-pass, distinct-fail, distinct-end}
-use mathlib.Core.Path.{_≡_, refl, sym, ap, _∙_, subst}
-use mathlib.Core.List.{List, [], _∷_, _++_}
-use mathlib.Core.Logic.{⊎-elim}
+use mathlib.Core.Path.{_≡_, refl, sym, ap, _∙_}
+use mathlib.Core.List.{List, []}
 use mathlib.Core.Bool.{true, false, not}
-use Prim.Native.Nat.{ℕ, zero, suc, _+_, _*_, _-_, _≤_, _<_}
-use native.Mathlib.Numerals.{add-one}
+use Prim.Native.Nat.{ℕ, _+_, _*_, _-_, _≤_, _<_}
 use native.Mathlib.Omega.{arith}
 use borrow.Author.Needs.{needs}
-use borrow.Author.Tests.{lt-ltb, le-ltb, le-leb, lt-leb, eq-eqb, ne-eqb, ltb-true, leb-true, eqb-true, eqb-false, not-true, not-false}
-use lib.ListN.{length, take, drop, getD, set}
+use borrow.Author.Tests.{not-true, not-false}
+use lib.ListN.{length, take, drop, getD}
 use Rattle.registry.proofs.names.are_distinct.Statement.{statement}
 use Rattle.registry.proofs.names.are_distinct.Tie as tie
 

@@ -1,5 +1,4 @@
 -- `registry::names::is_legal` meets its contract.
-use Prim.Native.Nat.{_≤_, _<_}
 use mathlib.Core.Path.{sym, _∙_}
 use native.Mathlib.Omega.{arith}
 use borrow.Author.Needs.{needs}

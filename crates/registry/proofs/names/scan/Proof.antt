@@ -4,17 +4,15 @@ use Rattle.wire.proofs.ListLaws.{same-lengths}
 use Rattle.registry.specs.Names.{nameIn, indexFrom}
 use Rattle.registry.specs.Check.{blockNames}
 use Rattle.registry.proofs.BlockNameLaws.{fits, blockAt, scan-skip, scan-hit, scan-end, name-at, name-length, same-cons, same-end}
-use lib.Dec.{eqb, ltb}
-use mathlib.Core.Path.{_≡_, refl, sym, ap, _∙_, subst}
-use mathlib.Core.List.{List, [], _∷_, _++_}
-use mathlib.Core.Logic.{⊎-elim}
-use mathlib.Core.Bool.{Bool, true, false, cond, _&&_, _||_}
-use Prim.Native.Nat.{ℕ, zero, suc, _+_, _*_, _-_, _≤_, _<_}
-use native.Mathlib.Numerals.{add-one}
+use lib.Dec.{eqb}
+use mathlib.Core.Path.{_≡_, refl, sym, _∙_}
+use mathlib.Core.List.{List, []}
+use mathlib.Core.Bool.{false, _&&_, _||_}
+use Prim.Native.Nat.{ℕ, _+_, _*_, _-_, _≤_, _<_}
 use native.Mathlib.Omega.{arith}
 use borrow.Author.Needs.{needs}
-use borrow.Author.Tests.{lt-ltb, le-ltb, le-leb, lt-leb, eq-eqb, ne-eqb, ltb-true, leb-true, eqb-true, eqb-false, not-true, not-false}
-use lib.ListN.{length, take, drop, getD, set}
+use borrow.Author.Tests.{eq-eqb, ne-eqb}
+use lib.ListN.{length, take, drop, getD}
 use Rattle.registry.proofs.names.scan.Statement.{statement}
 use Rattle.registry.proofs.names.scan.Tie as tie
 

@@ -3,19 +3,17 @@ use Rattle.wire.specs.Lists.{all, every, isZero}
 use Rattle.wire.specs.Numbers.{field}
 use Rattle.wire.proofs.TestLaws.{and-true}
 use Rattle.registry.specs.Names.{legalName, nameIn}
-use Rattle.registry.specs.Slots.{keyNameMost, dataMost, legalData, legalBits, dataLengthAt, dataAt, bitsAt, slotSize, dataIn, behindName, behindData, keyTests, wellFormedSlot}
+use Rattle.registry.specs.Slots.{keyNameMost, legalBits, dataLengthAt, bitsAt, behindName, behindData, keyTests, wellFormedSlot}
 use Rattle.registry.proofs.NameLaws.{legal-short}
 use Rattle.registry.proofs.SlotLaws.{free-slot, key-slot, name-length, data-ok, data-none, data-long}
-use mathlib.Core.Path.{_≡_, refl, sym, ap, _∙_, subst}
-use mathlib.Core.List.{List, [], _∷_, _++_}
-use mathlib.Core.Logic.{⊎-elim}
-use mathlib.Core.Bool.{Bool, true, false, cond, _&&_, _||_}
-use Prim.Native.Nat.{ℕ, zero, suc, _+_, _*_, _-_, _≤_, _<_}
-use native.Mathlib.Numerals.{add-one}
+use mathlib.Core.Path.{_≡_, sym, ap, _∙_}
+use mathlib.Core.List.{List, []}
+use mathlib.Core.Bool.{true, _||_}
+use Prim.Native.Nat.{ℕ, _+_, _-_, _≤_}
 use native.Mathlib.Omega.{arith}
 use borrow.Author.Needs.{needs}
-use borrow.Author.Tests.{lt-ltb, le-ltb, le-leb, lt-leb, eq-eqb, ne-eqb, ltb-true, leb-true, eqb-true, eqb-false, not-true, not-false}
-use lib.ListN.{length, take, drop, getD, set}
+use borrow.Author.Tests.{le-leb, lt-leb, not-true, not-false}
+use lib.ListN.{take, drop, getD}
 use borrow.Author.Needs.{needs}
 use Rattle.registry.proofs.slots.is_slot.Statement.{statement}
 use Rattle.registry.proofs.slots.is_slot.Tie as tie

@@ -5,11 +5,11 @@ use Rattle.wire.proofs.ListLaws.{length-padded}
 use Rattle.wire.proofs.NumberLaws.{length-number}
 use Rattle.registry.specs.Slots.{keyNameMost, dataMost, slotSize, flag, keyBytes}
 use Rattle.registry.proofs.WrittenLaws.{Written, start, put-byte-of, put-part-of, part-length, whole}
-use mathlib.Core.Path.{_≡_, refl, sym, ap, _∙_}
+use mathlib.Core.Path.{_≡_, sym, ap, _∙_}
 use mathlib.Core.List.{List, [], _∷_, _++_}
-use Prim.Native.Nat.{ℕ, _+_, _-_, _%_, _≤_, _<_}
+use Prim.Native.Nat.{ℕ, _+_, _-_, _%_}
 use native.Mathlib.Omega.{arith}
-use lib.ListN.{length, take, drop, set}
+use lib.ListN.{length, set}
 use borrow.Rule.Slice.PartMut.{putMid}
 use borrow.Author.Needs.{needs}
 use Rattle.registry.proofs.slots.write_key.Statement.{statement}

@@ -6,7 +6,6 @@ use lib.Dec.{eqb}
 use native.Mathlib.Omega.{arith}
 use borrow.Author.Needs.{needs}
 use borrow.Author.Tests.{ne-eqb}
-use lib.Bits.{bitOr}
 use lib.ListN.{length, drop, getD}
 use Rattle.wire.specs.Lists.{same}
 use Rattle.wire.proofs.TestLaws.{and-true, and-assoc}
