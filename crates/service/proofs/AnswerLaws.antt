@@ -1,14 +1,14 @@
 -- From the code's chain of tests to the judgement of a request: what is answered at each way out is what `judgement` says.
 use mathlib.Core.Path.{_≡_, refl, sym, ap, subst, _∙_}
-use mathlib.Core.Logic.{_⊎_, inl, inr}
-use mathlib.Core.Bool.{Bool, true, false, true≢false, _&&_, _||_, not}
+use mathlib.Core.Logic.{inl, inr}
+use mathlib.Core.Bool.{Bool, true, false, _&&_, _||_, not}
 use mathlib.Core.Option.{Option, none, some}
 use mathlib.Core.List.{List, [], _∷_, _++_}
-use Prim.Native.Nat.{ℕ, zero, suc, _+_, _-_, _≤_, _<_}
+use Prim.Native.Nat.{ℕ, zero, _+_, _-_, _≤_, _<_}
 use native.Mathlib.Nat.{add-sub-cancel-left}
 use native.Mathlib.Omega.{arith}
 use borrow.Author.Tests.{eq-eqb, ne-eqb, eqb-true, eqb-false, ltb-false, lt-ltb, le-ltb}
-use lib.ListN.{length, take, drop, getD}
+use lib.ListN.{length, take, drop}
 use lib.Dec.{ltb, eqb}
 use Rattle.wire.specs.Choice.{if_then_else_, firstOf, isSome}
 use Rattle.wire.specs.Lists.{oneOf}
@@ -17,7 +17,7 @@ use Rattle.wire.specs.Header.{headerOf}
 use Rattle.wire.specs.Response.{responseBytes}
 use Rattle.wire.specs.Wrote.{Wrote}
 use Rattle.wire.specs.declared.header.Header.{Header}
-use Rattle.wire.proofs.TestLaws.{some≢none, none-first, not-false, and-true, and-false}
+use Rattle.wire.proofs.TestLaws.{some≢none, not-false, and-true, and-false}
 use Rattle.stream.specs.Frame.{contentMost}
 use Rattle.protobuf.specs.Body.{bodyOf}
 use Rattle.protobuf.specs.declared.message.Schema.{Schema}
@@ -31,11 +31,11 @@ use Rattle.service.specs.Status.{statusNumber}
 use Rattle.service.specs.Operations.{opcodesOf, noFields, opcodesFields, Operation, ping, listProviders, listOpcodes, readBody, operationOf, Result, refuse, perform}
 use Rattle.service.specs.Counters.{Counts, countRefused, count}
 use Rattle.service.specs.Judgement.{applicationOf, refusals, askersSlots, operate, resultOf, changedBy, verdictOf, refusedEarly, oversizedStatus, judgement}
-use Rattle.service.specs.Decided.{headerTests, checkedOf, namedOr, authOf, lineOf, operated, outputBytes, resultIn, Decided, oneOfCore, oneOfKeystore}
+use Rattle.service.specs.Decided.{headerTests, namedOr, authOf, lineOf, operated, outputBytes, resultIn, Decided, oneOfCore, oneOfKeystore}
 use Rattle.service.specs.Answers.{AskerBelow, AnsweredBy, PassedHeader, resultForNobody, ResultAnswered}
+use Rattle.service.proofs.OrderLaws.{one-of-three, first-before, first-behind, none-at}
 use Rattle.service.specs.declared.Status.{Status}
 use Rattle.service.specs.declared.Status.the-variants.{AuthenticationError, NotAuthenticated, BodySizeExceedsLimit}
-use Rattle.service.specs.declared.Checked.the-variants.{Passed, Refused}
 use Rattle.service.specs.declared.Asker.{Asker}
 use Rattle.service.specs.declared.Asker.the-variants.{Nobody, Named}
 use Rattle.service.specs.declared.Auth.{Auth}
@@ -46,24 +46,6 @@ use Rattle.service.specs.declared.Answered.{Answered}
 -- ---- the first test that applies
 
 module _ {A : Type 0} where
-  first-behind : (xs ys : List (Bool × A)) → firstOf xs ≡ none → firstOf (xs ++ ys) ≡ firstOf ys
-  unfolding firstOf
-  first-behind [] ys e = refl
-  first-behind ((true, x) ∷ xs) ys e = absurd (some≢none x e)
-  first-behind ((false, x) ∷ xs) ys e = first-behind xs ys e
-
-  first-before : (xs ys : List (Bool × A)) (a : A) → firstOf xs ≡ some a → firstOf (xs ++ ys) ≡ some a
-  unfolding firstOf
-  first-before [] ys a e = absurd (some≢none a (sym e))
-  first-before ((true, x) ∷ xs) ys a e = e
-  first-before ((false, x) ∷ xs) ys a e = first-before xs ys a e
-
-  -- where none applies, the test number k fails
-  none-at : (d : A) (ts : List (Bool × A)) (k : ℕ) → firstOf ts ≡ none → getD ts k (false, d) .0 ≡ false
-  none-at d [] k e = refl
-  none-at d (t ∷ ts) zero e = none-first (t .0) (t .1) ts e .0
-  none-at d (t ∷ ts) (suc k) e = none-at d ts k (none-first (t .0) (t .1) ts e .1)
-
   abbrev AllHave : (A → Type 0) → List (Bool × A) → Type 0
   AllHave P [] = Unit {0}
   AllHave P (t ∷ ts) = P (t .1) × AllHave P ts
@@ -77,16 +59,6 @@ module _ {A : Type 0} where
 
 -- ---- what the tests of a header say
 
-pub check-passed : (o : Option Status) → checkedOf o ≡ Passed → o ≡ none
-unfolding checkedOf
-check-passed none e = refl
-check-passed (some status) e = absurd (let z : _≡_ {A = ℕ} 0 1 = cc in omega arith)
-
-pub check-refused : (o : Option Status) (status : Status) → checkedOf o ≡ Refused status → o ≡ some status
-unfolding checkedOf
-check-refused none status e = absurd (let z : _≡_ {A = ℕ} 0 1 = cc in omega arith)
-check-refused (some s) status e = cc
-
 -- no test's status is Success
 pub header-status : (h : Header) (status : Status) → firstOf (headerTests h) ≡ some status → 0 < statusNumber status
 unfolding headerTests statusNumber
@@ -94,22 +66,10 @@ header-status h status e =
     first-has (λ s. 0 < statusNumber s) (headerTests h)
     (omega arith, (omega arith, (omega arith, (omega arith, (omega arith, (omega arith, (omega arith, tt))))))) status e
 
-one-of-three : (a b d n : ℕ) → oneOf (a ∷ b ∷ d ∷ []) n ≡ true → (n ≡ a) ⊎ ((n ≡ b) ⊎ (n ≡ d))
-unfolding oneOf
-one-of-three a b d n e = go (eqb n a) refl (eqb n b) refl (eqb n d) refl e
-  where
-    go :
-        (s : Bool) → eqb n a ≡ s → (t : Bool) → eqb n b ≡ t → (u : Bool) → eqb n d ≡ u →
-        s || (t || (u || false)) ≡ true → (n ≡ a) ⊎ ((n ≡ b) ⊎ (n ≡ d))
-    go true p t q u r w = inl (eqb-true n a p)
-    go false p true q u r w = inr (inl (eqb-true n b q))
-    go false p false q true r w = inr (inr (eqb-true n d r))
-    go false p false q false r w = absurd (true≢false (sym w))
-
 module _ (h : Header) (passed : PassedHeader h) where
   of-provider : oneOf (opcodesOf (h .provider)) (h .opcode) ≡ true
   unfolding headerTests
-  of-provider = not-false _ (none-at AuthenticationError (headerTests h) 5 passed)
+  of-provider = not-false _ (none-at (headerTests h) 5 AuthenticationError passed)
 
   pub core-opcode : h .provider ≡ 0 → oneOfCore (h .opcode)
   unfolding opcodesOf
@@ -121,11 +81,11 @@ module _ (h : Header) (passed : PassedHeader h) where
 
   pub provider-small : h .provider ≤ 1
   unfolding headerTests
-  provider-small = ltb-false _ _ (none-at AuthenticationError (headerTests h) 4 passed)
+  provider-small = ltb-false _ _ (none-at (headerTests h) 4 AuthenticationError passed)
 
   pub auth-type-small : h .«auth_type» ≤ 1
   unfolding headerTests
-  auth-type-small = ltb-false _ _ (none-at AuthenticationError (headerTests h) 6 passed)
+  auth-type-small = ltb-false _ _ (none-at (headerTests h) 6 AuthenticationError passed)
 
 -- ---- the operation
 

@@ -95,19 +95,19 @@ module _ {A : Type 0} where
   first-behind ((false, b) ∷ ts) us e = first-behind ts us e
 
   -- no case applies, so the test number k does not hold
-  none-at : (ts : List (Bool × A)) (k : ℕ) (a : A) → firstOf ts ≡ none → getD ts k (false, a) .0 ≡ false
+  pub none-at : (ts : List (Bool × A)) (k : ℕ) (a : A) → firstOf ts ≡ none → getD ts k (false, a) .0 ≡ false
   none-at [] k a e = refl
   none-at (t ∷ ts) zero a e = none-first (t .0) (t .1) ts e .0
   none-at (t ∷ ts) (suc k) a e = none-at ts k a (none-first (t .0) (t .1) ts e .1)
 
 -- ---- a header that was checked
 
-passed-none : (o : Option Status) → checkedOf o ≡ Passed → o ≡ none
+pub passed-none : (o : Option Status) → checkedOf o ≡ Passed → o ≡ none
 unfolding checkedOf
 passed-none none e = refl
 passed-none (some status) e = let z : _≡_ {A = ℕ} 0 1 = cc in absurd (let w : ⊥ = omega arith in w)
 
-refused-some : (o : Option Status) (status : Status) → checkedOf o ≡ Refused status → o ≡ some status
+pub refused-some : (o : Option Status) (status : Status) → checkedOf o ≡ Refused status → o ≡ some status
 unfolding checkedOf
 refused-some none status e = let z : _≡_ {A = ℕ} 0 1 = cc in absurd (let w : ⊥ = omega arith in w)
 refused-some (some s) status e = cc

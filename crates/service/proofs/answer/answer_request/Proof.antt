@@ -16,7 +16,8 @@ use Rattle.service.specs.Answers.{PassedHeader}
 use Rattle.service.specs.declared.Asker.the-variants.{Nobody, Named}
 use Rattle.service.specs.declared.Auth.the-variants.{Accepted}
 use Rattle.service.proofs.JudgementLaws.{asks}
-use Rattle.service.proofs.AnswerLaws.{check-passed, check-refused, header-status, authFound, header-refused, auth-refused, by-nobody, by-application, body-there, auth-there, answered-refused, answered}
+use Rattle.service.proofs.OrderLaws.{passed-none, refused-some}
+use Rattle.service.proofs.AnswerLaws.{header-status, authFound, header-refused, auth-refused, by-nobody, by-application, body-there, auth-there, answered-refused, answered}
 use Rattle.service.proofs.answer.answer_request.Statement.{statement}
 use Rattle.service.proofs.answer.answer_request.Tie as tie
 
@@ -44,7 +45,7 @@ returns c =
     let k = t .before .before in
     let e = k .before .read-header .ensures in
     let a = k .before .before .before .before .before .args in
-    let f = rw e at (check-refused _ _ (sym (k .check-header .ensures) ∙ t .status .given .1)) in
+    let f = rw e at (refused-some _ _ (sym (k .check-header .ensures) ∙ t .status .given .1)) in
     answered-refused (a .registry .now) (a .request .now) _ (header-refused (a .registry .now) (a .request .now) _ f) (header-status (headerOf (a .request .now)) _ f)
     (rw e at (r .refuse .ensures))
 
@@ -98,7 +99,7 @@ header c = c .before .before .before .before .before .before .before .before .re
 passed : (c : tie.After-authenticate) → PassedHeader (headerOf (request c))
 passed c =
     let t = c .before .before .before .before .before in
-    rw (header c) at (check-passed _ (sym (t .before .before .check-header .ensures) ∙ t .enum-told .given .1))
+    rw (header c) at (passed-none _ (sym (t .before .before .check-header .ensures) ∙ t .enum-told .given .1))
 
 found : (c : tie.After-authenticate) → c .authenticate .result ≡ authFound (registry c) (request c)
 unfolding headerOf
