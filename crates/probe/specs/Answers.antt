@@ -1,5 +1,5 @@
 -- What the exported functions answer, by the leaves' definitions; where a leaf's `requires` does not hold, `refused` or
--- false, and nothing is written.
+-- false, and nothing is written. No part of the reading copy.
 use Prim.Native.Nat.{ℕ}
 use mathlib.Core.Path.{_≡_}
 use mathlib.Core.Bool.{Bool, true, false, _&&_}

@@ -1,4 +1,4 @@
--- What the exported functions give back, as numbers.
+-- What the exported functions give back, as numbers. No part of the reading copy.
 use Prim.Native.Nat.{ℕ}
 use mathlib.Core.List.{List, [], _∷_}
 use lib.ListN.{length, replicate}
