@@ -1,29 +1,22 @@
--- Laws of the order's tests: one of the listed numbers, one test of a header after another, what a header that passes says,
--- and who asks.
-use mathlib.Core.Path.{_≡_, refl, sym, ap, _∙_}
+-- Laws of the order's tests: one of the listed numbers, one test of a header after another, and who asks.
+use mathlib.Core.Path.{_≡_, refl, sym}
 use mathlib.Core.Bool.{Bool, true, false, false≢true, _||_}
 use mathlib.Core.Logic.{_⊎_, inl, inr, ⊎-elim}
 use mathlib.Core.Option.{Option, none, some}
 use mathlib.Core.List.{List, [], _∷_, _++_}
-use Prim.Native.Nat.{ℕ, zero, suc, _≤_}
+use Prim.Native.Nat.{ℕ, zero, suc}
 use native.Mathlib.Omega.{arith}
-use borrow.Author.Tests.{eqb-true, eqb-false, ne-eqb, ltb-false}
-use lib.ListN.{length, drop, getD}
+use borrow.Author.Tests.{eqb-true, eqb-false, ne-eqb}
+use lib.ListN.{getD}
 use lib.Dec.{eqb}
 use Rattle.wire.specs.Choice.{firstOf}
 use Rattle.wire.specs.Lists.{oneOf}
-use Rattle.wire.specs.Request.{requestOf}
-use Rattle.wire.specs.Header.{headerOf}
-use Rattle.wire.specs.declared.header.Header.{Header}
-use Rattle.wire.proofs.TestLaws.{or-left, or-right, not-false, some≢none, none-first}
+use Rattle.wire.proofs.TestLaws.{or-left, or-right, some≢none, none-first}
 use Rattle.registry.specs.Check.{applicationFound}
 use Rattle.registry.specs.declared.Line.{Line}
 use Rattle.registry.specs.declared.Application.the-variants.{Named, Unknown}
-use Rattle.service.specs.Operations.{opcodesOf}
-use Rattle.service.specs.Judgement.{refusals}
-use Rattle.service.specs.Decided.{headerTests, checkedOf}
+use Rattle.service.specs.Decided.{checkedOf}
 use Rattle.service.specs.declared.Status.{Status}
-use Rattle.service.specs.declared.Status.the-variants.{Success}
 use Rattle.service.specs.declared.Checked.the-variants.{Passed, Refused}
 
 -- ---- one of the listed numbers
@@ -111,40 +104,6 @@ pub refused-some : (o : Option Status) (status : Status) → checkedOf o ≡ Ref
 unfolding checkedOf
 refused-some none status e = let z : _≡_ {A = ℕ} 0 1 = cc in absurd (let w : ⊥ = omega arith in w)
 refused-some (some s) status e = cc
-
-pub record Passing (h : Header) : Type 0 where
-  pub provider : h .provider ≤ 1
-  pub opcode : oneOf (opcodesOf (h .provider)) (h .opcode) ≡ true
-  pub authType : h .«auth_type» ≤ 1
-
-pub passing : (h : Header) → checkedOf (firstOf (headerTests h)) ≡ Passed → Passing h
-unfolding headerTests
-passing h e =
-    let no : firstOf (headerTests h) ≡ none = passed-none _ e in
-    record {
-      provider = ltb-false _ _ (none-at (headerTests h) 4 Success no);
-      opcode = not-false _ (none-at (headerTests h) 5 Success no);
-      authType = ltb-false _ _ (none-at (headerTests h) 6 Success no);
-    }
-
--- the header's tests are the first of the order's
-module _ (registry bytes : List ℕ) where
-  abbrev tests : List (Bool × Status)
-  tests = headerTests (headerOf bytes)
-
-  -- the tests behind them: of the auth bytes
-  abbrev pub authTests : List (Bool × Status)
-  authTests = drop (length tests) (refusals registry (requestOf bytes))
-
-  header-first : refusals registry (requestOf bytes) ≡ tests ++ authTests
-  unfolding refusals headerTests headerOf
-  header-first = refl
-
-  pub header-refuses : (status : Status) → checkedOf (firstOf tests) ≡ Refused status → firstOf (refusals registry (requestOf bytes)) ≡ some status
-  header-refuses status e = ap firstOf header-first ∙ first-before tests authTests status (refused-some _ status e)
-
-  pub header-passes : checkedOf (firstOf tests) ≡ Passed → firstOf (refusals registry (requestOf bytes)) ≡ firstOf authTests
-  header-passes e = ap firstOf header-first ∙ first-behind tests authTests (passed-none _ e)
 
 -- ---- the application that was found
 
