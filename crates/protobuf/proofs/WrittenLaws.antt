@@ -7,7 +7,7 @@ use mathlib.Core.Path.{_≡_, refl, ap, sym, _∙_}
 use mathlib.Core.List.{List, [], _∷_, _++_}
 use lib.ListN.{length, take, drop, set, length-append, length-set}
 use lib.Seq.{take-suc-set, drop-set-lt, drop-drop, append-snoc, set-split, length-take-le}
-use lib.Dec.{ltb, eqb}
+use lib.Dec.{ltb}
 use borrow.Author.Tests.{lt-ltb, le-ltb, eq-eqb, ne-eqb}
 use Rattle.wire.specs.Wrote.{Wrote}
 use Rattle.wire.proofs.TestLaws.{either}
@@ -152,13 +152,6 @@ bytes-field-length number bytes h =
     let tag : List ℕ = varint (8 * number + 2) in
     let size : List ℕ = varint (length bytes) in
     omega (arith, ap length (bytes-field number bytes h), length-append tag (size ++ bytes), length-append size bytes)
-
-pub number-field-short : (number value : ℕ) → length (numberField number value) ≤ 20
-unfolding numberField
-number-field-short number value =
-    let none : 0 ≤ 20 = omega arith in
-    let both : length (varint (8 * number) ++ varint value) ≤ 20 = rw length-append (omega (arith, varint-short (8 * number), varint-short value)) in
-    either (λ (l : List ℕ). length l ≤ 20) (eqb value 0) (λ _. none) (λ _. both)
 
 pub bytes-field-short : (number : ℕ) (bytes : List ℕ) → length (bytesField number bytes) ≤ length bytes + 20
 bytes-field-short number [] = omega (arith, ap length (bytes-field-none number [] (omega arith)))

@@ -94,9 +94,6 @@ module _ (head size count : ℕ) (s : List ℕ) (i : ℕ) (h : i < count) where
       → distinct (drop i (blockNames head size count s)) ≡ false
   distinct-fail e = rw (names-cons head size count s i h, distinct-cons, e)
 
-  pub length-rest : i + 1 + length (drop (i + 1) (blockNames head size count s)) ≡ count
-  length-rest = rw (length-drop, length-names head size count s) (omega arith)
-
 pub distinct-end : (head size count : ℕ) (s : List ℕ) (i : ℕ) → count ≤ i → distinct (drop i (blockNames head size count s)) ≡ true
 unfolding distinct
 distinct-end head size count s i h =

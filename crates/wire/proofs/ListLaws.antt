@@ -92,9 +92,6 @@ getD-then-zeros [] m i = getD-zeros m i
 getD-then-zeros (x ∷ xs) m zero = refl
 getD-then-zeros (x ∷ xs) m (suc i) = getD-then-zeros xs m i
 
-pub padded-at : (n : ℕ) (xs : List ℕ) (i : ℕ) → getD (padded n xs) i 0 ≡ getD xs i 0
-padded-at n xs i = getD-then-zeros xs (n - length xs) i
-
 pub length-padded : (n : ℕ) (xs : List ℕ) → length xs ≤ n → length (padded n xs) ≡ n
 length-padded n xs h = simp (length-append, length-replicate) (omega arith)
 
