@@ -58,6 +58,10 @@ wanted-more s u = wanted s (unfinished-held s u) .more
 pub wanted-few : (s : List ℕ) → next s ≡ unfinished → wantedOf s ≤ heldMost
 wanted-few s u = wanted s (unfinished-held s u) .few
 
+-- a beginning of a request has room
+pub begun-few : (s : List ℕ) → next s ≡ unfinished → length s ≤ heldMost
+begun-few s u = let more = wanted-more s u in let few = wanted-few s u in omega arith
+
 -- ---- bytes behind, no more than are wanted: what they then begin with ends with them
 
 module _ (s x : List ℕ) (u : next s ≡ unfinished) (few : length s + length x ≤ wantedOf s) where
@@ -111,7 +115,7 @@ module _ (s x : List ℕ) (u : next s ≡ unfinished) (few : length s + length x
 
 module _ (memory : List ℕ) (n : ℕ) (h : Holding memory n) where
   pub holding-few : n ≤ heldMost
-  holding-few = let w = wanted-more (heldIn n memory) (h .begun) in let f = wanted-few (heldIn n memory) (h .begun) in let l = h .long in omega arith
+  holding-few = let f = begun-few (heldIn n memory) (h .begun) in let l = h .long in omega arith
 
   pub holding-size : length memory ≡ connectionSize
   unfolding connectionBytes

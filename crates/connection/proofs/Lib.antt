@@ -2,3 +2,4 @@ pub mod ConnectionLaws
 pub mod CheckLaws
 pub mod ChangeLaws
 pub mod GatherLaws
+pub mod StateLaws

@@ -19,9 +19,10 @@ use Rattle.stream.proofs.CallLaws.{call-responds, call-goes-on}
 use Rattle.connection.specs.Connection.{wellFormedConnection}
 use Rattle.connection.proofs.ConnectionLaws.{store-load}
 use Rattle.registry.specs.WellFormed.{wellFormedRegistry}
-use Rattle.service.specs.Counters.{Counts, totalsOf, countersOf, largestCounter}
+use Rattle.service.specs.Counters.{Counts, totalsOf, countersOf}
 use Rattle.service.specs.Judgement.{refusedEarly, judgement}
-use Rattle.service.specs.Call.{Memory, stateIn, memoryOf, layout, bufferLeast, chunkMost, counterMost, refusalTests, codeOf, refusalOf, callOutcome}
+use Rattle.service.specs.Call.{Memory, stateIn, memoryOf, layout, bufferLeast, refusalTests, codeOf, refusalOf, callOutcome}
+use Rattle.service.specs.Served.{Ready}
 use Rattle.service.specs.declared.Refusal.{Refusal}
 use Rattle.service.proofs.JudgementLaws.{keeps}
 use Rattle.service.proofs.ResponseLaws.{responseMost, bad-short, oversized-short, judge-short}
@@ -82,19 +83,12 @@ call-short s w (b ∷ chunk) = go (λ t v. call-short t v chunk) (byteRule judge
 
 -- ---- a call that is not refused has passed the five tests
 
-pub record Passed (m : Memory) (call : Call) : Type 0 where
-  pub room : bufferLeast ≤ length (call .buffer)
-  pub short : length (call .chunk) ≤ chunkMost
-  pub connection : wellFormedConnection (m .connection) ≡ true
-  pub registry : wellFormedRegistry (m .registry) ≡ true
-  pub counters : largestCounter (m .counters) ≤ counterMost
-
 no-code : (o : Option Refusal) → codeOf o ≡ none → o ≡ none
 unfolding codeOf
 no-code none e = refl
 no-code (some r) e = absurd (some≢none _ e)
 
-pub passed : (m : Memory) (call : Call) → refusalOf m call ≡ none → Passed m call
+pub passed : (m : Memory) (call : Call) → refusalOf m call ≡ none → Ready m (call .chunk) (call .buffer)
 unfolding refusalOf refusalTests
 passed m call e =
     let (c1, e₁) = none-first _ _ _ (no-code (firstOf (refusalTests m call)) e) in
@@ -103,11 +97,11 @@ passed m call e =
     let (c4, e₄) = none-first _ _ _ e₃ in
     let (c5, e₅) = none-first _ _ _ e₄ in
     record {
-      room = ltb-false _ _ c1;
-      short = ltb-false _ _ c2;
-      connection = not-false (wellFormedConnection (m .connection)) c3;
-      registry = not-false (wellFormedRegistry (m .registry)) c4;
-      counters = ltb-false _ _ c5;
+      buffer-good = ltb-false _ _ c1;
+      chunk-good = ltb-false _ _ c2;
+      connection-good = not-false (wellFormedConnection (m .connection)) c3;
+      registry-good = not-false (wellFormedRegistry (m .registry)) c4;
+      counters-good = ltb-false _ _ c5;
     }
 
 -- ---- any call
@@ -121,7 +115,7 @@ module _ (m : Memory) (call : Call) where
   effect : Effect (List ℕ) Counts (List ℕ)
   effect = callRule judgement (stateIn m) (call .chunk)
 
-  refused-outcome : (code : ℕ) → refusalOf m call ≡ some code → callOutcome m call ≡ record { answer = refused code call; memory = m }
+  pub refused-outcome : (code : ℕ) → refusalOf m call ≡ some code → callOutcome m call ≡ record { answer = refused code call; memory = m }
   unfolding callOutcome callOn
   refused-outcome code e = rw (e, callOn)
 
@@ -152,7 +146,7 @@ module _ (m : Memory) (call : Call) where
       go (some code) e = rw (refused-outcome code e) (record { written = omega arith; buffer-length = refl })
       go none e =
           let t = passed m call e in
-          rw (taken-outcome e) (took-fits (effect .taken) (effect .response) _ (call-short (stateIn m) (t .registry) (call .chunk)) (t .room))
+          rw (taken-outcome e) (took-fits (effect .taken) (effect .response) _ (call-short (stateIn m) (t .registry-good) (call .chunk)) (t .buffer-good))
 
   pub refused-exactly : callOutcome m call .answer .code ≡ says (refusalOf m call)
   unfolding refused took effect
@@ -198,5 +192,5 @@ empty-idle m buffer = go (refusalOf m call) refl
           taken = refl;
           written = refl;
           buffer-stays = refl;
-          memory-stays = λ i. record { connection = store-load (m .connection) (t .connection) i; registry = m .registry; counters = m .counters };
+          memory-stays = λ i. record { connection = store-load (m .connection) (t .connection-good) i; registry = m .registry; counters = m .counters };
         })

@@ -11,3 +11,5 @@ pub mod AnswerLaws
 pub mod DecidedLaws
 pub mod OrderLaws
 pub mod OutputLaws
+pub mod ServeLaws
+pub mod CalledLaws

@@ -2,12 +2,14 @@
 use Prim.Native.Nat.{ℕ}
 use mathlib.Core.Option.{Option, none, some}
 use mathlib.Core.List.{List}
-use Rattle.stream.specs.Calls.{Call}
+use Rattle.stream.specs.Calls.{Call, CallOutcome}
 use Rattle.service.specs.Status.{refusalNumber}
 use Rattle.service.specs.Call.{Memory}
 use Rattle.service.specs.declared.Counters.{Counters}
 use Rattle.service.specs.declared.Refusal.{Refusal}
 use Rattle.service.specs.declared.Code.{Code}
+use Rattle.service.specs.declared.Outcome.{Outcome}
+use Rattle.service.specs.declared.CallAnswer.{CallAnswer}
 use Rattle.service.specs.declared.Code.the-variants.{Taken, Refused}
 
 -- what a function is lent, as a call's memory and as the call
@@ -25,3 +27,17 @@ codeFor (some refusal) = Refused refusal
 unfoldable pub codeNumber : Code → ℕ
 codeNumber Taken = 0
 codeNumber (Refused refusal) = refusalNumber refusal
+
+-- all that a call says and leaves
+abbrev pub outcomeWith : Outcome → (connection registry buffer : List ℕ) → CallOutcome Memory
+outcomeWith o connection registry buffer = record {
+  answer = record { code = codeNumber (o .code); taken = o .taken; written = o .written; buffer = buffer };
+  memory = lentMemory connection registry (o .counters);
+}
+
+-- an outcome is an answer and the counters
+abbrev pub answerOf : Outcome → CallAnswer
+answerOf o = record { code = o .code; taken = o .taken; written = o .written }
+
+abbrev pub outcomeOf : CallAnswer → Counters → Outcome
+outcomeOf a counters = record { code = a .code; taken = a .taken; written = a .written; counters = counters }

@@ -9,3 +9,4 @@ pub mod Decided
 pub mod Answers
 pub mod Counted
 pub mod Called
+pub mod Served

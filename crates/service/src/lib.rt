@@ -4,10 +4,12 @@ use registry::Line;
 use registry::Slot;
 
 pub mod answer;
+pub mod call;
 pub mod counting;
 pub mod operations;
 pub mod order;
 pub mod refusals;
+pub mod serve;
 pub mod statuses;
 
 // A response's status: document 01's table, ascending by number.
@@ -49,6 +51,7 @@ pub enum Code {
 
 // Document 01's tally: bytes taken, bytes of answered requests, bytes dropped; requests served for each
 // application, requests served with auth type 0, requests refused for each status but Success.
+#[repr(C)]
 pub struct Counters {
     pub taken: u64,
     pub answered: u64,
@@ -104,5 +107,27 @@ pub struct Decision {
 pub struct Answered {
     pub status: Status,
     pub asker: Asker,
+    pub written: usize,
+}
+
+// What a taken call comes to: how many bytes it took, how many it wrote, and the counters after it.
+pub struct Served {
+    pub taken: usize,
+    pub written: usize,
+    pub counters: Counters,
+}
+
+// What a call says, and the counters after it.
+pub struct Outcome {
+    pub code: Code,
+    pub taken: usize,
+    pub written: usize,
+    pub counters: Counters,
+}
+
+// What a call says: whether it was taken, how many bytes of the chunk it took, and how many it wrote.
+pub struct CallAnswer {
+    pub code: Code,
+    pub taken: usize,
     pub written: usize,
 }

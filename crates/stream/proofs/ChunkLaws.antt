@@ -508,7 +508,7 @@ whole-fits held chunk n u q =
 
 -- ---- LAW 4: any connection that is well formed
 
-skipping-more : (header : List ℕ) (toGo : ℕ) → wellFormed (skipping header toGo) ≡ true → 1 ≤ toGo
+pub skipping-more : (header : List ℕ) (toGo : ℕ) → wellFormed (skipping header toGo) ≡ true → 1 ≤ toGo
 unfolding wellFormed
 skipping-more header toGo h =
     leb-true 1 toGo (and-right (leb 6 (length header) && legalStart header && eqb (length header) (headerLength header) && oversized header) (leb 1 toGo)

@@ -1,4 +1,5 @@
 pub mod FrameLaws
+pub mod FramedLaws
 pub mod RulesLaws
 pub mod CallLaws
 pub mod AccountingLaws

@@ -2,7 +2,7 @@
 use wire::number::read_u16;
 use wire::number::read_u32;
 ghost use mathlib.Core.Path.{_≡_};
-ghost use Prim.Native.Nat.{_≤_};
+ghost use Prim.Native.Nat.{_≤_, _<_, _^_};
 ghost use lib.ListN.{length};
 ghost use Rattle.wire.specs.Request.{requestLength};
 ghost use Rattle.stream.specs.Frame.{legalStart, oversized, next};
@@ -56,7 +56,7 @@ pub fn is_oversized(bytes: &[u8]) -> bool
 // How long the request of a whole header is.
 pub fn request_length(bytes: &[u8]) -> u64
     requires { ⌜ 28 ≤ length (now bytes) ⌝ }
-    ensures { λ r. ⌜ r ≡ requestLength (now (bytes .entry)) ⌝ }
+    ensures { λ r. ⌜ (r ≡ requestLength (now (bytes .entry))) × (r < 2 ^ 40) ⌝ }
 {
     let size = read_u16(bytes, 4) as u64;
     let content = read_u32(bytes, 20) as u64;

@@ -1,7 +1,7 @@
 use Prim.Native.Nat.{ℕ, _+_, _-_, _<_}
 use Prim.{⊥}
 use mathlib.Core.Logic.{inl, inr}
-use mathlib.Core.Path.{_≡_, refl, sym, ap, subst, _∙_}
+use mathlib.Core.Path.{_≡_, sym, ap, subst, _∙_}
 use mathlib.Core.List.{List, [], _∷_}
 use denote.Enum.Declared.{tagOf}
 use types.Run.{OneOf}
@@ -9,10 +9,11 @@ use Rattle.stream.proofs.frame.Frame.{the-type}
 use native.Mathlib.Omega.{arith}
 use lib.ListN.{length}
 use borrow.Author.Needs.{needs}
-use Rattle.stream.specs.Frame.{Next, unfinished, badStart, skipped, whole, next}
+use Rattle.stream.specs.Frame.{unfinished, next}
 use Rattle.stream.specs.declared.frame.Frame.{Frame}
 use Rattle.stream.specs.declared.frame.Frame.the-variants.{Unfinished}
 use Rattle.stream.specs.Framed.{frameOf}
+use Rattle.stream.proofs.FramedLaws.{frame-unfinished}
 use Rattle.connection.specs.Gather.{heldIn}
 use Rattle.connection.proofs.GatherLaws.{Part, part-none, part-holds, part-again, holding-few, holding-size, after-few, after-size, after-in, after-some, gathers}
 use Rattle.connection.proofs.gather.gather.Statement.{statement}
@@ -22,19 +23,9 @@ use Rattle.connection.proofs.gather.gather.Lts as lts
 use Rattle.connection.proofs.gather.fill.Reads as fill-reads
 use Rattle.stream.proofs.frame.read_frame.Reads as read-frame-reads
 
-tag : Frame → ℕ
-tag f = tagOf the-type f
-
 -- a frame said to be unfinished is one
 told : (s t : List ℕ) (f : Frame) → s ≡ t → f ≡ frameOf (next s) → f ≡ Unfinished → next t ≡ unfinished
-unfolding tag
-told s t f same e u = ap next (sym same) ∙ go (next s) (sym e ∙ u)
-  where
-    go : (n : Next) → frameOf n ≡ Unfinished → n ≡ unfinished
-    go unfinished q = refl
-    go badStart q = absurd (let z : 1 ≡ 0 = ap tag q in omega arith)
-    go (skipped header missing) q = absurd (let z : 2 ≡ 0 = ap tag q in omega arith)
-    go (whole n) q = absurd (let z : 3 ≡ 0 = ap tag q in omega arith)
+told s t f same e u = ap next (sym same) ∙ frame-unfinished (next s) (sym e ∙ u)
 
 -- one said to be another is not
 not-told : (t : List ℕ) (f : Frame) → f ≡ frameOf (next t) → OneOf (1 ∷ (2 ∷ (3 ∷ []))) (tagOf the-type f) → next t ≡ unfinished → ⊥

@@ -61,7 +61,7 @@ returns-3 c =
     let w = wanted-body b six past in
     let m = wanted-more b (s .pre) in
     let f = wanted-few b (s .pre) in
-    let r = c .request-length .ensures in
+    let r = c .request-length .ensures .0 in
     (omega arith, omega arith, omega arith)
 
 pub wanted-spec : {M : Type 1} → statement M

@@ -59,7 +59,7 @@ request-length-requires c κs = let g = good (c .before) in omega arith
 returns-4 : tie.Need-returns-4
 returns-4 c =
     let g = good (c .before .before .before) in
-    let e = c .before .request-length .ensures in
+    let e = c .before .request-length .ensures .0 in
     sym (ap frameOf (next-whole _ (g .legal) (omega arith)) ∙ ap Whole (sym e))
 
 is-oversized-requires : tie.Need-is-oversized-requires
@@ -75,9 +75,9 @@ returns-5 c =
     let s : List ℕ = n .before .before .before .before .before .before .before .args .bytes .now in
     let large : oversized s ≡ true = sym (c .before .is-oversized .ensures) ∙ c .if5 .taken in
     let fits : headerLength s ≤ length s = omega arith in
-    let few : length s < requestLength s = omega (arith, n .request-length .ensures) in
+    let few : length s < requestLength s = omega (arith, n .request-length .ensures .0) in
     let h : length (take (headerLength s) s) ≡ 6 + n .before .before .read-u16 .result = length-take-le _ s fits ∙ omega arith in
-    let m : requestLength s - length s ≡ n .request-length .result - length s = omega (arith, n .request-length .ensures) in
+    let m : requestLength s - length s ≡ n .request-length .result - length s = omega (arith, n .request-length .ensures .0) in
     sym (ap frameOf (next-skipped s (g .legal) fits few large) ∙ ap₂ Skipped h m)
 
 returns-6 : tie.Need-returns-6
@@ -86,7 +86,7 @@ returns-6 c =
     let g = good (n .before .before) in
     let s : List ℕ = n .before .before .before .before .before .before .before .args .bytes .now in
     let small : oversized s ≡ false = sym (c .before .is-oversized .ensures) ∙ c .if5 .left in
-    let few : length s < requestLength s = omega (arith, n .request-length .ensures) in
+    let few : length s < requestLength s = omega (arith, n .request-length .ensures .0) in
     sym (ap frameOf (next-body s (g .legal) (omega arith) few small))
 
 pub read-frame-spec : {M : Type 1} → statement M

@@ -1,0 +1,37 @@
+-- What the exported functions answer, as numbers. No part of the reading copy.
+use Prim.Native.Nat.{ℕ, _+_}
+use mathlib.Core.Option.{Option, none, some}
+use mathlib.Core.List.{List}
+use Rattle.stream.specs.Calls.{CallOutcome}
+use Rattle.registry.specs.Roster.{faultNumber}
+use Rattle.registry.specs.declared.RosterFault.{RosterFault}
+use Rattle.connection.specs.declared.change.Opened.{Opened}
+use Rattle.connection.specs.declared.change.Opened.the-variants.{Fresh, WrongSize}
+use Rattle.service.specs.Counters.{noCounts, countersOf}
+use Rattle.service.specs.Call.{Memory}
+use Rattle.service.specs.Called.{lentMemory, codeNumber}
+use Rattle.service.specs.declared.Counters.{Counters}
+use Rattle.service.specs.declared.CallAnswer.{CallAnswer}
+use Rattle.abi.specs.declared.Answer.{Answer}
+
+-- 0 for a good file, else 1 + the R number
+unfoldable pub loadedNumber : Option RosterFault → ℕ
+loadedNumber none = 0
+loadedNumber (some fault) = 1 + faultNumber fault
+
+unfoldable pub openedNumber : Opened → ℕ
+openedNumber Fresh = 0
+openedNumber WrongSize = 1
+
+unfoldable pub zeroCounters : Counters
+zeroCounters = countersOf (record { taken = 0; answered = 0; dropped = 0; counts = noCounts })
+
+abbrev pub numbered : CallAnswer → Answer
+numbered a = record { code = codeNumber (a .code); taken = a .taken; written = a .written }
+
+-- all that a call says and leaves
+abbrev pub outcomeWith : Answer → (connection registry : List ℕ) → Counters → (buffer : List ℕ) → CallOutcome Memory
+outcomeWith a connection registry counters buffer = record {
+  answer = record { code = a .code; taken = a .taken; written = a .written; buffer = buffer };
+  memory = lentMemory connection registry counters;
+}

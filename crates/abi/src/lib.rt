@@ -1,0 +1,127 @@
+// The functions exported to C: an enum comes back as a number, and a slice crosses as pointer and length.
+use connection::change::Opened;
+use connection::change::open_connection;
+use registry::RosterFault;
+use registry::roster::Loaded;
+use registry::roster::load_roster;
+use service::CallAnswer;
+use service::Code;
+use service::Counters;
+use service::Refusal;
+use service::call::call;
+ghost use mathlib.Core.Path.{_≡_};
+ghost use Prim.Native.Nat.{_+_};
+ghost use Rattle.registry.specs.Roster.{faultNumber, loadRoster};
+ghost use Rattle.connection.specs.Connection.{openConnection};
+ghost use Rattle.service.specs.Status.{refusalNumber};
+ghost use Rattle.service.specs.Call.{callOutcome};
+ghost use Rattle.service.specs.Called.{lentMemory, callWith, codeNumber};
+ghost use Rattle.abi.specs.Numbers.{loadedNumber, openedNumber, zeroCounters, numbered, outcomeWith};
+
+// What a call says: 0 if it was taken, else the C number; how many bytes of the chunk it took, and how many it wrote.
+#[repr(C)]
+pub struct Answer {
+    pub code: u32,
+    pub taken: usize,
+    pub written: usize,
+}
+
+fn fault_number(fault: RosterFault) -> u32
+    ensures { λ r. ⌜ r ≡ 1 + faultNumber fault ⌝ }
+{
+    match fault {
+        RosterFault::WrongMemorySize => 1,
+        RosterFault::CutRecord => 2,
+        RosterFault::UnknownTag => 3,
+        RosterFault::BadName => 4,
+        RosterFault::NinthName => 5,
+        RosterFault::RepeatedName => 6,
+    }
+}
+
+// 0 for a good roster file, else one more than the R number.
+#[no_mangle]
+pub extern "C" fn razidkot_load_roster(file: &[u8], registry: &mut [u8]) -> u32
+    ensures { λ r. ⌜ (r ≡ loadedNumber (loadRoster (now (file .entry)) (now (registry .entry)) .fault)) × (now (registry .exit) ≡ loadRoster (now (file .entry)) (now (registry .entry)) .registry) ⌝ }
+{
+    match load_roster(file, registry) {
+        Loaded::Good => 0,
+        Loaded::Faulty(fault) => fault_number(fault),
+    }
+}
+
+// 0 for a fresh connection, 1 for memory of another size.
+#[no_mangle]
+pub extern "C" fn razidkot_open_connection(memory: &mut [u8]) -> u32
+    ensures { λ r. ⌜ (r ≡ openedNumber (openConnection (now (memory .entry)) .answer)) × (now (memory .exit) ≡ openConnection (now (memory .entry)) .memory) ⌝ }
+{
+    match open_connection(memory) {
+        Opened::Fresh => 0,
+        Opened::WrongSize => 1,
+    }
+}
+
+fn zero_counters() -> Counters
+    ensures { λ r. ⌜ r ≡ zeroCounters ⌝ }
+{
+    Counters {
+        taken: 0,
+        answered: 0,
+        dropped: 0,
+        served: [0; 8],
+        unauthenticated: 0,
+        refused: [0; 17],
+    }
+}
+
+#[no_mangle]
+pub extern "C" fn razidkot_clear_counters(counters: &mut Counters)
+    ensures { λ _. ⌜ now (counters .exit) ≡ zeroCounters ⌝ }
+{
+    *counters = zero_counters();
+}
+
+fn refusal_number(refusal: Refusal) -> u32
+    ensures { λ r. ⌜ r ≡ refusalNumber refusal ⌝ }
+{
+    match refusal {
+        Refusal::ResponseBufferTooSmall => 1,
+        Refusal::ChunkTooLong => 2,
+        Refusal::ConnectionIllFormed => 3,
+        Refusal::RegistryIllFormed => 4,
+        Refusal::CounterTooHigh => 5,
+    }
+}
+
+fn code_number(code: Code) -> u32
+    ensures { λ r. ⌜ r ≡ codeNumber code ⌝ }
+{
+    match code {
+        Code::Taken => 0,
+        Code::Refused(refusal) => refusal_number(refusal),
+    }
+}
+
+fn number(a: CallAnswer) -> Answer
+    ensures { λ r. ⌜ r ≡ numbered a ⌝ }
+{
+    let code = a.code;
+    Answer {
+        code: code_number(code),
+        taken: a.taken,
+        written: a.written,
+    }
+}
+
+#[no_mangle]
+pub extern "C" fn razidkot_call(
+    chunk: &[u8],
+    connection: &mut [u8],
+    registry: &mut [u8],
+    counters: &mut Counters,
+    response: &mut [u8],
+) -> Answer
+    ensures { λ r. ⌜ outcomeWith r (now (connection .exit)) (now (registry .exit)) (now (counters .exit)) (now (response .exit)) ≡ callOutcome (lentMemory (now (connection .entry)) (now (registry .entry)) (now (counters .entry))) (callWith (now (chunk .entry)) (now (response .entry))) ⌝ }
+{
+    number(call(chunk, connection, registry, counters, response))
+}

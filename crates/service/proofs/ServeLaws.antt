@@ -1,0 +1,194 @@
+-- What a taken call has done, from what its parts have done.
+use Prim.Native.Nat.{ℕ, _+_, _-_, _≤_, _<_}
+use mathlib.Core.Path.{_≡_, refl, sym, ap, _∙_, subst}
+use mathlib.Core.Bool.{Bool, true, false}
+use mathlib.Core.List.{List, []}
+use native.Mathlib.Omega.{arith}
+use lib.ListN.{length}
+use lib.Dec.{ltb}
+use borrow.Author.Tests.{lt-ltb, le-ltb, ltb-true, ltb-false}
+use Rattle.wire.specs.Wrote.{over}
+use Rattle.wire.specs.Request.{requestLength}
+use Rattle.stream.specs.Frame.{oversized}
+use Rattle.stream.specs.Rules.{Verdict, Connection, opened, skipping, closed, State, judge}
+use Rattle.stream.specs.Effects.{waiting, answering, dropping}
+use Rattle.stream.specs.Call.{Effect, callRule}
+use Rattle.stream.proofs.ChunkLaws.{call-closed}
+use Rattle.connection.specs.Connection.{laidOut, connectionBytes, connectionOf}
+use Rattle.connection.proofs.StateLaws.{WholeHeader, header-there, header-long, header-size}
+use Rattle.service.specs.Counters.{Counts, noCounts, count, totalsOf, countersOf, largestCounter}
+use Rattle.service.specs.Judgement.{judgement, refusedEarly, verdictOf}
+use Rattle.service.specs.Call.{bufferLeast, chunkMost, counterMost, stateIn}
+use Rattle.service.specs.Called.{lentMemory}
+use Rattle.service.specs.Decided.{lineOf}
+use Rattle.service.specs.Answers.{AnsweredBy}
+use Rattle.service.specs.Counted.{counted}
+use Rattle.service.specs.Served.{Carried, SkipReady, effectOf, skipEffect}
+use Rattle.service.specs.declared.Counters.{Counters}
+use Rattle.service.specs.declared.Answered.{Answered}
+use Rattle.service.specs.declared.Served.{Served}
+
+zero-right : (n : ℕ) → n + 0 ≡ n
+zero-right n = omega arith
+
+abbrev pub stateWith : Connection → (registry : List ℕ) → Counters → State (List ℕ) Counts
+stateWith k registry c = record { connection = k; registry = registry; totals = totalsOf c }
+
+module _ (k : Connection) (registry : List ℕ) (c : Counters) where
+  pub carried-wait : (n : ℕ) (conn : Connection) (connection before after : List ℕ) (r : Served)
+      → r ≡ record { taken = n; written = 0; counters = counted c n 0 0 (totalsOf c .counts) }
+      → connection ≡ connectionBytes conn → after ≡ before
+      → Carried (waiting (stateWith k registry c) n conn) connection registry before after r
+  unfolding totalsOf counted
+  carried-wait n conn connection before after r e m b = record {
+    taken-is = ap (λ (x : Served). x .taken) e;
+    response-is = (ap (λ (x : Served). x .written) e, b);
+    connection-is = m;
+    registry-is = refl;
+    counters-is =
+        ap (λ (x : Served). x .counters) e
+        ∙ (λ i. countersOf (record { taken = c .taken + n; answered = zero-right (c .answered) i; dropped = zero-right (c .dropped) i; counts = totalsOf c .counts }));
+  }
+
+  pub carried-drop : (n : ℕ) (connection before after : List ℕ) (r : Served)
+      → r ≡ record { taken = n; written = 0; counters = counted c n 0 n (totalsOf c .counts) }
+      → connection ≡ connectionBytes closed → after ≡ before
+      → Carried (dropping (stateWith k registry c) n) connection registry before after r
+  unfolding totalsOf counted
+  carried-drop n connection before after r e m b = record {
+    taken-is = ap (λ (x : Served). x .taken) e;
+    response-is = (ap (λ (x : Served). x .written) e, b);
+    connection-is = m;
+    registry-is = refl;
+    counters-is =
+        ap (λ (x : Served). x .counters) e
+        ∙ (λ i. countersOf (record { taken = c .taken + n; answered = zero-right (c .answered) i; dropped = c .dropped + n; counts = totalsOf c .counts }));
+  }
+
+  -- the response and the registry of a verdict hang on no counts
+  pub carried-answer : (v : Counts → Verdict (List ℕ) Counts (List ℕ)) (n size : ℕ) (conn : Connection) (connection kept before after : List ℕ) (a : Answered) (r : Served)
+      → AnsweredBy v kept before after a
+      → v noCounts .response ≡ v (totalsOf c .counts) .response
+      → v noCounts .registry ≡ v (totalsOf c .counts) .registry
+      → r ≡ record { taken = n; written = a .written; counters = counted c n size 0 (count (totalsOf c .counts) (lineOf (a .asker)) (a .status)) }
+      → connection ≡ connectionBytes conn
+      → Carried (answering (stateWith k registry c) n size (v (totalsOf c .counts)) conn) connection kept before after r
+  unfolding totalsOf counted
+  carried-answer v n size conn connection kept before after a r by same-response same-registry e m = record {
+    taken-is = ap (λ (x : Served). x .taken) e;
+    response-is =
+        record {
+          count = ap (λ (x : Served). x .written) e ∙ by .response .count ∙ ap length same-response;
+          bytes = by .response .bytes ∙ ap (λ (s : List ℕ). over s before) same-response;
+        };
+    connection-is = m;
+    registry-is = by .kept ∙ same-registry;
+    counters-is =
+        ap (λ (x : Served). x .counters) e
+        ∙ (λ i. countersOf (record { taken = c .taken + n; answered = c .answered + size; dropped = zero-right (c .dropped) i; counts = by .counts (totalsOf c .counts) i }));
+  }
+
+-- ---- an oversized request
+
+module _ (registry : List ℕ) (c : Counters) (header : List ℕ) (used here toGo : ℕ) where
+  pub skip-waits : here < toGo
+      → skipEffect registry c header used here toGo ≡ waiting (stateWith closed registry c) (used + here) (skipping header (toGo - here))
+  unfolding skipEffect
+  skip-waits h = rw (lt-ltb here toGo h)
+
+  pub skip-answers : toGo ≤ here
+      → skipEffect registry c header used here toGo
+      ≡ answering (stateWith closed registry c) (used + toGo) (requestLength header) (judgement .onOversized registry (totalsOf c .counts) header) (opened [])
+  unfolding skipEffect
+  skip-answers h = rw (le-ltb here toGo h)
+
+pub skip-ready : (connection header buffer : List ℕ) (c : Counters) (kind number used here toGo : ℕ)
+    → connection ≡ laidOut kind number header → WholeHeader header
+    → bufferLeast ≤ length buffer → largestCounter c ≤ counterMost → used + here ≤ chunkMost
+    → SkipReady connection buffer c used here toGo
+skip-ready connection header buffer c kind number used here toGo laid h room counters fits =
+    let there = header-there connection header kind number laid h in
+    let long = header-long connection header kind number laid h in
+    record {
+      buffer-good = room;
+      counters-good = counters;
+      used-good = fits;
+      size-good = header-size connection header kind number laid h;
+      long = subst (λ (x : List ℕ). 28 ≤ length x) (sym there) (h .long);
+      header-is = ap length there ∙ sym long;
+      kind = kind;
+      number = number;
+      laid = laid ∙ ap (laidOut kind number) (sym there);
+    }
+
+-- ---- a verdict's response and registry hang on no counts
+
+pub record Steady (v : Counts → Verdict (List ℕ) Counts (List ℕ)) : Type 0 where
+  pub response : (c d : Counts) → v c .response ≡ v d .response
+  pub registry : (c d : Counts) → v c .registry ≡ v d .registry
+
+pub bad-steady : (registry : List ℕ) → Steady (λ k. judgement .onBadStart registry k)
+unfolding judgement refusedEarly
+bad-steady registry = record { response = λ c d. refl; registry = λ c d. refl }
+
+pub judge-steady : (registry request : List ℕ) → Steady (λ k. judge judgement registry k request)
+unfolding judge judgement refusedEarly verdictOf
+judge-steady registry request = go (oversized request) refl
+  where
+    go : (b : Bool) → oversized request ≡ b → Steady (λ k. judge judgement registry k request)
+    go true e = rw (e, judge) (record { response = λ c d. refl; registry = λ c d. refl })
+    go false e = rw (e, judge) (record { response = λ c d. refl; registry = λ c d. refl })
+
+-- ---- a taken call, from what the rule of a call gives
+
+module _ (connection registry : List ℕ) (c : Counters) (chunk before : List ℕ) where
+  abbrev s : State (List ℕ) Counts
+  s = stateWith (connectionOf connection) registry c
+
+  pub serves-wait : (n : ℕ) (conn : Connection) (left after : List ℕ) (r : Served)
+      → callRule judgement s chunk ≡ waiting s n conn
+      → r ≡ record { taken = n; written = 0; counters = counted c n 0 0 (totalsOf c .counts) }
+      → left ≡ connectionBytes conn → after ≡ before
+      → Carried (effectOf (lentMemory connection registry c) chunk) left registry before after r
+  unfolding stateIn
+  serves-wait n conn left after r e w m b =
+      subst (λ (x : Effect (List ℕ) Counts (List ℕ)). Carried x left registry before after r) (sym e)
+      (carried-wait (connectionOf connection) registry c n conn left before after r w m b)
+
+  pub serves-answer : (v : Counts → Verdict (List ℕ) Counts (List ℕ)) (n size : ℕ) (conn : Connection) (left kept after : List ℕ) (a : Answered) (r : Served)
+      → Steady v
+      → callRule judgement s chunk ≡ answering s n size (v (totalsOf c .counts)) conn
+      → AnsweredBy v kept before after a
+      → r ≡ record { taken = n; written = a .written; counters = counted c n size 0 (count (totalsOf c .counts) (lineOf (a .asker)) (a .status)) }
+      → left ≡ connectionBytes conn
+      → Carried (effectOf (lentMemory connection registry c) chunk) left kept before after r
+  unfolding stateIn
+  serves-answer v n size conn left kept after a r steady e by w m =
+      subst (λ (x : Effect (List ℕ) Counts (List ℕ)). Carried x left kept before after r) (sym e)
+      (carried-answer (connectionOf connection) registry c v n size conn left kept before after a r by (steady .response _ _) (steady .registry _ _) w m)
+
+  pub serves-drop : (left after : List ℕ) (r : Served)
+      → connectionOf connection ≡ closed
+      → r ≡ record { taken = length chunk; written = 0; counters = counted c (length chunk) 0 (length chunk) (totalsOf c .counts) }
+      → left ≡ connectionBytes closed → after ≡ before
+      → Carried (effectOf (lentMemory connection registry c) chunk) left registry before after r
+  unfolding stateIn
+  serves-drop left after r e w m b =
+      subst (λ (x : Effect (List ℕ) Counts (List ℕ)). Carried x left registry before after r) (sym (call-closed judgement s chunk e))
+      (carried-drop (connectionOf connection) registry c (length chunk) left before after r w m b)
+
+  -- a request to skip, of which `here` bytes are at hand: waiting or answering, as the rule of a call says
+  pub serves-skip : (header : List ℕ) (used here toGo : ℕ) (left after : List ℕ) (r : Served)
+      → (here < toGo → callRule judgement s chunk ≡ waiting s (used + here) (skipping header (toGo - here)))
+      → (toGo ≤ here → callRule judgement s chunk ≡ answering s (used + toGo) (requestLength header) (judgement .onOversized registry (totalsOf c .counts) header) (opened []))
+      → Carried (skipEffect registry c header used here toGo) left registry before after r
+      → Carried (effectOf (lentMemory connection registry c) chunk) left registry before after r
+  unfolding stateIn
+  serves-skip header used here toGo left after r waits answers done = go (ltb here toGo) refl
+    where
+      on : skipEffect registry c header used here toGo ≡ callRule judgement s chunk → Carried (callRule judgement s chunk) left registry before after r
+      on e = subst (λ (x : Effect (List ℕ) Counts (List ℕ)). Carried x left registry before after r) e done
+
+      go : (b : Bool) → ltb here toGo ≡ b → Carried (callRule judgement s chunk) left registry before after r
+      go true t = let less = ltb-true here toGo t in on (skip-waits registry c header used here toGo less ∙ sym (waits less))
+      go false t = let more = ltb-false here toGo t in on (skip-answers registry c header used here toGo more ∙ sym (answers more))

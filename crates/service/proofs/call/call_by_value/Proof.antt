@@ -1,0 +1,78 @@
+-- `service::call::call_by_value` meets its contract.
+use mathlib.Core.Path.{_≡_, sym, _∙_}
+use Rattle.service.proofs.CallLaws.{passed}
+use Rattle.service.proofs.CalledLaws.{taken-passes, refused-call, taken-call}
+use Rattle.service.specs.Called.{lentMemory, callWith}
+use borrow.Author.Needs.{needs}
+use Rattle.service.proofs.call.call_by_value.Statement.{statement}
+use Rattle.service.proofs.call.call_by_value.Tie as tie
+
+judge-call-requires : tie.Need-judge-call-requires
+judge-call-requires c κs = search needs
+
+enum-told : tie.Need-enum-told
+enum-told c = search needs
+
+enum-told-2 : tie.Need-enum-told-2
+enum-told-2 c = search needs
+
+refuse-requires : tie.Need-refuse-requires
+refuse-requires c κs = search needs
+
+same-length : tie.Need-same-length
+same-length c = search needs
+
+same-length-2 : tie.Need-same-length-2
+same-length-2 c = search needs
+
+same-length-3 : tie.Need-same-length-3
+same-length-3 c = search needs
+
+returns : tie.Need-returns
+returns c =
+    let a = c .before .before .before .before .before .before .before .before .before .before .before .args in
+    refused-call (a .connection .now) (a .registry .now) (a .counters) (a .chunk .now) (a .response .now) (c .before .before .before .judge-call .result) (c .refuse .result) (c .before .before .before .judge-call .ensures) (c .before .before .match .keys2) (c .refuse .ensures)
+
+serve-requires : tie.Need-serve-requires
+serve-requires c κs =
+    let a = c .before .before .before .before .before .before .before .before .before .before .before .before .before .args in
+    passed _ _ (taken-passes (a .connection .now) (a .registry .now) (a .counters) (a .chunk .now) (a .response .now) (c .before .before .before .before .before .judge-call .result) (c .before .before .before .before .before .judge-call .ensures) (c .before .before .before .enum-told .given .1))
+
+take-requires : tie.Need-take-requires
+take-requires c κs = search needs
+
+same-length-4 : tie.Need-same-length-4
+same-length-4 c = search needs
+
+same-length-5 : tie.Need-same-length-5
+same-length-5 c = search needs
+
+same-length-6 : tie.Need-same-length-6
+same-length-6 c = search needs
+
+returns-2 : tie.Need-returns-2
+returns-2 c =
+    let a = c .before .before .before .before .before .before .before .before .before .before .before .before .before .before .before .before .before .before .before .before .before .args in
+    let serve = c .before .before .before .before .before .before .before .serve in
+    taken-call (a .connection .now) (a .registry .now) (a .counters) (a .chunk .now) (a .response .now) (serve .last .0) (serve .last .1 .0) (serve .last .1 .1 .0) (serve .result) (c .take .result)
+    (taken-passes (a .connection .now) (a .registry .now) (a .counters) (a .chunk .now) (a .response .now) (c .before .before .before .before .before .before .before .before .before .before .before .before .before .judge-call .result) (c .before .before .before .before .before .before .before .before .before .before .before .before .before .judge-call .ensures) (c .before .before .before .before .before .before .before .before .before .before .before .enum-told .given .1))
+    (serve .ensures) (c .take .ensures)
+
+pub call-by-value-spec : {M : Type 1} → statement M
+call-by-value-spec =
+    tie.close
+    (tie.spec
+    judge-call-requires
+    enum-told
+    enum-told-2
+    refuse-requires
+    same-length
+    same-length-2
+    same-length-3
+    returns
+    serve-requires
+    take-requires
+    same-length-4
+    same-length-5
+    same-length-6
+    returns-2)

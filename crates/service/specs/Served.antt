@@ -1,0 +1,69 @@
+-- What a taken call leaves in the memory that it was lent, in the reading copy's terms. No part of the reading copy.
+use Prim.Native.Nat.{ℕ, _+_, _-_, _≤_}
+use mathlib.Core.Bool.{true}
+use mathlib.Core.Path.{_≡_}
+use mathlib.Core.Option.{Option, none, some}
+use mathlib.Core.List.{List, []}
+use lib.ListN.{length, take, drop}
+use lib.Dec.{ltb}
+use Rattle.wire.specs.Choice.{if_then_else_}
+use Rattle.wire.specs.Request.{headerLength, requestLength}
+use Rattle.wire.specs.Wrote.{Wrote}
+use Rattle.stream.specs.Rules.{Connection, opened, skipping, closed, State}
+use Rattle.stream.specs.Effects.{waiting, answering}
+use Rattle.stream.specs.Call.{Effect, callRule}
+use Rattle.connection.specs.Connection.{connectionSize, laidOut, connectionBytes, wellFormedConnection}
+use Rattle.registry.specs.WellFormed.{wellFormedRegistry}
+use Rattle.service.specs.Counters.{Counts, totalsOf, countersOf, largestCounter}
+use Rattle.service.specs.Judgement.{judgement}
+use Rattle.service.specs.Call.{Memory, stateIn, bufferLeast, chunkMost, counterMost}
+use Rattle.service.specs.declared.Counters.{Counters}
+use Rattle.service.specs.declared.Served.{Served}
+
+-- none of C1 to C5 applies
+pub record Ready (m : Memory) (chunk buffer : List ℕ) : Type 0 where
+  pub buffer-good : bufferLeast ≤ length buffer
+  pub chunk-good : length chunk ≤ chunkMost
+  pub connection-good : wellFormedConnection (m .connection) ≡ true
+  pub registry-good : wellFormedRegistry (m .registry) ≡ true
+  pub counters-good : largestCounter (m .counters) ≤ counterMost
+
+-- the response, if there is one, was written over the front of `before`, which is now `after`; n says how many bytes
+abbrev pub WroteAny : Option (List ℕ) → (before after : List ℕ) → (n : ℕ) → Type 0
+WroteAny none before after n = (n ≡ 0) × (after ≡ before)
+WroteAny (some response) before after n = Wrote response before after n
+
+-- the effect was carried out
+pub record Carried (e : Effect (List ℕ) Counts (List ℕ)) (connection registry before after : List ℕ) (r : Served) : Type 0 where
+  pub taken-is : r .taken ≡ e .taken
+  pub response-is : WroteAny (e .response) before after (r .written)
+  pub connection-is : connection ≡ connectionBytes (e .state .connection)
+  pub registry-is : registry ≡ e .state .registry
+  pub counters-is : r .counters ≡ countersOf (e .state .totals)
+
+-- what a taken call does
+abbrev pub effectOf : Memory → (chunk : List ℕ) → Effect (List ℕ) Counts (List ℕ)
+effectOf m chunk = callRule judgement (stateIn m) chunk
+
+-- ---- an oversized request, of which `toGo` bytes are missing and `here` are at hand behind the `used` first bytes of the chunk
+
+unfoldable pub skipEffect : (registry : List ℕ) → Counters → (header : List ℕ) (used here toGo : ℕ) → Effect (List ℕ) Counts (List ℕ)
+skipEffect registry c header used here toGo =
+    let s : State (List ℕ) Counts = record { connection = closed; registry = registry; totals = totalsOf c } in
+    if ltb here toGo then waiting s (used + here) (skipping header (toGo - here))
+    else answering s (used + toGo) (requestLength header) (judgement .onOversized registry (totalsOf c .counts) header) (opened [])
+
+-- the header that a skipping connection holds
+abbrev pub headerAt : (connection : List ℕ) → List ℕ
+headerAt connection = take (headerLength (drop 9 connection)) (drop 9 connection)
+
+pub record SkipReady (connection buffer : List ℕ) (c : Counters) (used here toGo : ℕ) : Type 0 where
+  pub buffer-good : bufferLeast ≤ length buffer
+  pub counters-good : largestCounter c ≤ counterMost
+  pub used-good : used + here ≤ chunkMost
+  pub size-good : length connection ≡ connectionSize
+  pub long : 28 ≤ length (headerAt connection)
+  pub header-is : length (headerAt connection) ≡ headerLength (drop 9 connection)
+  pub kind : ℕ
+  pub number : ℕ
+  pub laid : connection ≡ laidOut kind number (headerAt connection)
