@@ -13,3 +13,4 @@ pub mod OrderLaws
 pub mod OutputLaws
 pub mod ServeLaws
 pub mod CalledLaws
+pub mod CodeDemand3

@@ -1,0 +1,122 @@
+-- Laws of the bill's lines: those of the applications and of the statuses, one by one.
+use mathlib.Core.Path.{_≡_, refl, sym, ap, _∙_}
+use mathlib.Core.Bool.{Bool, true, false}
+use mathlib.Core.List.{List, [], _∷_, _++_}
+use Prim.Native.Nat.{ℕ, suc, _+_, _-_, _*_, _≤_, _<_}
+use native.Mathlib.Nat.{zero-add}
+use native.Mathlib.Numerals.{add-one}
+use native.Mathlib.Omega.{arith}
+use borrow.Author.Tests.{eq-eqb, ne-eqb}
+use lib.ListN.{length, take, drop, getD, drop-of-length-le, List·getD-map}
+use lib.Seq.{drop-cons}
+use lib.Dec.{eqb}
+use Rattle.wire.specs.Choice.{if_then_else_}
+use Rattle.wire.specs.Lists.{all}
+use Rattle.wire.proofs.TestLaws.{and-left}
+use Rattle.wire.proofs.ListLaws.{all-drop}
+use Rattle.registry.specs.Names.{nameIn}
+use Rattle.registry.specs.Registry.{lineCount, lineSize, namesIn}
+use Rattle.registry.specs.WellFormed.{legalIfUsed, wellFormedRegistry}
+use Rattle.registry.specs.Check.{blockNames}
+use Rattle.registry.proofs.NameLaws.{legal-short}
+use Rattle.registry.proofs.WellFormedLaws.{good-of}
+use Rattle.registry.proofs.BlockNameLaws.{blockAt, fits, length-names, names-cons, name-at, name-length}
+use Rattle.service.specs.Text.{ascii}
+use Rattle.service.specs.Status.{statusNumber, refusedStatuses}
+use Rattle.service.specs.Bill.{decimal, textLine, applicationLines, refusedLines}
+use Rattle.service.specs.declared.Status.the-variants.{Success}
+use Rattle.billing.specs.Text.{usedNames, refusedNumber, refusedLine}
+
+-- ---- the applications
+
+used-some : (name : List ℕ) (names : List (List ℕ)) → 1 ≤ length name → usedNames (name ∷ names) ≡ name ∷ usedNames names
+unfolding usedNames
+used-some [] names h = absurd (omega arith)
+used-some (b ∷ name) names h = refl
+
+used-none : (name : List ℕ) (names : List (List ℕ)) → length name ≡ 0 → usedNames (name ∷ names) ≡ []
+unfolding usedNames
+used-none [] names h = refl
+used-none (b ∷ name) names h = absurd (omega arith)
+
+-- the lines from number i on
+abbrev pub linesFrom : (registry served : List ℕ) (i : ℕ) → List ℕ
+linesFrom registry served i = applicationLines i (usedNames (drop i (namesIn registry))) served
+
+abbrev pub applicationLine : (served : List ℕ) (i : ℕ) (name : List ℕ) → List ℕ
+applicationLine served i name = textLine (ascii "line") (decimal i ∷ name ∷ decimal (getD served i 0) ∷ [])
+
+pub lines-end : (registry served : List ℕ) (i : ℕ) → lineCount ≤ i → linesFrom registry served i ≡ []
+unfolding applicationLines usedNames blockNames
+lines-end registry served i h =
+    rw (drop-of-length-le (namesIn registry) (let x : length (namesIn registry) ≤ i = omega (arith, length-names 0 lineSize lineCount registry) in x))
+
+module _ (registry : List ℕ) (w : wellFormedRegistry registry ≡ true) (i : ℕ) (h : i < lineCount) (b : getD registry (i * lineSize) 0 < 256) where
+  -- the name's bytes, as the part of the registry that is lent
+  abbrev pub nameAt : List ℕ
+  nameAt = take (i * lineSize + 1 + getD registry (i * lineSize) 0 - (i * lineSize + 1)) (drop (i * lineSize + 1) registry)
+
+  name-is : nameIn (blockAt 0 lineSize registry i) ≡ nameAt
+  name-is = ap (λ (k : ℕ). nameIn (take lineSize (drop k registry))) (zero-add (i * lineSize)) ∙ name-at lineSize registry (i * lineSize) (omega arith) b
+
+  pub name-long : length nameAt ≡ getD registry (i * lineSize) 0
+  name-long =
+      sym (ap length (name-at lineSize registry (i * lineSize) (omega arith) b))
+      ∙ name-length lineSize registry (i * lineSize) (omega arith) (omega (arith, fits i lineCount lineSize h, good-of registry w .size)) b
+
+  names-next : drop i (namesIn registry) ≡ nameAt ∷ drop (i + 1) (namesIn registry)
+  unfolding blockNames
+  names-next = names-cons 0 lineSize lineCount registry i h ∙ ap (λ (n : List ℕ). n ∷ drop (i + 1) (namesIn registry)) name-is
+
+  pub lines-none : (served : List ℕ) → getD registry (i * lineSize) 0 ≡ 0 → linesFrom registry served i ≡ []
+  unfolding applicationLines
+  lines-none served e = rw (names-next, used-none nameAt (drop (i + 1) (namesIn registry)) (name-long ∙ e))
+
+  pub lines-next : (served : List ℕ) → (getD registry (i * lineSize) 0 ≡ 0 → ⊥)
+      → linesFrom registry served i ≡ applicationLine served i nameAt ++ linesFrom registry served (i + 1)
+  unfolding applicationLines
+  lines-next served n =
+      rw (names-next, used-some nameAt (drop (i + 1) (namesIn registry)) (omega (arith, name-long)), ← add-one i)
+
+  pub name-short : (getD registry (i * lineSize) 0 ≡ 0 → ⊥) → length nameAt ≤ 64
+  name-short n =
+      let named : length nameAt ≡ 0 → ⊥ = λ e. n (sym name-long ∙ e) in
+      let legal : all legalIfUsed (nameAt ∷ drop (i + 1) (namesIn registry)) ≡ true
+      = rw names-next at (all-drop legalIfUsed i (namesIn registry) (good-of registry w .lines .legal)) in
+      legal-short 64 nameAt (rw (ne-eqb (length nameAt) 0 named) at (and-left (legalIfUsed nameAt) _ legal))
+
+-- ---- the statuses
+
+-- the lines of the statuses from number i on
+abbrev pub refusedFrom : (refused : List ℕ) (i : ℕ) → List ℕ
+refusedFrom refused i = refusedLines (drop i refusedStatuses) (drop i refused)
+
+choice-append : (t : Bool) (l m : List ℕ) → (if t then m else l ++ m) ≡ (if t then [] else l) ++ m
+choice-append true l m = refl
+choice-append false l m = refl
+
+pub refused-next : (refused : List ℕ) (i : ℕ) → i < length refusedStatuses → i < length refused
+    → refusedFrom refused i ≡ refusedLine (refusedNumber i) (getD refused i 0) ++ refusedFrom refused (i + 1)
+unfolding refusedLines refusedLine refusedNumber
+refused-next refused i h k =
+    rw (add-one i, drop-cons refusedStatuses i Success h, drop-cons refused i 0 k)
+    (choice-append (eqb (getD refused i 0) 0)
+    (textLine (ascii "refused") (decimal (statusNumber (getD refusedStatuses i Success)) ∷ decimal (getD refused i 0) ∷ []))
+    (refusedLines (drop (suc i) refusedStatuses) (drop (suc i) refused)))
+
+pub refused-end : (refused : List ℕ) (i : ℕ) → length refusedStatuses ≤ i → refusedFrom refused i ≡ []
+unfolding refusedLines
+refused-end refused i h = rw (drop-of-length-le refusedStatuses h)
+
+pub refused-line-none : (number n : ℕ) → n ≡ 0 → refusedLine number n ≡ []
+unfolding refusedLine
+refused-line-none number n e = rw (eq-eqb n 0 e)
+
+pub refused-line-some : (number n : ℕ) → (n ≡ 0 → ⊥) → refusedLine number n ≡ textLine (ascii "refused") (decimal number ∷ decimal n ∷ [])
+unfolding refusedLine
+refused-line-some number n e = rw (ne-eqb n 0 e)
+
+pub refused-numbers : (i : ℕ)
+    → getD (1 ∷ 2 ∷ 3 ∷ 4 ∷ 6 ∷ 7 ∷ 9 ∷ 11 ∷ 12 ∷ 17 ∷ 19 ∷ 20 ∷ 1133 ∷ 1135 ∷ 1139 ∷ 1140 ∷ 1142 ∷ []) i 0 ≡ refusedNumber i
+unfolding refusedNumber statusNumber
+refused-numbers i = List·getD-map statusNumber refusedStatuses i Success

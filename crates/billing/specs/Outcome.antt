@@ -1,0 +1,45 @@
+-- What writing a bill comes to, for any memory and any buffer. No part of the reading copy: the bill's text is defined there.
+use Prim.Native.Nat.{ℕ}
+use mathlib.Core.Bool.{Bool, not}
+use mathlib.Core.Option.{Option, none, some}
+use mathlib.Core.List.{List, [], _∷_}
+use lib.ListN.{length}
+use lib.Dec.{ltb}
+use Rattle.wire.specs.Choice.{firstOf}
+use Rattle.wire.specs.Wrote.{over}
+use Rattle.connection.specs.Connection.{wellFormedConnection}
+use Rattle.registry.specs.Registry.{namesIn}
+use Rattle.registry.specs.WellFormed.{wellFormedRegistry}
+use Rattle.service.specs.Call.{Memory, stateIn}
+use Rattle.service.specs.Bill.{billOf}
+use Rattle.billing.specs.Text.{usedNames}
+use Rattle.billing.specs.declared.Billed.{Billed}
+use Rattle.billing.specs.declared.Billed.the-variants.{Written, BufferTooSmall, ConnectionIllFormed, RegistryIllFormed}
+
+-- a buffer of so many bytes has room for every bill
+abbrev pub billMost : ℕ
+billMost = 2048
+
+-- the bill of what is kept in memory
+unfoldable pub billIn : Memory → List ℕ
+billIn m = billOf (usedNames (namesIn (m .registry))) (stateIn m)
+
+-- in the order of the calls' refusals C1, C3, C4
+unfoldable pub refusalTests : (out : List ℕ) → Memory → List (Bool × Billed)
+refusalTests out m =
+    (ltb (length out) billMost, BufferTooSmall)
+    ∷ (not (wellFormedConnection (m .connection)), ConnectionIllFormed)
+    ∷ (not (wellFormedRegistry (m .registry)), RegistryIllFormed)
+    ∷ []
+
+pub record BillOutcome : Type 0 where
+  pub answer : Billed
+  pub out : List ℕ
+
+unfoldable pub outcomeOf : (out : List ℕ) → Memory → Option Billed → BillOutcome
+outcomeOf out m none = record { answer = Written (length (billIn m)); out = over (billIn m) out }
+outcomeOf out m (some refusal) = record { answer = refusal; out = out }
+
+-- the bill over the front of the buffer, or the first refusal that applies and the buffer as it came
+unfoldable pub billOutcome : (out : List ℕ) → Memory → BillOutcome
+billOutcome out m = outcomeOf out m (firstOf (refusalTests out m))

@@ -1,0 +1,42 @@
+// Words and numbers, written into a lent buffer from `at` on; each writer says where its text ends.
+use wire::bytes::copy_into;
+ghost use mathlib.Core.List.{_∷_};
+ghost use Prim.Native.Nat.{_+_, _≤_};
+ghost use lib.ListN.{length};
+ghost use Rattle.service.specs.Bill.{decimal};
+ghost use Rattle.billing.specs.Text.{Placed};
+
+pub fn write_word(out: &mut [u8], at: usize, word: &[u8]) -> usize
+    requires { ⌜ at + length (now word) ≤ length (now out) ⌝ }
+    ensures { λ r. ⌜ Placed (now (word .entry)) (now (out .entry)) (now (out .exit)) at r ⌝ }
+{
+    let copied = copy_into(&mut out[at..], word);
+    at + copied
+}
+
+// A number in decimal digits, which are found from the last one on.
+pub fn write_decimal(out: &mut [u8], at: usize, n: u64) -> usize
+    requires { ⌜ at + 20 ≤ length (now out) ⌝ }
+    ensures { λ r. ⌜ Placed (decimal n) (now (out .entry)) (now (out .exit)) at r × (r ≤ at + 20) ⌝ }
+{
+    let mut digits = [0u8; 20];
+    let mut from: usize = 20;
+    let mut rest = n;
+    while 9 < rest {
+        from -= 1;
+        digits[from] = (0x30 + rest % 10) as u8;
+        rest = rest / 10;
+    }
+    from -= 1;
+    digits[from] = (0x30 + rest) as u8;
+    write_word(out, at, &digits[from..])
+}
+
+// A space, and behind it a number.
+pub fn write_number(out: &mut [u8], at: usize, n: u64) -> usize
+    requires { ⌜ at + 21 ≤ length (now out) ⌝ }
+    ensures { λ r. ⌜ Placed (0x20 ∷ decimal n) (now (out .entry)) (now (out .exit)) at r × (r ≤ at + 21) ⌝ }
+{
+    let end = write_word(out, at, b" ");
+    write_decimal(out, end, n)
+}

@@ -1,0 +1,128 @@
+-- DEMAND 3 OF THE CODE, as one claim: any list of calls of `service::call::call`, each step being that function's contract word
+-- for word. Every function of the proved crate meets its contract, so that whatever the code does is such a list.
+use Prim.{⊥}
+use Prim.Native.Nat.{ℕ, zero, suc, _+_, _≤_}
+use mathlib.Core.Path.{_≡_, refl, sym, ap, subst, _∙_}
+use mathlib.Core.Bool.{true}
+use mathlib.Core.List.{List, [], _∷_, flatten}
+use lib.ListN.{length, drop}
+use Rattle.stream.specs.Calls.{Call, Answer, CallOutcome, CallsOutcome, callsOn, leaving, handOver}
+use Rattle.stream.proofs.DeliveryLaws.{within}
+use Rattle.registry.specs.WellFormed.{wellFormedRegistry}
+use Rattle.service.specs.Judgement.{judgement}
+use Rattle.service.specs.Call.{Memory, layout, fresh, bufferLeast, chunkMost, counterMost, refusalOf, callOutcome, callsOutcome}
+use Rattle.service.specs.Called.{lentMemory, callWith, codeNumber, outcomeOf, outcomeWith}
+use Rattle.service.specs.declared.Counters.{Counters}
+use Rattle.service.specs.declared.CallAnswer.{CallAnswer}
+use Rattle.service.proofs.Demand3.{FollowsRules, TakenWhole, demand3}
+
+-- ---- calls of the code
+
+-- what a call returned, and what it left in the memory that it was lent
+pub record Ran : Type 0 where
+  pub says : CallAnswer
+  pub connection : List ℕ
+  pub registry : List ℕ
+  pub counters : Counters
+  pub response : List ℕ
+
+-- the contract of `call`
+abbrev pub Contract : Memory → Call → Ran → Type 0
+Contract m call r =
+    outcomeWith (outcomeOf (r .says) (r .counters)) (r .connection) (r .registry) (r .response)
+    ≡ callOutcome (lentMemory (m .connection) (m .registry) (m .counters)) (callWith (call .chunk) (call .buffer))
+
+abbrev pub leftBy : Ran → Memory
+leftBy r = lentMemory (r .connection) (r .registry) (r .counters)
+
+-- one call after the other
+abbrev pub Runs : Memory → List Call → List Ran → Type 0
+Runs m [] [] = Unit {0}
+Runs m [] (r ∷ rest) = ⊥
+Runs m (call ∷ calls) [] = ⊥
+Runs m (call ∷ calls) (r ∷ rest) = Contract m call r × Runs (leftBy r) calls rest
+
+abbrev pub answerIn : Ran → Answer
+answerIn r = record { code = codeNumber (r .says .code); taken = r .says .taken; written = r .says .written; buffer = r .response }
+
+abbrev pub answersIn : List Ran → List Answer
+answersIn [] = []
+answersIn (r ∷ rest) = answerIn r ∷ answersIn rest
+
+abbrev pub leftAfter : Memory → List Ran → Memory
+leftAfter m [] = m
+leftAfter m (r ∷ rest) = leftAfter (leftBy r) rest
+
+abbrev pub ranOutcome : Memory → List Ran → CallsOutcome Memory
+ranOutcome m runs = record { answers = answersIn runs; memory = leftAfter m runs }
+
+-- ---- a caller that hands over what is left of a chunk again, as the code says how many bytes it took
+
+abbrev pub HandsOver : (most : ℕ) (buffers : ℕ → List ℕ) → Memory → (chunks : List (List ℕ)) → List Ran → Type 0
+HandsOver zero buffers m chunks [] = Unit {0}
+HandsOver zero buffers m chunks (r ∷ rest) = ⊥
+HandsOver (suc most) buffers m [] [] = Unit {0}
+HandsOver (suc most) buffers m [] (r ∷ rest) = ⊥
+HandsOver (suc most) buffers m (chunk ∷ chunks) [] = ⊥
+HandsOver (suc most) buffers m (chunk ∷ chunks) (r ∷ rest) =
+    Contract m (callWith chunk (buffers most)) r × HandsOver most buffers (leftBy r) (leaving (drop (r .says .taken) chunk) chunks) rest
+
+abbrev pub callsHanded : (most : ℕ) (buffers : ℕ → List ℕ) (chunks : List (List ℕ)) → List Ran → List Call
+callsHanded zero buffers chunks runs = []
+callsHanded (suc most) buffers [] runs = []
+callsHanded (suc most) buffers (chunk ∷ chunks) [] = []
+callsHanded (suc most) buffers (chunk ∷ chunks) (r ∷ rest) =
+    callWith chunk (buffers most) ∷ callsHanded most buffers (leaving (drop (r .says .taken) chunk) chunks) rest
+
+-- ---- the code's calls are the definition's
+
+step : (m : Memory) (call : Call) (r : Ran) → Contract m call r → callOutcome m call ≡ record { answer = answerIn r; memory = leftBy r }
+step m call r e = sym e
+
+ran : (m : Memory) (calls : List Call) (runs : List Ran) → Runs m calls runs → callsOutcome m calls ≡ ranOutcome m runs
+unfolding callsOutcome callOutcome callsOn
+ran m [] [] p = refl
+ran m [] (r ∷ rest) p = absurd p
+ran m (call ∷ calls) [] p = absurd p
+ran m (call ∷ calls) (r ∷ rest) (e, p) =
+    ap (λ (o : CallOutcome Memory). (let x : CallsOutcome Memory = record { answers = o .answer ∷ callsOutcome (o .memory) calls .answers; memory = callsOutcome (o .memory) calls .memory } in x)) (step m call r e)
+    ∙ ap (λ (o : CallsOutcome Memory). (let x : CallsOutcome Memory = record { answers = answerIn r ∷ o .answers; memory = o .memory } in x)) (ran (leftBy r) calls rest p)
+
+module _ (buffers : ℕ → List ℕ) where
+  handed : (most : ℕ) (m : Memory) (chunks : List (List ℕ)) (runs : List Ran) → HandsOver most buffers m chunks runs
+      → (callsHanded most buffers chunks runs ≡ handOver judgement layout refusalOf most buffers m chunks) × Runs m (callsHanded most buffers chunks runs) runs
+  unfolding handOver callOutcome
+  handed zero m chunks [] p = (refl, tt)
+  handed zero m chunks (r ∷ rest) p = absurd p
+  handed (suc most) m [] [] p = (refl, tt)
+  handed (suc most) m [] (r ∷ rest) p = absurd p
+  handed (suc most) m (chunk ∷ chunks) [] p = absurd p
+  handed (suc most) m (chunk ∷ chunks) (r ∷ rest) (e, p) =
+      let (same, runs) = handed most (leftBy r) (leaving (drop (r .says .taken) chunk) chunks) rest p in (
+        ap (λ (calls : List Call). callWith chunk (buffers most) ∷ calls)
+            (same ∙ ap (λ (o : CallOutcome Memory). handOver judgement layout refusalOf most buffers (o .memory) (leaving (drop (o .answer .taken) chunk) chunks)) (sym (step m (callWith chunk (buffers most)) r e))),
+        (e, runs),
+      )
+
+-- ---- the claim
+
+-- from a fresh connection, zero counters and this registry
+pub record CodeDemand3 (registry : List ℕ) : Type 0 where
+  -- any list of calls, refused ones included
+  pub follows : (calls : List Call) (runs : List Ran) → Runs (fresh registry) calls runs → FollowsRules registry calls (ranOutcome (fresh registry) runs)
+  -- a stream of at most 2^62 bytes, cut anywhere into chunks of at most 65,536, with buffers of at least 1,024 bytes
+  pub taken : (chunks : List (List ℕ)) (buffers : ℕ → List ℕ) (most : ℕ) (runs : List Ran)
+      → length (flatten chunks) ≤ counterMost → within chunkMost chunks ≡ true → ((k : ℕ) → bufferLeast ≤ length (buffers k))
+      → length (flatten chunks) + length chunks ≤ most
+      → HandsOver most buffers (fresh registry) chunks runs
+      → TakenWhole chunks (callsHanded most buffers chunks runs) (ranOutcome (fresh registry) runs)
+
+pub code-demand3 : (registry : List ℕ) → wellFormedRegistry registry ≡ true → CodeDemand3 registry
+code-demand3 registry w = record {
+  follows = λ calls runs p. subst (FollowsRules registry calls) (ran (fresh registry) calls runs p) (demand3 registry w .follows calls);
+  taken = λ chunks buffers most runs short small room enough p.
+      let (same, all) = handed buffers most (fresh registry) chunks runs p in
+      let calls : List Call = callsHanded most buffers chunks runs in
+      subst (TakenWhole chunks calls) (ran (fresh registry) calls runs all)
+      (subst (λ (x : List Call). TakenWhole chunks x (callsOutcome (fresh registry) x)) (sym same) (demand3 registry w .taken chunks buffers most short small room enough));
+}
