@@ -1,0 +1,81 @@
+//! The functions of the archive, as include/razidkot.h declares them. The one file with `unsafe`.
+//!
+//! Each call is sound for every argument that its safe function can have. The compiled functions
+//! are proved to read and write nothing but what they are lent, and none has a precondition. What
+//! the header leaves undefined can't come from references: they are valid for their length and
+//! aligned, and what is lent `&mut` overlaps nothing else. A slice of length 0 is not read, so that
+//! its pointer may dangle. `Counters` and `Answer` are `repr(C)`, field by field those of the header.
+
+use crate::Counters;
+
+/// The header's `razidkot_answer`.
+#[repr(C)]
+pub struct Answer {
+    pub code: u32,
+    pub taken: usize,
+    pub written: usize,
+}
+
+unsafe extern "C" {
+    fn razidkot_load_roster(
+        file: *const u8,
+        file_length: usize,
+        registry: *mut u8,
+        registry_length: usize,
+    ) -> u32;
+    fn razidkot_open_connection(memory: *mut u8, length: usize) -> u32;
+    fn razidkot_clear_counters(counters: &mut Counters);
+    fn razidkot_call(
+        chunk: *const u8,
+        chunk_length: usize,
+        connection: *mut u8,
+        connection_length: usize,
+        registry: *mut u8,
+        registry_length: usize,
+        counters: &mut Counters,
+        response: *mut u8,
+        response_length: usize,
+    ) -> Answer;
+    // The place for razidkot_bill, which the archive doesn't have yet.
+}
+
+pub fn load_roster(file: &[u8], registry: &mut [u8]) -> u32 {
+    unsafe {
+        razidkot_load_roster(
+            file.as_ptr(),
+            file.len(),
+            registry.as_mut_ptr(),
+            registry.len(),
+        )
+    }
+}
+
+pub fn open_connection(memory: &mut [u8]) -> u32 {
+    unsafe { razidkot_open_connection(memory.as_mut_ptr(), memory.len()) }
+}
+
+pub fn clear_counters(counters: &mut Counters) {
+    unsafe { razidkot_clear_counters(counters) }
+}
+
+pub fn call(
+    chunk: &[u8],
+    connection: &mut [u8],
+    registry: &mut [u8],
+    counters: &mut Counters,
+    response: &mut [u8],
+) -> Answer {
+    unsafe {
+        razidkot_call(
+            chunk.as_ptr(),
+            chunk.len(),
+            connection.as_mut_ptr(),
+            connection.len(),
+            registry.as_mut_ptr(),
+            registry.len(),
+            counters,
+            response.as_mut_ptr(),
+            response.len(),
+        )
+    }
+}

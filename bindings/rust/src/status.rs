@@ -1,0 +1,63 @@
+//! The statuses that a response carries: document 01, "Order of judgement on one request".
+
+/// What a response says of its request; `number` gives document 01's number.
+#[derive(Clone, Copy, Debug, PartialEq, Eq, PartialOrd, Ord, Hash)]
+#[repr(u16)]
+#[allow(missing_docs)] // The names are document 01's.
+pub enum Status {
+    Success = 0,
+    WrongProviderID = 1,
+    ContentTypeNotSupported = 2,
+    AcceptTypeNotSupported = 3,
+    WireProtocolVersionNotSupported = 4,
+    ProviderDoesNotExist = 6,
+    DeserializingBodyFailed = 7,
+    OpcodeDoesNotExist = 9,
+    AuthenticationError = 11,
+    AuthenticatorDoesNotExist = 12,
+    InvalidHeader = 17,
+    NotAuthenticated = 19,
+    BodySizeExceedsLimit = 20,
+    PsaErrorNotPermitted = 1133,
+    PsaErrorInvalidArgument = 1135,
+    PsaErrorAlreadyExists = 1139,
+    PsaErrorDoesNotExist = 1140,
+    PsaErrorInsufficientStorage = 1142,
+}
+
+impl Status {
+    /// Every status but `Success`, ascending: the order of [`Counters::refused`](crate::Counters).
+    pub const REFUSED: [Status; 17] = [
+        Status::WrongProviderID,
+        Status::ContentTypeNotSupported,
+        Status::AcceptTypeNotSupported,
+        Status::WireProtocolVersionNotSupported,
+        Status::ProviderDoesNotExist,
+        Status::DeserializingBodyFailed,
+        Status::OpcodeDoesNotExist,
+        Status::AuthenticationError,
+        Status::AuthenticatorDoesNotExist,
+        Status::InvalidHeader,
+        Status::NotAuthenticated,
+        Status::BodySizeExceedsLimit,
+        Status::PsaErrorNotPermitted,
+        Status::PsaErrorInvalidArgument,
+        Status::PsaErrorAlreadyExists,
+        Status::PsaErrorDoesNotExist,
+        Status::PsaErrorInsufficientStorage,
+    ];
+
+    /// The number on the wire.
+    pub fn number(self) -> u16 {
+        self as u16
+    }
+
+    /// The status of this number, if document 01 lists it.
+    pub fn from_number(number: u16) -> Option<Status> {
+        let refused = |status: &Status| status.number() == number;
+        match number {
+            0 => Some(Status::Success),
+            _ => Status::REFUSED.into_iter().find(refused),
+        }
+    }
+}

@@ -1,0 +1,84 @@
+/*
+ * Embeds the key service in a C program: loads a roster, opens a connection, sends a Ping, an Import and an Export in
+ * chunks, and prints what came back.
+ *
+ *   rt staticlib abi
+ *   cc -std=c99 -Iinclude -o keys examples/c/keys.c target/staticlib/libabi.a
+ */
+#include "razidkot.h"
+
+#include <inttypes.h>
+#include <stdio.h>
+
+/* One record: tag 1, the length in two bytes, the name. */
+static const uint8_t roster[] = {0x01, 7, 0, 's', 'c', 'a', 'n', 'n', 'e', 'r'};
+
+/* Three requests: magic, H, version and provider, session, types, content length, auth length, opcode, body, auth. */
+static const uint8_t stream[] = {
+    /* Ping, with auth type 0. */
+    0x10, 0xA7, 0xC0, 0x5E, 22, 0, 1, 0, 0, 0, 0, 0, 0, 0, 0, 0, 0, 1, 1, 0, 0, 0, 0, 0, 0, 0, 1, 0,
+    /* Import from scanner: the key "a", data AA BB, 2,048 bits, export allowed. */
+    0x10, 0xA7, 0xC0, 0x5E, 22, 0, 1, 0, 1, 0, 0, 0, 0, 0, 0, 0, 0, 1, 1, 1, 12, 0, 0, 0, 7, 0, 6, 0,
+    0x0A, 0x01, 'a', 0x12, 0x02, 0xAA, 0xBB, 0x18, 0x80, 0x10, 0x20, 0x01, 's', 'c', 'a', 'n', 'n', 'e', 'r',
+    /* Export from scanner: the key "a". */
+    0x10, 0xA7, 0xC0, 0x5E, 22, 0, 1, 0, 1, 0, 0, 0, 0, 0, 0, 0, 0, 1, 1, 1, 3, 0, 0, 0, 7, 0, 7, 0,
+    0x0A, 0x01, 'a', 's', 'c', 'a', 'n', 'n', 'e', 'r'};
+
+static uint8_t registry[RAZIDKOT_REGISTRY_SIZE];
+static uint8_t connection[RAZIDKOT_CONNECTION_SIZE];
+static uint8_t response[RAZIDKOT_LEAST_RESPONSE_BUFFER];
+static razidkot_counters counters;
+
+static void print_response(size_t length)
+{
+    printf("opcode %d status %d body", response[22] | response[23] << 8, response[24] | response[25] << 8);
+    for (size_t at = 26; at < length; at++)
+        printf(" %02X", response[at]);
+    printf("\n");
+}
+
+/* Hands over one chunk, again and again while some of it is left. Returns the code of the last call. */
+static uint32_t send_chunk(const uint8_t *chunk, size_t length)
+{
+    while (length > 0) {
+        razidkot_answer answer = razidkot_call(chunk, length, connection, sizeof connection, registry,
+                                               sizeof registry, &counters, response, sizeof response);
+        if (answer.code != RAZIDKOT_CALL_TAKEN)
+            return answer.code;
+        if (answer.written > 0)
+            print_response(answer.written);
+        chunk += answer.taken;
+        length -= answer.taken;
+    }
+    return RAZIDKOT_CALL_TAKEN;
+}
+
+int main(void)
+{
+    uint32_t code = razidkot_load_roster(roster, sizeof roster, registry, sizeof registry);
+    if (code != RAZIDKOT_ROSTER_LOADED) {
+        printf("roster R%" PRIu32 "\n", code - 1);
+        return 1;
+    }
+    if (razidkot_open_connection(connection, sizeof connection) != RAZIDKOT_OPEN_FRESH)
+        return 1;
+    razidkot_clear_counters(&counters);
+
+    /* A transport cuts where it likes: chunks of 40 bytes, so that requests lie across them. */
+    for (size_t at = 0; at < sizeof stream; at += 40) {
+        size_t length = sizeof stream - at < 40 ? sizeof stream - at : 40;
+        code = send_chunk(stream + at, length);
+        if (code != RAZIDKOT_CALL_TAKEN) {
+            printf("call not taken: C%" PRIu32 "\n", code);
+            return 1;
+        }
+    }
+    printf("taken %" PRIu64 " answered %" PRIu64 "\n", counters.taken, counters.answered);
+    printf("served scanner %" PRIu64 " unauthenticated %" PRIu64 "\n", counters.served[0], counters.unauthenticated);
+
+    /* A buffer that is too small: nothing is taken. */
+    razidkot_answer refused = razidkot_call(stream, sizeof stream, connection, sizeof connection, registry,
+                                            sizeof registry, &counters, NULL, 0);
+    printf("without a buffer C%" PRIu32 " taken %zu\n", refused.code, refused.taken);
+    return 0;
+}

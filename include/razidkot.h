@@ -1,0 +1,179 @@
+/*
+ * The key service for C: target/staticlib/libabi.a, which `rt staticlib abi` writes (x86-64, System V).
+ * The archive allocates nothing, keeps nothing between calls and needs no other library. All memory is the caller's.
+ * docs/LAYOUT.md has the layouts of registry and connection memory; document 01 is the requirements paper.
+ *
+ * Memory is handed over as a pointer and a length in bytes. Every function is defined for any bytes and any lengths:
+ *
+ *   - Short or long memory is answered: a registry or connection of a wrong size, a response buffer below
+ *     RAZIDKOT_LEAST_RESPONSE_BUFFER, a chunk above RAZIDKOT_LONGEST_CHUNK.
+ *   - NULL with length 0 is empty memory and is answered as such: an empty roster file or an empty chunk, which are
+ *     good; a registry or connection of a wrong size; a response buffer that is too small.
+ *   - Ill-formed memory of the right size is answered: RAZIDKOT_CONNECTION_ILL_FORMED, RAZIDKOT_REGISTRY_ILL_FORMED.
+ *
+ * What it can't tell, and what is undefined:
+ *
+ *   - NULL, or any other pointer that is not valid, with a length above 0.
+ *   - A length above that of the memory behind the pointer.
+ *   - Memory that overlaps other memory of the same call, read or written.
+ *   - NULL, or a pointer that is not aligned for uint64_t, for the counters.
+ *
+ * Threads: the functions share no memory, so calls on different memory may run at the same time. Registry, connection,
+ * counters and response buffer may each be in one call at a time, and nothing else may read or write them meanwhile.
+ * Connections that share a registry or counters therefore take turns.
+ */
+#ifndef RAZIDKOT_H
+#define RAZIDKOT_H
+
+#include <stddef.h>
+#include <stdint.h>
+
+#ifdef __cplusplus
+extern "C" {
+#endif
+
+/* The one size of registry memory. */
+#define RAZIDKOT_REGISTRY_SIZE 20968
+/* The one size of connection memory. */
+#define RAZIDKOT_CONNECTION_SIZE 4431
+/* A shorter response buffer is refused. */
+#define RAZIDKOT_LEAST_RESPONSE_BUFFER 1024
+/* A longer chunk is refused. */
+#define RAZIDKOT_LONGEST_CHUNK 65536
+/* No response is longer. */
+#define RAZIDKOT_LONGEST_RESPONSE 629
+/* 2^62: a call is refused if any counter is above it. */
+#define RAZIDKOT_HIGHEST_COUNTER (UINT64_C(1) << 62)
+
+/* How many applications a roster may have. */
+#define RAZIDKOT_LINES 8
+/* How many statuses a request may be refused with. */
+#define RAZIDKOT_REFUSED_STATUSES 17
+
+/* The status of a response, its last two header bytes (24 and 25), little-endian. */
+enum razidkot_status {
+    RAZIDKOT_SUCCESS = 0,
+    RAZIDKOT_WRONG_PROVIDER_ID = 1,
+    RAZIDKOT_CONTENT_TYPE_NOT_SUPPORTED = 2,
+    RAZIDKOT_ACCEPT_TYPE_NOT_SUPPORTED = 3,
+    RAZIDKOT_WIRE_PROTOCOL_VERSION_NOT_SUPPORTED = 4,
+    RAZIDKOT_PROVIDER_DOES_NOT_EXIST = 6,
+    RAZIDKOT_DESERIALIZING_BODY_FAILED = 7,
+    RAZIDKOT_OPCODE_DOES_NOT_EXIST = 9,
+    RAZIDKOT_AUTHENTICATION_ERROR = 11,
+    RAZIDKOT_AUTHENTICATOR_DOES_NOT_EXIST = 12,
+    RAZIDKOT_INVALID_HEADER = 17,
+    RAZIDKOT_NOT_AUTHENTICATED = 19,
+    RAZIDKOT_BODY_SIZE_EXCEEDS_LIMIT = 20,
+    RAZIDKOT_PSA_ERROR_NOT_PERMITTED = 1133,
+    RAZIDKOT_PSA_ERROR_INVALID_ARGUMENT = 1135,
+    RAZIDKOT_PSA_ERROR_ALREADY_EXISTS = 1139,
+    RAZIDKOT_PSA_ERROR_DOES_NOT_EXIST = 1140,
+    RAZIDKOT_PSA_ERROR_INSUFFICIENT_STORAGE = 1142
+};
+
+/* The counters, which a call changes in place. Each is at most RAZIDKOT_HIGHEST_COUNTER before a call. */
+typedef struct {
+    /* Bytes taken. */
+    uint64_t taken;
+    /* Bytes of answered requests. */
+    uint64_t answered;
+    /* Bytes dropped on a closed connection. */
+    uint64_t dropped;
+    /* Requests served, for each line of the roster: the applications in the order of the file. */
+    uint64_t served[RAZIDKOT_LINES];
+    /* Requests served with auth type 0. */
+    uint64_t unauthenticated;
+    /*
+     * Requests refused, for each status but 0, ascending:
+     *
+     *   index   0  1  2  3  4  5  6   7   8   9  10  11    12    13    14    15    16
+     *   status  1  2  3  4  6  7  9  11  12  17  19  20  1133  1135  1139  1140  1142
+     */
+    uint64_t refused[RAZIDKOT_REFUSED_STATUSES];
+} razidkot_counters;
+
+/* What razidkot_load_roster says: 0, or 1 more than the digit of document 01's R0 to R5. */
+enum razidkot_roster_code {
+    /* The registry has the file's names and no keys. */
+    RAZIDKOT_ROSTER_LOADED = 0,
+    /* R0: the registry memory does not have RAZIDKOT_REGISTRY_SIZE bytes. Said before any record is read. */
+    RAZIDKOT_ROSTER_WRONG_MEMORY_SIZE = 1,
+    /* R1: a record is cut, within its tag and length or within its value. */
+    RAZIDKOT_ROSTER_CUT_RECORD = 2,
+    /* R2: a tag other than 1. */
+    RAZIDKOT_ROSTER_UNKNOWN_TAG = 3,
+    /* R3: a name not of 1 to 64 bytes, or with a byte outside 0x21 to 0x7E. */
+    RAZIDKOT_ROSTER_BAD_NAME = 4,
+    /* R4: a ninth name. */
+    RAZIDKOT_ROSTER_NINTH_NAME = 5,
+    /* R5: a name seen before. */
+    RAZIDKOT_ROSTER_REPEATED_NAME = 6
+};
+
+/* What razidkot_open_connection says. */
+enum razidkot_open_code {
+    /* The connection is open and holds nothing: all its bytes are 0. */
+    RAZIDKOT_OPEN_FRESH = 0,
+    /* The memory does not have RAZIDKOT_CONNECTION_SIZE bytes. */
+    RAZIDKOT_OPEN_WRONG_SIZE = 1
+};
+
+/* What razidkot_call says: 0, or the digit of document 01's C1 to C5. The first that applies, in this order. */
+enum razidkot_call_code {
+    RAZIDKOT_CALL_TAKEN = 0,
+    /* C1: the response buffer has fewer than RAZIDKOT_LEAST_RESPONSE_BUFFER bytes. */
+    RAZIDKOT_CALL_RESPONSE_BUFFER_TOO_SMALL = 1,
+    /* C2: the chunk has more than RAZIDKOT_LONGEST_CHUNK bytes. */
+    RAZIDKOT_CALL_CHUNK_TOO_LONG = 2,
+    /* C3: the connection memory has another size than RAZIDKOT_CONNECTION_SIZE, or no connection in it. */
+    RAZIDKOT_CALL_CONNECTION_ILL_FORMED = 3,
+    /* C4: the registry memory has another size than RAZIDKOT_REGISTRY_SIZE, or no registry in it. */
+    RAZIDKOT_CALL_REGISTRY_ILL_FORMED = 4,
+    /* C5: a counter is above RAZIDKOT_HIGHEST_COUNTER. */
+    RAZIDKOT_CALL_COUNTER_TOO_HIGH = 5
+};
+
+/* What a call says. A call that is not taken says 0 taken and 0 written. */
+typedef struct {
+    /* A razidkot_call_code. */
+    uint32_t code;
+    /* How many bytes of the chunk were taken; the rest is for the caller to hand over again. */
+    size_t taken;
+    /* How many bytes of response were written to the front of the buffer; 0 if none is due yet. */
+    size_t written;
+} razidkot_answer;
+
+/*
+ * Reads a roster file into registry memory and returns a razidkot_roster_code. The memory may hold anything before.
+ * The first faulty record refuses the file, and then the memory stays as it was. An empty file is a roster of none.
+ */
+uint32_t razidkot_load_roster(const uint8_t *file, size_t file_length, uint8_t *registry, size_t registry_length);
+
+/*
+ * Makes memory a fresh connection and returns a razidkot_open_code. The memory may hold anything before; memory of a
+ * wrong size stays as it was.
+ */
+uint32_t razidkot_open_connection(uint8_t *memory, size_t length);
+
+/* Sets every counter to 0. */
+void razidkot_clear_counters(razidkot_counters *counters);
+
+/*
+ * Takes bytes of the chunk until one response is written, or to the chunk's end, and says how many. A chunk may end
+ * anywhere within a request. Bytes of the buffer past the response stay. An empty chunk is taken and changes nothing.
+ * A call that is refused (code 1 to 5) changes nothing at all: connection, registry, counters and buffer stay.
+ */
+razidkot_answer razidkot_call(const uint8_t *chunk, size_t chunk_length,
+                              uint8_t *connection, size_t connection_length,
+                              uint8_t *registry, size_t registry_length,
+                              razidkot_counters *counters,
+                              uint8_t *response, size_t response_length);
+
+/* The place for razidkot_bill, which the archive doesn't have yet. */
+
+#ifdef __cplusplus
+}
+#endif
+
+#endif
