@@ -11,6 +11,7 @@ pub const IMPORT: u16 = 6;
 pub const EXPORT: u16 = 7;
 pub const LIST_PROVIDERS: u16 = 8;
 pub const LIST_OPCODES: u16 = 9;
+pub const OPCODES: [u16; 6] = [PING, DESTROY, IMPORT, EXPORT, LIST_PROVIDERS, LIST_OPCODES];
 
 pub const SUCCESS: u16 = 0;
 pub const PROVIDER_DOES_NOT_EXIST: u16 = 6;

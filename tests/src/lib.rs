@@ -1,10 +1,17 @@
 //! What the tests under tests/ share: the compiled leaves, oracles for those that the reference
-//! has no public function for, and generated inputs.
+//! has no public function for, generated inputs, and calls made to the compiled service and to the
+//! reference alike.
 
 pub mod ask;
+pub mod case;
+pub mod connections;
+pub mod differential;
 #[allow(unsafe_code)]
 pub mod foreign;
 pub mod generate;
 pub mod layout;
+pub mod lent;
 pub mod oracle;
+pub mod reached;
+pub mod requests;
 pub mod run;

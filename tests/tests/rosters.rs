@@ -1,17 +1,19 @@
 //! Roster files: document 01, "Roster, registry, connection, tally", R0 to R5.
 
+use razidkot::{raw, RosterFault};
 use razidkot_tests::ask::record;
 use razidkot_tests::foreign;
 use razidkot_tests::generate::{mutated, name, Random};
 use razidkot_tests::run::{assert_agree, for_seeds, Outcomes};
 use reference::REGISTRY_SIZE;
 
-/// What both programs make of the file and of memory of this size, if it is the same.
+/// Do the leaf, the service and the reference make the same of the file and of memory of this size?
 fn agree(file: &[u8], size: usize) -> bool {
-    let (mut proved, mut second) = (vec![0xEE; size], vec![0xEE; size]);
-    let loaded = foreign::load_roster(file, &mut proved);
-    let expected = reference::load_roster(file, &mut second);
-    loaded == expected.map_err(|fault| fault.number()) && proved == second
+    let [mut leaf, mut service, mut second] = [(); 3].map(|()| vec![0xEE; size]);
+    let loaded_by_leaf = foreign::load_roster(file, &mut leaf);
+    let loaded = raw::load_roster(file, &mut service).map_err(RosterFault::number);
+    let expected = reference::load_roster(file, &mut second).map_err(|fault| fault.number());
+    loaded_by_leaf == expected && leaf == second && loaded == expected && service == second
 }
 
 /// A roster file of up to ten names; now and then one is no good, or not the first of its kind.

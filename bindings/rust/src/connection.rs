@@ -58,7 +58,7 @@ impl Connection {
         response: &mut [u8],
     ) -> Result<Answer, Refusal> {
         let registry = registry.memory_mut();
-        raw::call(chunk, &mut self.memory, registry, counters, response)
+        raw::call(chunk, &mut self.memory, registry, counters, response).result()
     }
 
     /// Has a request with a wrong start closed it? Later bytes are taken and dropped.

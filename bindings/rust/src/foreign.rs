@@ -6,15 +6,8 @@
 //! aligned, and what is lent `&mut` overlaps nothing else. A slice of length 0 is not read, so that
 //! its pointer may dangle. `Counters` and `Answer` are `repr(C)`, field by field those of the header.
 
+use crate::raw::Answer;
 use crate::Counters;
-
-/// The header's `razidkot_answer`.
-#[repr(C)]
-pub struct Answer {
-    pub code: u32,
-    pub taken: usize,
-    pub written: usize,
-}
 
 unsafe extern "C" {
     fn razidkot_load_roster(

@@ -1,7 +1,7 @@
 //! The same functions on any memory, for callers that keep registry and connection themselves.
 //! Memory of a wrong size or content is refused, and stays as it was.
 
-use crate::{foreign, Answer, Counters, Refusal, RosterFault};
+use crate::{foreign, Counters, Refusal, RosterFault};
 
 /// The memory of a connection has another size than [`CONNECTION_SIZE`](crate::CONNECTION_SIZE).
 #[derive(Clone, Copy, Debug, PartialEq, Eq)]
@@ -43,6 +43,31 @@ pub fn open_connection(memory: &mut [u8]) -> Result<(), WrongSize> {
     }
 }
 
+/// What a call says, as it comes from the archive: the header's `razidkot_answer`.
+#[derive(Clone, Copy, Debug, PartialEq, Eq)]
+#[repr(C)]
+pub struct Answer {
+    /// 0 for a call that is taken, else the digit of C1 to C5.
+    pub code: u32,
+    /// Bytes of the chunk; 0 if the call is not taken.
+    pub taken: usize,
+    /// Bytes of response; 0 if none is due yet or the call is not taken.
+    pub written: usize,
+}
+
+impl Answer {
+    /// The same with a type for each case.
+    pub fn result(self) -> Result<crate::Answer, Refusal> {
+        match self.code {
+            0 => Ok(crate::Answer {
+                taken: self.taken,
+                written: self.written,
+            }),
+            code => Err(Refusal::ALL[code as usize - 1]),
+        }
+    }
+}
+
 /// [`Connection::call`](crate::Connection::call) on any memory; the response buffer and the chunk
 /// are judged before connection, registry and counters.
 ///
@@ -52,8 +77,8 @@ pub fn open_connection(memory: &mut [u8]) -> Result<(), WrongSize> {
 /// let (mut connection, mut registry) = ([0; CONNECTION_SIZE], [0; REGISTRY_SIZE]);
 /// connection[0] = 3; // No such kind.
 /// let mut counters = Counters::default();
-/// let refused = raw::call(b"", &mut connection, &mut registry, &mut counters, &mut [0; 1_024]);
-/// assert_eq!(refused, Err(Refusal::ConnectionIllFormed));
+/// let answer = raw::call(b"", &mut connection, &mut registry, &mut counters, &mut [0; 1_024]);
+/// assert_eq!(answer.result(), Err(Refusal::ConnectionIllFormed));
 /// ```
 pub fn call(
     chunk: &[u8],
@@ -61,13 +86,6 @@ pub fn call(
     registry: &mut [u8],
     counters: &mut Counters,
     response: &mut [u8],
-) -> Result<Answer, Refusal> {
-    let answer = foreign::call(chunk, connection, registry, counters, response);
-    match answer.code {
-        0 => Ok(Answer {
-            taken: answer.taken,
-            written: answer.written,
-        }),
-        code => Err(Refusal::ALL[code as usize - 1]),
-    }
+) -> Answer {
+    foreign::call(chunk, connection, registry, counters, response)
 }

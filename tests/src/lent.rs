@@ -1,0 +1,128 @@
+//! What a caller lends to a call, lent to the compiled service and to the reference.
+
+use razidkot::raw::{self, Answer};
+use razidkot::Counters;
+
+/// Bytes of the response memory that are never lent, to see that nothing is written there.
+const GUARD: usize = 64;
+
+/// All that a call may change.
+#[derive(Clone, PartialEq, Eq)]
+pub struct Lent {
+    pub connection: Vec<u8>,
+    pub registry: Vec<u8>,
+    pub counters: Counters,
+    response: Vec<u8>,
+}
+
+impl Lent {
+    pub fn new(connection: Vec<u8>, registry: Vec<u8>, counters: Counters) -> Lent {
+        Lent {
+            connection,
+            registry,
+            counters,
+            response: Vec::new(),
+        }
+    }
+
+    /// A response buffer of this length, all of it this byte.
+    pub fn renew_response(&mut self, length: usize, byte: u8) {
+        self.response.clear();
+        self.response.resize(length + GUARD, byte);
+    }
+
+    pub fn response(&self) -> &[u8] {
+        &self.response[..self.response.len() - GUARD]
+    }
+
+    pub fn call_proved(&mut self, chunk: &[u8]) -> Answer {
+        let length = self.response.len() - GUARD;
+        raw::call(
+            chunk,
+            &mut self.connection,
+            &mut self.registry,
+            &mut self.counters,
+            &mut self.response[..length],
+        )
+    }
+
+    pub fn call_reference(&mut self, chunk: &[u8]) -> Answer {
+        let length = self.response.len() - GUARD;
+        let mut counters = to_reference(&self.counters);
+        let answer = reference::call(
+            chunk,
+            &mut self.connection,
+            &mut self.registry,
+            &mut counters,
+            &mut self.response[..length],
+        );
+        self.counters = from_reference(&counters);
+        match answer {
+            Ok(answer) => Answer {
+                code: 0,
+                taken: answer.taken,
+                written: answer.written,
+            },
+            Err(refusal) => Answer {
+                code: refusal.number().into(),
+                taken: 0,
+                written: 0,
+            },
+        }
+    }
+
+    /// What of all this is not the same in the other, and where.
+    pub fn difference(&self, other: &Lent) -> Option<String> {
+        let memories = [
+            ("connection", &self.connection, &other.connection),
+            ("registry", &self.registry, &other.registry),
+            ("response buffer", &self.response, &other.response),
+        ];
+        for (name, memory, other) in memories {
+            let differs = |(byte, other)| byte != other;
+            if memory != other {
+                let place = memory.iter().zip(other).position(differs);
+                return Some(format!("{name}, first at byte {place:?}"));
+            }
+        }
+        (self.counters != other.counters)
+            .then(|| format!("{:?} and {:?}", self.counters, other.counters))
+    }
+}
+
+fn to_reference(counters: &Counters) -> reference::Counters {
+    reference::Counters {
+        taken: counters.taken,
+        answered: counters.answered,
+        dropped: counters.dropped,
+        served: counters.served,
+        unauthenticated: counters.unauthenticated,
+        refused: counters.refused,
+    }
+}
+
+fn from_reference(counters: &reference::Counters) -> Counters {
+    Counters {
+        taken: counters.taken,
+        answered: counters.answered,
+        dropped: counters.dropped,
+        served: counters.served,
+        unauthenticated: counters.unauthenticated,
+        refused: counters.refused,
+    }
+}
+
+/// How many counters there are.
+pub const COUNTERS: usize = 29;
+
+/// The counter at this place of docs/LAYOUT.md's table.
+pub fn counter_mut(counters: &mut Counters, place: usize) -> &mut u64 {
+    match place {
+        0 => &mut counters.taken,
+        1 => &mut counters.answered,
+        2 => &mut counters.dropped,
+        3..11 => &mut counters.served[place - 3],
+        11 => &mut counters.unauthenticated,
+        _ => &mut counters.refused[place - 12],
+    }
+}

@@ -1,0 +1,177 @@
+//! What the calls of a differential test reached, taken from what they were made with and from what
+//! the reference answered.
+
+use crate::ask::OPCODES;
+use crate::layout::{slot_bytes, Place, EXPORT_ALLOWED_AT, VERIFY_ALLOWED_AT};
+use crate::lent::Lent;
+use crate::run::Outcomes;
+use razidkot::raw::Answer;
+use razidkot::{Status, HIGHEST_COUNTER, LEAST_RESPONSE_BUFFER, LONGEST_CHUNK, LONGEST_RESPONSE};
+
+const KINDS: [&str; 4] = ["open empty", "open holding", "skipping", "closed"];
+
+#[derive(Debug, Default)]
+pub struct Reached {
+    pub calls: u64,
+    outcomes: Outcomes,
+}
+
+impl Reached {
+    /// A call made on `before`, and what it came to.
+    pub fn count(&mut self, before: &Lent, chunk: &[u8], answer: Answer, after: &Lent) {
+        self.calls += 1;
+        if answer.code != 0 {
+            self.count_refusal(before, chunk, answer.code);
+            return;
+        }
+        let kind = kind_of(&before.connection);
+        match chunk {
+            [] => self.outcomes.count(format!("{kind}, empty chunk")),
+            _ => self.outcomes.count(kind),
+        }
+        if answer.written > 0 {
+            self.count_response(kind, &after.response()[..answer.written]);
+        }
+        self.count_served(before, after);
+        if after.registry != before.registry {
+            self.count_flags(before, after);
+        }
+    }
+
+    /// The code, and each later one that would apply as well.
+    fn count_refusal(&mut self, before: &Lent, chunk: &[u8], code: u32) {
+        self.outcomes.count(format!("C{code}"));
+        for later in applying(before, chunk).filter(|&later| later > code) {
+            self.outcomes.count(format!("C{code} before C{later}"));
+        }
+    }
+
+    /// The status of a request that lay whole in its chunk, or of one gathered from several.
+    fn count_response(&mut self, kind: &str, response: &[u8]) {
+        let status = u16::from_le_bytes([response[24], response[25]]);
+        let whole = kind == KINDS[0];
+        self.outcomes.count(status_reached(status, whole));
+        if status == Status::Success.number() {
+            let opcode = u16::from_le_bytes([response[22], response[23]]);
+            self.outcomes.count(opcode_reached(opcode));
+        }
+        if response.len() == LONGEST_RESPONSE {
+            self.outcomes.count("longest response");
+        }
+    }
+
+    fn count_served(&mut self, before: &Lent, after: &Lent) {
+        let served = before.counters.served.iter().zip(&after.counters.served);
+        for (line, _) in served
+            .enumerate()
+            .filter(|(_, (before, after))| before != after)
+        {
+            self.outcomes.count(format!("served line {line}"));
+        }
+        if before.counters.unauthenticated != after.counters.unauthenticated {
+            self.outcomes.count("served unauthenticated");
+        }
+    }
+
+    /// The flags of the key that an Import brought, or that a Destroy freed a slot.
+    fn count_flags(&mut self, before: &Lent, after: &Lent) {
+        let slot_in = |lent: &Lent, place| slot_bytes(&lent.registry, place).to_vec();
+        for place in Place::all() {
+            let slot = slot_in(after, place);
+            if slot != slot_in(before, place) {
+                self.outcomes.count(slot_reached(&slot));
+            }
+        }
+    }
+
+    /// A test that never reaches an outcome could not fail on it.
+    pub fn assert_all(&self, least: u64) {
+        self.outcomes.assert_often(&expected(), least);
+    }
+}
+
+fn kind_of(connection: &[u8]) -> &'static str {
+    match connection {
+        [0, 0, 0, ..] => KINDS[0],
+        [0, ..] => KINDS[1],
+        [1, ..] => KINDS[2],
+        _ => KINDS[3],
+    }
+}
+
+fn status_reached(status: u16, whole: bool) -> String {
+    let chunks = if whole {
+        "in one chunk"
+    } else {
+        "over several"
+    };
+    format!("status {status} {chunks}")
+}
+
+fn opcode_reached(opcode: u16) -> String {
+    format!("opcode {opcode} served")
+}
+
+fn slot_reached(slot: &[u8]) -> String {
+    match slot[0] {
+        0 => "slot freed".to_string(),
+        _ => flags_reached(slot[EXPORT_ALLOWED_AT], slot[VERIFY_ALLOWED_AT]),
+    }
+}
+
+fn flags_reached(export_allowed: u8, verify_allowed: u8) -> String {
+    format!("export allowed {export_allowed}, verify allowed {verify_allowed}")
+}
+
+/// The codes that apply, not the first one alone.
+fn applying(lent: &Lent, chunk: &[u8]) -> impl Iterator<Item = u32> {
+    let counters = &lent.counters;
+    let first = [
+        counters.taken,
+        counters.answered,
+        counters.dropped,
+        counters.unauthenticated,
+    ];
+    let highest = first
+        .into_iter()
+        .chain(counters.served)
+        .chain(counters.refused)
+        .max();
+    let applies = [
+        lent.response().len() < LEAST_RESPONSE_BUFFER,
+        chunk.len() > LONGEST_CHUNK,
+        !reference::connection_is_well_formed(&lent.connection),
+        !reference::registry_is_well_formed(&lent.registry),
+        highest > Some(HIGHEST_COUNTER),
+    ];
+    (1..)
+        .zip(applies)
+        .filter_map(|(code, applies)| applies.then_some(code))
+}
+
+/// Every outcome that a long enough run has.
+fn expected() -> Vec<String> {
+    let statuses = std::iter::once(Status::Success).chain(Status::REFUSED);
+    let statuses = statuses
+        .flat_map(|status| [true, false].map(|whole| status_reached(status.number(), whole)));
+    let codes = (1..=5).map(|code| format!("C{code}"));
+    let pairs = (1..=5)
+        .flat_map(|code| (code + 1..=5).map(move |later| format!("C{code} before C{later}")));
+    let kinds = KINDS
+        .into_iter()
+        .flat_map(|kind| [kind.to_string(), format!("{kind}, empty chunk")]);
+    let flags =
+        [(0, 0), (0, 1), (1, 0), (1, 1)].map(|(export, verify)| flags_reached(export, verify));
+    let opcodes = OPCODES.map(opcode_reached);
+    let lines = (0..8).map(|line| format!("served line {line}"));
+    let others = ["served unauthenticated", "slot freed", "longest response"].map(str::to_string);
+    statuses
+        .chain(codes)
+        .chain(pairs)
+        .chain(kinds)
+        .chain(flags)
+        .chain(opcodes)
+        .chain(lines)
+        .chain(others)
+        .collect()
+}

@@ -1,0 +1,295 @@
+//! Streams of requests from a seed, good and damaged, for the applications of a registry.
+//! Document 01, "Order of judgement on one request", is what they are meant to reach all of.
+
+use crate::ask::*;
+use crate::generate::{import_message, key, message, mutated, Random};
+use crate::layout::{line_at, name_at, slot_at, Key, Place, LINES, SLOTS};
+
+// Where a header has its fields.
+const H_AT: usize = 4;
+const MAJOR_AT: usize = 6;
+const MINOR_AT: usize = 7;
+const PROVIDER_AT: usize = 8;
+const SESSION_AT: usize = 9;
+const CONTENT_TYPE_AT: usize = 17;
+const ACCEPT_TYPE_AT: usize = 18;
+const AUTH_TYPE_AT: usize = 19;
+const CONTENT_LENGTH_AT: usize = 20;
+const AUTH_LENGTH_AT: usize = 24;
+const OPCODE_AT: usize = 26;
+/// 6 + H for H = 22.
+const SHORTEST_HEADER: usize = 28;
+
+/// An application of a registry and the names of its keys.
+pub struct Application {
+    name: Vec<u8>,
+    keys: Vec<Vec<u8>>,
+}
+
+/// The applications of a well-formed registry; of an empty one a single one that it doesn't have.
+pub fn applications(registry: &[u8]) -> Vec<Application> {
+    let keys = |line| {
+        (0..SLOTS)
+            .map(move |slot| name_at(registry, slot_at(Place { line, slot })).to_vec())
+            .filter(|name| !name.is_empty())
+    };
+    let mut applications: Vec<_> = (0..LINES)
+        .map(|line| Application {
+            name: name_at(registry, line_at(line)).to_vec(),
+            keys: keys(line).collect(),
+        })
+        .filter(|application| !application.name.is_empty())
+        .collect();
+    if applications.is_empty() {
+        applications.push(Application {
+            name: b"nobody".to_vec(),
+            keys: Vec::new(),
+        });
+    }
+    applications
+}
+
+/// Up to `most` requests; the last one may be cut.
+pub fn requests(random: &mut Random, applications: &[Application], most: usize) -> Vec<Vec<u8>> {
+    let count = 1 + random.below(most);
+    // Few applications at a time, so that one comes to more requests.
+    let first = random.below(applications.len());
+    let count_of_applications = random.pick(&[1, 2, LINES]);
+    let applications = &applications[first..];
+    let applications = &applications[..applications.len().min(count_of_applications)];
+    let mut requests: Vec<_> = (0..count)
+        .map(|_| {
+            let place = random.below(applications.len());
+            some_request(random, &applications[place])
+        })
+        .collect();
+    if random.once_in(3) {
+        let last = &mut requests[count - 1];
+        let nearly_all = last.len().saturating_sub(1);
+        last.truncate(random.pick(&[0, 5, 6, 27, 28, last.len() / 2, nearly_all]));
+    }
+    requests
+}
+
+/// One request, good more often than not. Few are out of step with the next one, since what follows
+/// those is dropped.
+fn some_request(random: &mut Random, application: &Application) -> Vec<u8> {
+    let request = whole_request(random, application);
+    match random.below(200) {
+        0..140 => request,
+        140..178 => with_bad_header_field(random, request),
+        178..184 => oversized(random, &request),
+        184..188 => long_request(random, &request),
+        188 => unfinished_oversized(random, &request),
+        189..192 => with_bad_start(random, request),
+        192 => {
+            let length = random.below(100);
+            random.bytes(length)
+        }
+        193..196 => mutated(random, request),
+        _ => with_one_bit_changed(random, request),
+    }
+}
+
+/// A request with a header that is good, a body that most often is, and any session and good H.
+fn whole_request(random: &mut Random, application: &Application) -> Vec<u8> {
+    let opcode = match random.below(20) {
+        0 | 1 => PING,
+        2 => LIST_PROVIDERS,
+        3 | 4 => LIST_OPCODES,
+        5..13 => IMPORT,
+        13..17 => EXPORT,
+        _ => DESTROY,
+    };
+    let body = match random.below(10) {
+        0 => bad_body(random, opcode, application),
+        _ => body(random, opcode, application),
+    };
+    let is_core = matches!(opcode, PING | LIST_PROVIDERS | LIST_OPCODES);
+    let is_sent_by_it = !is_core || random.once_in(2);
+    let mut request = request(
+        opcode,
+        is_sent_by_it.then_some(application.name.as_slice()),
+        &body,
+    );
+    set(&mut request, SESSION_AT, &random.word().to_le_bytes());
+    let header_size = random.pick(&[22, 22, 22, 23, 30, 64]);
+    with_header_size(request, header_size)
+}
+
+fn set(request: &mut [u8], at: usize, field: &[u8]) {
+    request[at..at + field.len()].copy_from_slice(field);
+}
+
+/// The same request with a longer header. Read as a body, the filler is an unlisted field.
+fn with_header_size(mut request: Vec<u8>, size: u16) -> Vec<u8> {
+    let filler = vec![0xEE; usize::from(size) - 22];
+    request.splice(SHORTEST_HEADER..SHORTEST_HEADER, filler);
+    set(&mut request, H_AT, &size.to_le_bytes());
+    request
+}
+
+// ---- bodies
+
+/// A body that can be read and most often served.
+fn body(random: &mut Random, opcode: u16, application: &Application) -> Vec<u8> {
+    match opcode {
+        LIST_OPCODES => {
+            let providers: [&[u8]; 5] =
+                [b"", b"\x08\x00", b"\x08\x01", b"\x08\x81\x00", b"\x08\x02"];
+            random.pick(&providers).to_vec()
+        }
+        IMPORT if random.once_in(4) => import_message(random),
+        IMPORT => import_body(&Key {
+            name: key_name(random, application),
+            ..key(random, 0)
+        }),
+        EXPORT | DESTROY => name_body(&key_name(random, application)),
+        _ => Vec::new(),
+    }
+}
+
+/// A name that the application has, one of a few that it may come to have, or now and then a bad one.
+fn key_name(random: &mut Random, application: &Application) -> Vec<u8> {
+    match random.below(20) {
+        0 => random.pick(&[Vec::new(), vec![b'k'; 33], b"a b".to_vec()]),
+        1 => vec![b'k'; 32],
+        2..12 if !application.keys.is_empty() => random.pick(&application.keys),
+        _ => vec![random.pick(b"abcdef")],
+    }
+}
+
+/// A body with a slip; some can still be read.
+fn bad_body(random: &mut Random, opcode: u16, application: &Application) -> Vec<u8> {
+    let body = body(random, opcode, application);
+    let wire_types: &[u64] = match opcode {
+        IMPORT => &[2, 2, 0, 0, 0],
+        EXPORT | DESTROY => &[2],
+        LIST_OPCODES => &[0],
+        _ => &[],
+    };
+    match random.below(5) {
+        0 if opcode == IMPORT => import_body(&Key {
+            data: vec![0xDA; random.pick(&[0, 601])],
+            ..key(random, 0)
+        }),
+        1 => [body, b"\x30\x01".to_vec()].concat(),
+        2 => message(random, wire_types),
+        3 => [body, b"\x18\x80\x80".to_vec()].concat(),
+        _ => mutated(random, body),
+    }
+}
+
+// ---- slips in a header
+
+/// Statuses 1 to 19 but 7: a field that one test of step 3 refuses.
+fn with_bad_header_field(random: &mut Random, mut request: Vec<u8>) -> Vec<u8> {
+    let provider = request[PROVIDER_AT];
+    match random.below(10) {
+        0 => request[MAJOR_AT] = 2,
+        1 => request[MINOR_AT] = 1,
+        2 => request[CONTENT_TYPE_AT] = random.pick(&[0, 2]),
+        3 => request[ACCEPT_TYPE_AT] = random.pick(&[0, 2]),
+        4 => request[OPCODE_AT] = random.pick(&[0, 2, 4, 5, 10]),
+        5 => request[PROVIDER_AT] = random.pick(&[2, 255]),
+        6 => request[PROVIDER_AT] = 1 - provider,
+        7 => request[AUTH_TYPE_AT] = random.pick(&[0, 2, 255]),
+        _ => request = with_auth(random, request),
+    }
+    request
+}
+
+/// The same request with another name, or with none and either auth type.
+fn with_auth(random: &mut Random, mut request: Vec<u8>) -> Vec<u8> {
+    let auth = random.pick(&[Vec::new(), Vec::new(), b"nobody".to_vec(), vec![b'n'; 65]]);
+    let length = u16::from_le_bytes([request[AUTH_LENGTH_AT], request[AUTH_LENGTH_AT + 1]]);
+    request.truncate(request.len() - usize::from(length));
+    request.extend(&auth);
+    set(
+        &mut request,
+        AUTH_LENGTH_AT,
+        &(auth.len() as u16).to_le_bytes(),
+    );
+    request[AUTH_TYPE_AT] = random.below(2) as u8;
+    request
+}
+
+/// Status 17, and closed.
+fn with_bad_start(random: &mut Random, mut request: Vec<u8>) -> Vec<u8> {
+    match random.below(6) {
+        0 => set(
+            &mut request,
+            H_AT,
+            &random.pick(&[0_u16, 21, 65, 22 + 256]).to_le_bytes(),
+        ),
+        1 => request[H_AT] = 21,
+        place => request[place - 2] ^= 1 << random.below(8),
+    }
+    request
+}
+
+fn with_one_bit_changed(random: &mut Random, mut request: Vec<u8>) -> Vec<u8> {
+    let place = random.below(request.len());
+    request[place] ^= 1 << random.below(8);
+    request
+}
+
+// ---- long requests
+
+/// The header of a request with other lengths, and so many bytes: small requests, so that losing
+/// step shows.
+fn with_lengths(request: &[u8], content_length: usize, auth_length: usize) -> Vec<u8> {
+    let header_size = u16::from_le_bytes([request[H_AT], request[H_AT + 1]]);
+    let mut long = request[..6 + usize::from(header_size)].to_vec();
+    set(
+        &mut long,
+        CONTENT_LENGTH_AT,
+        &(content_length as u32).to_le_bytes(),
+    );
+    set(
+        &mut long,
+        AUTH_LENGTH_AT,
+        &(auth_length as u16).to_le_bytes(),
+    );
+    let ping = self::request(PING, None, &[]);
+    long.extend(ping.iter().cycle().take(content_length + auth_length));
+    long
+}
+
+/// Statuses 20 and 11: one length at least is too large.
+fn oversized(random: &mut Random, request: &[u8]) -> Vec<u8> {
+    let (content_length, auth_length) = random.pick(&[
+        (4_097, 0),
+        (4_097, 256),
+        (4_097, 257),
+        (0, 257),
+        (4_096, 257),
+        (3, 300),
+        (40_000, 7),
+        (9, 65_535),
+    ]);
+    with_lengths(request, content_length, auth_length)
+}
+
+/// As long as may be, or nearly.
+fn long_request(random: &mut Random, request: &[u8]) -> Vec<u8> {
+    with_lengths(
+        request,
+        random.pick(&[4_096, 4_095]),
+        random.pick(&[256, 255, 0]),
+    )
+}
+
+/// An oversized request of which the stream won't bring all the bytes.
+fn unfinished_oversized(random: &mut Random, request: &[u8]) -> Vec<u8> {
+    let mut header = with_lengths(request, 0, 0);
+    let content_length = random.pick(&[1 << 20, 1 << 31, u32::MAX]);
+    set(
+        &mut header,
+        CONTENT_LENGTH_AT,
+        &content_length.to_le_bytes(),
+    );
+    let auth_length = random.pick(&[0, 256, u16::MAX]);
+    set(&mut header, AUTH_LENGTH_AT, &auth_length.to_le_bytes());
+    header
+}

@@ -1,0 +1,62 @@
+//! The compiled call against the reference's, on generated memory and streams: what it says, every
+//! byte of buffer, connection and registry, and every counter.
+
+use razidkot::{Connection, Counters, Registry, CONNECTION_SIZE};
+use razidkot_tests::ask::{record, registry_of};
+use razidkot_tests::differential::run_seed;
+use razidkot_tests::lent::{counter_mut, COUNTERS};
+use razidkot_tests::reached::Reached;
+
+const CALLS: u64 = 2_000_000;
+/// How often each outcome is to be reached.
+const LEAST: u64 = 100;
+
+#[test]
+fn calls_on_generated_memory_and_streams_come_to_the_same() {
+    let mut reached = Reached::default();
+    for seed in 0.. {
+        if let Err(difference) = run_seed(seed, &mut reached) {
+            panic!("{difference}");
+        }
+        if reached.calls >= CALLS {
+            break;
+        }
+    }
+    reached.assert_all(LEAST);
+}
+
+#[test]
+fn cleared_counters_are_all_zero() {
+    let mut counters = Counters::default();
+    for place in 0..COUNTERS {
+        *counter_mut(&mut counters, place) = u64::MAX - place as u64;
+    }
+    counters.clear();
+    assert_eq!(counters, Counters::default());
+}
+
+#[test]
+fn a_loaded_registry_and_an_opened_connection_are_those_of_the_reference() {
+    let names = [b"scanner".to_vec(), b"archive".to_vec()];
+    let roster: Vec<u8> = names.iter().flat_map(|name| record(1, name)).collect();
+    let registry = Registry::load(&roster).expect("a good roster");
+    assert!(registry.memory() == registry_of(&names));
+    assert!(Connection::open().memory() == [0; CONNECTION_SIZE]);
+}
+
+#[test]
+fn sizes_and_statuses_are_those_of_the_reference() {
+    assert_eq!(razidkot::REGISTRY_SIZE, reference::REGISTRY_SIZE);
+    assert_eq!(razidkot::CONNECTION_SIZE, reference::CONNECTION_SIZE);
+    assert_eq!(
+        razidkot::LEAST_RESPONSE_BUFFER,
+        reference::MIN_RESPONSE_BUFFER
+    );
+    assert_eq!(razidkot::LONGEST_CHUNK, reference::MAX_CHUNK);
+    assert_eq!(razidkot::LONGEST_RESPONSE, reference::LONGEST_RESPONSE);
+    let statuses = razidkot::Status::REFUSED.map(|status| status.number());
+    assert_eq!(
+        statuses,
+        reference::Status::REFUSED.map(|status| status.number())
+    );
+}
