@@ -1,6 +1,6 @@
 /*
  * The key service for C: target/staticlib/libabi.a, which `rt staticlib abi` writes (x86-64, System V).
- * The archive allocates nothing, keeps nothing between calls and needs no other library. All memory is the caller's.
+ * The archive allocates nothing, keeps nothing between calls and needs no library but C's. All memory is the caller's.
  * docs/LAYOUT.md has the layouts of registry and connection memory; document 01 is the requirements paper.
  *
  * Memory is handed over as a pointer and a length in bytes. Every function is defined for any bytes and any lengths:

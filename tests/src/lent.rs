@@ -90,7 +90,7 @@ impl Lent {
     }
 }
 
-fn to_reference(counters: &Counters) -> reference::Counters {
+pub fn to_reference(counters: &Counters) -> reference::Counters {
     reference::Counters {
         taken: counters.taken,
         answered: counters.answered,

@@ -15,3 +15,4 @@ pub mod oracle;
 pub mod reached;
 pub mod requests;
 pub mod run;
+pub mod service;

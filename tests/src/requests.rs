@@ -122,7 +122,7 @@ fn set(request: &mut [u8], at: usize, field: &[u8]) {
 }
 
 /// The same request with a longer header. Read as a body, the filler is an unlisted field.
-fn with_header_size(mut request: Vec<u8>, size: u16) -> Vec<u8> {
+pub fn with_header_size(mut request: Vec<u8>, size: u16) -> Vec<u8> {
     let filler = vec![0xEE; usize::from(size) - 22];
     request.splice(SHORTEST_HEADER..SHORTEST_HEADER, filler);
     set(&mut request, H_AT, &size.to_le_bytes());
@@ -182,7 +182,7 @@ fn bad_body(random: &mut Random, opcode: u16, application: &Application) -> Vec<
 
 // ---- slips in a header
 
-/// Statuses 1 to 19 but 7: a field that one test of step 3 refuses.
+/// A field that a test of step 3 refuses, up to the operation's own tests.
 fn with_bad_header_field(random: &mut Random, mut request: Vec<u8>) -> Vec<u8> {
     let provider = request[PROVIDER_AT];
     match random.below(10) {
@@ -238,7 +238,7 @@ fn with_one_bit_changed(random: &mut Random, mut request: Vec<u8>) -> Vec<u8> {
 
 /// The header of a request with other lengths, and so many bytes: small requests, so that losing
 /// step shows.
-fn with_lengths(request: &[u8], content_length: usize, auth_length: usize) -> Vec<u8> {
+pub fn with_lengths(request: &[u8], content_length: usize, auth_length: usize) -> Vec<u8> {
     let header_size = u16::from_le_bytes([request[H_AT], request[H_AT + 1]]);
     let mut long = request[..6 + usize::from(header_size)].to_vec();
     set(

@@ -1,11 +1,16 @@
 //! The compiled call against the reference's, on generated memory and streams: what it says, every
 //! byte of buffer, connection and registry, and every counter.
 
-use razidkot::{Connection, Counters, Registry, CONNECTION_SIZE};
+use razidkot::{Connection, Counters, Registry, CONNECTION_SIZE, LONGEST_CHUNK};
 use razidkot_tests::ask::{record, registry_of};
 use razidkot_tests::differential::run_seed;
+use razidkot_tests::generate::{registry, Filling};
+use razidkot_tests::layout::{line_at, name_at, LINES};
 use razidkot_tests::lent::{counter_mut, COUNTERS};
 use razidkot_tests::reached::Reached;
+use razidkot_tests::requests::{applications, requests};
+use razidkot_tests::run::for_seeds;
+use razidkot_tests::service;
 
 const CALLS: u64 = 2_000_000;
 /// How often each outcome is to be reached.
@@ -23,6 +28,22 @@ fn calls_on_generated_memory_and_streams_come_to_the_same() {
         }
     }
     reached.assert_all(LEAST);
+}
+
+#[test]
+fn any_cut_of_a_stream_comes_to_what_the_rules_give_uncut() {
+    for_seeds(4_000, |random| {
+        let start = registry(random, Filling::NamesOnly);
+        let names: Vec<_> = (0..LINES)
+            .map(|line| name_at(&start, line_at(line)).to_vec())
+            .filter(|name| !name.is_empty())
+            .collect();
+        let stream = requests(random, &applications(&start), 24).concat();
+        let longest = random.pick(&[3, 40, 1_000, LONGEST_CHUNK]);
+        let longest = longest.max(stream.len() / 200);
+        let sizes: Vec<_> = (0..9).map(|_| 1 + random.below(longest)).collect();
+        service::responses(&names, &stream, &sizes);
+    });
 }
 
 #[test]

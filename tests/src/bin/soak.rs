@@ -1,5 +1,6 @@
 //! Makes generated calls to the compiled service and to the reference until there were so many:
 //! cargo run --release -p razidkot-tests --bin soak -- CALLS [SEED]
+//! Where they differ it prints the seed and its case made short; CALLS = 1 runs one seed again.
 
 use razidkot_tests::differential::run_seed;
 use razidkot_tests::reached::Reached;
