@@ -53,14 +53,12 @@ pub fn applications(registry: &[u8]) -> Vec<Application> {
 pub fn requests(random: &mut Random, applications: &[Application], most: usize) -> Vec<Vec<u8>> {
     let count = 1 + random.below(most);
     // Few applications at a time, so that one comes to more requests.
-    let first = random.below(applications.len());
-    let count_of_applications = random.pick(&[1, 2, LINES]);
-    let applications = &applications[first..];
-    let applications = &applications[..applications.len().min(count_of_applications)];
+    let applications = &applications[random.below(applications.len())..];
+    let few = random.pick(&[1, 2, LINES]).min(applications.len());
     let mut requests: Vec<_> = (0..count)
         .map(|_| {
-            let place = random.below(applications.len());
-            some_request(random, &applications[place])
+            let application = random.below(few);
+            some_request(random, &applications[application])
         })
         .collect();
     if random.once_in(3) {
@@ -119,6 +117,11 @@ fn whole_request(random: &mut Random, application: &Application) -> Vec<u8> {
 
 fn set(request: &mut [u8], at: usize, field: &[u8]) {
     request[at..at + field.len()].copy_from_slice(field);
+}
+
+fn set_lengths(header: &mut [u8], content_length: u32, auth_length: u16) {
+    set(header, CONTENT_LENGTH_AT, &content_length.to_le_bytes());
+    set(header, AUTH_LENGTH_AT, &auth_length.to_le_bytes());
 }
 
 /// The same request with a longer header. Read as a body, the filler is an unlisted field.
@@ -202,27 +205,20 @@ fn with_bad_header_field(random: &mut Random, mut request: Vec<u8>) -> Vec<u8> {
 /// The same request with another name, or with none and either auth type.
 fn with_auth(random: &mut Random, mut request: Vec<u8>) -> Vec<u8> {
     let auth = random.pick(&[Vec::new(), Vec::new(), b"nobody".to_vec(), vec![b'n'; 65]]);
-    let length = u16::from_le_bytes([request[AUTH_LENGTH_AT], request[AUTH_LENGTH_AT + 1]]);
-    request.truncate(request.len() - usize::from(length));
+    let before = u16::from_le_bytes([request[AUTH_LENGTH_AT], request[AUTH_LENGTH_AT + 1]]);
+    request.truncate(request.len() - usize::from(before));
     request.extend(&auth);
-    set(
-        &mut request,
-        AUTH_LENGTH_AT,
-        &(auth.len() as u16).to_le_bytes(),
-    );
+    let length = auth.len() as u16;
+    set(&mut request, AUTH_LENGTH_AT, &length.to_le_bytes());
     request[AUTH_TYPE_AT] = random.below(2) as u8;
     request
 }
 
 /// Status 17, and closed.
 fn with_bad_start(random: &mut Random, mut request: Vec<u8>) -> Vec<u8> {
+    let header_size = random.pick(&[0_u16, 21, 65, 22 + 256]);
     match random.below(6) {
-        0 => set(
-            &mut request,
-            H_AT,
-            &random.pick(&[0_u16, 21, 65, 22 + 256]).to_le_bytes(),
-        ),
-        1 => request[H_AT] = 21,
+        0 | 1 => set(&mut request, H_AT, &header_size.to_le_bytes()),
         place => request[place - 2] ^= 1 << random.below(8),
     }
     request
@@ -241,16 +237,7 @@ fn with_one_bit_changed(random: &mut Random, mut request: Vec<u8>) -> Vec<u8> {
 pub fn with_lengths(request: &[u8], content_length: usize, auth_length: usize) -> Vec<u8> {
     let header_size = u16::from_le_bytes([request[H_AT], request[H_AT + 1]]);
     let mut long = request[..6 + usize::from(header_size)].to_vec();
-    set(
-        &mut long,
-        CONTENT_LENGTH_AT,
-        &(content_length as u32).to_le_bytes(),
-    );
-    set(
-        &mut long,
-        AUTH_LENGTH_AT,
-        &(auth_length as u16).to_le_bytes(),
-    );
+    set_lengths(&mut long, content_length as u32, auth_length as u16);
     let ping = self::request(PING, None, &[]);
     long.extend(ping.iter().cycle().take(content_length + auth_length));
     long
@@ -284,12 +271,7 @@ fn long_request(random: &mut Random, request: &[u8]) -> Vec<u8> {
 fn unfinished_oversized(random: &mut Random, request: &[u8]) -> Vec<u8> {
     let mut header = with_lengths(request, 0, 0);
     let content_length = random.pick(&[1 << 20, 1 << 31, u32::MAX]);
-    set(
-        &mut header,
-        CONTENT_LENGTH_AT,
-        &content_length.to_le_bytes(),
-    );
     let auth_length = random.pick(&[0, 256, u16::MAX]);
-    set(&mut header, AUTH_LENGTH_AT, &auth_length.to_le_bytes());
+    set_lengths(&mut header, content_length, auth_length);
     header
 }
