@@ -19,7 +19,6 @@ use Rattle.connection.proofs.GatherLaws.{begun-few}
 use Rattle.connection.proofs.StateLaws.{memory-is}
 use Rattle.service.specs.Counters.{Counts, totalsOf}
 use Rattle.service.specs.Judgement.{judgement}
-use Rattle.service.specs.Call.{chunkMost}
 use Rattle.service.specs.declared.Counters.{Counters}
 use Rattle.service.proofs.ServeLaws.{stateWith, bad-steady, judge-steady, serves-wait, serves-answer}
 use borrow.Author.Needs.{needs}
@@ -141,8 +140,7 @@ finish-requires-2 c κs =
     let w = whole-part chunk n (frame-whole (next chunk) n (sym (c .before .before .before .before .before .before .before .before .before .before .before .read-frame .ensures) ∙ c .before .before .before .before .before .before .before .before .before .n .given .1)) in
     let fits = w .fits in
     let few = s .pre .0 .chunk-good in
-    let most : n ≤ chunkMost = omega arith in
-    (s .pre .0 .counters-good, most, omega arith, c .before .before .before .before .answer-whole .ensures .asker)
+    (s .pre .0 .counters-good, omega arith, omega arith, c .before .before .before .before .answer-whole .ensures .asker)
 
 same-length : tie.Need-same-length
 same-length c = search needs
