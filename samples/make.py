@@ -1,0 +1,401 @@
+#!/usr/bin/env python3
+"""Makes the sample roster and the sample streams, and counts what their bills must say.
+
+    samples/make.py            writes servers.roster, day.stream and closed.stream beside this file
+    samples/make.py --check    writes nothing; fails if one of them, or a .bill file, differs
+
+Each request below stands with the status that document 01 gives it, told by a reader and not by a
+program. The expected bill is counted from these statuses alone, so it is independent of every
+program that prints a bill. The .bill files themselves come from the second program, see README.md.
+"""
+
+import hashlib
+import struct
+import sys
+from collections import Counter
+from dataclasses import dataclass
+from pathlib import Path
+
+HERE = Path(__file__).parent
+
+# ---- document 01, "Operations and their fields"
+
+CORE, KEYSTORE = 0, 1
+PING, LIST_PROVIDERS, LIST_OPCODES = 1, 8, 9
+DESTROY, IMPORT, EXPORT = 3, 6, 7
+OPERATIONS = {
+    PING: "Ping",
+    LIST_PROVIDERS: "ListProviders",
+    LIST_OPCODES: "ListOpcodes",
+    DESTROY: "Destroy",
+    IMPORT: "Import",
+    EXPORT: "Export",
+}
+STATUSES = [0, 1, 2, 3, 4, 6, 7, 9, 11, 12, 17, 19, 20, 1133, 1135, 1139, 1140, 1142]
+SLOTS = 4
+
+# The roster, in file order: the line's number is the place here.
+APPLICATIONS = ["recon-a", "recon-b", "viewer", "archive"]
+
+
+# ---- message bodies: the Protocol Buffers encoding, zero values left out
+
+
+def varint(value):
+    out = bytearray()
+    while value >= 0x80:
+        out.append(value & 0x7F | 0x80)
+        value >>= 7
+    out.append(value)
+    return bytes(out)
+
+
+def number_field(number, value):
+    return varint(number << 3 | 0) + varint(value) if value else b""
+
+
+def bytes_field(number, value):
+    return varint(number << 3 | 2) + varint(len(value)) + value if value else b""
+
+
+def provider_body(provider):
+    return number_field(1, provider)
+
+
+def name_body(name):
+    return bytes_field(1, name.encode())
+
+
+def import_body(name, data, bits, export=True, verify=True):
+    return (
+        name_body(name)
+        + bytes_field(2, data)
+        + number_field(3, bits)
+        + number_field(4, int(export))
+        + number_field(5, int(verify))
+    )
+
+
+def public_key(label, bits):
+    """Bytes in the shape of a DER RSAPublicKey; the modulus is made from the label and is no real one."""
+    modulus = bytearray(hashlib.shake_256(label.encode()).digest(bits // 8))
+    modulus[0] |= 0x80
+    modulus[-1] |= 1
+    integer = b"\x02\x82" + struct.pack(">H", len(modulus) + 1) + b"\x00" + modulus
+    content = integer + b"\x02\x03\x01\x00\x01"
+    return b"\x30\x82" + struct.pack(">H", len(content)) + content
+
+
+# ---- requests: document 01, "Bytes on the wire"
+
+
+@dataclass(frozen=True)
+class Request:
+    opcode: int
+    provider: int = CORE
+    body: bytes = b""
+    auth_type: int = 0
+    auth: bytes = b""
+    session: int = 0
+    major: int = 1
+    minor: int = 0
+    content_type: int = 1
+    accept_type: int = 1
+    # Header bytes past the 22 known ones: H counts them, and a reader ignores them.
+    beyond: bytes = b""
+
+    def encode(self):
+        header = struct.pack(
+            "<IHBBBQBBBIHH",
+            0x5EC0A710,
+            22 + len(self.beyond),
+            self.major,
+            self.minor,
+            self.provider,
+            self.session,
+            self.content_type,
+            self.accept_type,
+            self.auth_type,
+            len(self.body),
+            len(self.auth),
+            self.opcode,
+        )
+        return header + self.beyond + self.body + self.auth
+
+
+@dataclass(frozen=True)
+class Sent:
+    """A request and the status that document 01 gives it."""
+
+    request: Request
+    status: int
+
+
+def core(opcode, status=0, **fields):
+    """A request to the core provider, with auth type 0 where `fields` say nothing else."""
+    return Sent(Request(opcode, **fields), status)
+
+
+def keystore(application, opcode, body, status=0, **fields):
+    """A request that an application sends to the keystore under its name."""
+    named = {"provider": KEYSTORE, "auth_type": 1, "auth": application.encode()}
+    return Sent(Request(opcode, body=body, **{**named, **fields}), status)
+
+
+def import_key(application, name, bits, status=0, **flags):
+    data = public_key(f"{application} {name}", bits)
+    return keystore(application, IMPORT, import_body(name, data, bits, **flags), status)
+
+
+def export_key(application, name, status=0, **fields):
+    return keystore(application, EXPORT, name_body(name), status, **fields)
+
+
+def destroy_key(application, name, status=0, **fields):
+    return keystore(application, DESTROY, name_body(name), status, **fields)
+
+
+# ---- a day at the reconstruction servers
+
+
+def greetings():
+    """Every operation of the core provider, with and without a name."""
+    viewer = {"auth_type": 1, "auth": b"viewer"}
+    return [
+        core(PING),
+        core(LIST_PROVIDERS, session=1),
+        core(LIST_OPCODES, body=provider_body(CORE), session=2),
+        core(LIST_OPCODES, body=provider_body(KEYSTORE), session=2**64 - 1),
+        core(PING, **viewer),
+        # The header size H says where the body starts: 30 and 64 instead of 22.
+        core(LIST_OPCODES, body=provider_body(KEYSTORE), beyond=b"\xaa" * 8, **viewer),
+        core(PING, beyond=b"\xff" * 42),
+    ]
+
+
+def keys_of_the_servers():
+    """Two servers hold a key of the same name, and each sees its own only."""
+    # Fields in any order, longer varints than needed, and of a repeated field the last counts.
+    shuffled = (
+        b"\x20\x80\x00"
+        + number_field(3, 1)
+        + bytes_field(2, public_key("recon-b mr-0001", 2048))
+        + number_field(4, 1)
+        + name_body("mr-0000")
+        + number_field(3, 2048)
+        + name_body("mr-0001")
+    )
+    return [
+        import_key("recon-a", "ct-0001", 2048),
+        import_key("recon-a", "ct-0002", 3072, verify=False),
+        import_key("recon-b", "ct-0001", 4096),
+        import_key("recon-b", "sealed", 2048, export=False),
+        keystore("recon-b", IMPORT, shuffled),
+        export_key("recon-a", "ct-0001", session=3),
+        export_key("recon-b", "ct-0001", session=4),
+        export_key("recon-b", "mr-0001"),
+        export_key("recon-b", "sealed", 1133),
+        export_key("viewer", "ct-0001", 1140),
+        destroy_key("viewer", "ct-0001", 1140),
+        export_key("recon-a", "ct-0009", 1140),
+        import_key("recon-a", "ct-0001", 2048, 1139),
+        destroy_key("recon-a", "ct-0002"),
+        export_key("recon-a", "ct-0002", 1140),
+    ]
+
+
+def full_archive():
+    """All slots of an application in use, one destroyed, and the same import again."""
+    names = [f"vault-{number}" for number in range(SLOTS)]
+    return [
+        *[import_key("archive", name, 4096) for name in names],
+        import_key("archive", "vault-new", 2048, 1142),
+        import_key("archive", names[-1], 2048, 1139),
+        destroy_key("archive", names[1]),
+        import_key("archive", "vault-new", 2048),
+        export_key("archive", "vault-new"),
+        export_key("archive", names[1], 1140),
+    ]
+
+
+def bad_headers():
+    """Refused by the header alone, in document 01's order."""
+    return [
+        core(PING, 4, major=2),
+        core(PING, 4, minor=1),
+        core(0, 4, major=2),
+        core(PING, 2, content_type=3),
+        core(PING, 3, accept_type=3),
+        core(0, 9),
+        core(2, 9, provider=KEYSTORE),
+        core(PING, 6, provider=2),
+        core(PING, 1, provider=KEYSTORE),
+        import_at_core(1),
+    ]
+
+
+def import_at_core(status):
+    body = import_body("ct-0003", public_key("recon-a ct-0003", 2048), 2048)
+    return keystore("recon-a", IMPORT, body, status, provider=CORE)
+
+
+def bad_authentication():
+    return [
+        core(PING, 12, auth_type=2, auth=b"a token"),
+        core(PING, 11, auth=b"recon-a"),
+        core(PING, 11, auth_type=1, auth=b"recon-c"),
+        core(PING, 11, auth_type=1),
+        export_key("recon-", "ct-0001", 11),
+        export_key("recon-a", "ct-0001", 19, auth_type=0, auth=b""),
+    ]
+
+
+def bad_bodies():
+    """Unreadable bodies, then readable ones that the operation refuses."""
+    data = public_key("recon-a ct-0003", 2048)
+    return [
+        # A field of five bytes with two behind its length: cut.
+        keystore("recon-a", EXPORT, b"\x0a\x05ct", 7),
+        # A varint whose tenth byte is above 1.
+        core(LIST_OPCODES, 7, body=b"\x08" + b"\xff" * 9 + b"\x02"),
+        # Wire type 7.
+        core(PING, 7, body=b"\x0f"),
+        core(LIST_OPCODES, 6, body=provider_body(2)),
+        destroy_key("recon-a", "", 1135),
+        destroy_key("recon-a", "ct 0001", 1135),
+        export_key("recon-a", "x" * 33, 1135),
+        keystore("recon-a", IMPORT, import_body("ct-0003", b"", 2048), 1135),
+        keystore("recon-a", IMPORT, import_body("ct-0003", b"\x00" * 601, 2048), 1135),
+        keystore("recon-a", IMPORT, import_body("", data, 2048), 1135),
+    ]
+
+
+def oversized():
+    """Skipped whole and answered at their last byte, so that the Ping behind them is read."""
+    return [
+        core(PING, 20, body=b"\x00" * 4097, session=5),
+        core(PING, 20, body=b"\x00" * 4097, auth=b"\x00" * 257, session=6),
+        core(PING, 11, auth=b"\x00" * 257, session=7),
+        core(PING, session=8),
+    ]
+
+
+# ---- streams
+
+
+@dataclass(frozen=True)
+class Stream:
+    sent: list
+    # Six bytes that are no start of a request: status 17. What follows is dropped.
+    bad_start: bytes = b""
+    dropped: bytes = b""
+    # The beginning of a request whose rest has not come.
+    held: bytes = b""
+
+    def encode(self):
+        requests = b"".join(sent.request.encode() for sent in self.sent)
+        return requests + self.bad_start + self.dropped + self.held
+
+    def refusals(self):
+        refused = Counter(sent.status for sent in self.sent if sent.status)
+        refused[17] += bool(self.bad_start)
+        return +refused
+
+    def served(self):
+        return [sent.request for sent in self.sent if sent.status == 0]
+
+    def bill(self):
+        """Document 01, "The bill"."""
+        callers = Counter(request.auth.decode() for request in self.served())
+        return [
+            f"taken {len(self.encode())}",
+            *[f"line {n} {name} {callers[name]}" for n, name in enumerate(APPLICATIONS)],
+            f"open {callers['']}",
+            *[f"refused {status} {count}" for status, count in sorted(self.refusals().items())],
+            f"dropped {len(self.dropped)}",
+            f"held {len(self.held)}",
+        ]
+
+
+def day():
+    sent = [
+        *greetings(),
+        *keys_of_the_servers(),
+        *full_archive(),
+        *bad_headers(),
+        *bad_authentication(),
+        *bad_bodies(),
+        *oversized(),
+    ]
+    unfinished = export_key("viewer", "ct-0001").request.encode()
+    return Stream(sent, held=unfinished[:33])
+
+
+def closed():
+    """Somebody speaks HTTP on the connection; the Ping behind it is dropped with the rest."""
+    sent = [
+        core(PING),
+        import_key("recon-a", "ct-0001", 2048),
+        export_key("recon-a", "ct-0001"),
+        destroy_key("recon-a", "ct-0001"),
+    ]
+    http = b"GET /keys/ct-0001 HTTP/1.1\r\nHost: recon-a\r\n\r\n"
+    return Stream(sent, bad_start=http[:6], dropped=http[6:] + Request(PING).encode())
+
+
+def roster():
+    return b"".join(b"\x01" + struct.pack("<H", len(name)) + name.encode() for name in APPLICATIONS)
+
+
+# ---- the command
+
+
+def missing(day_stream, closed_stream):
+    """What the two streams together should exercise and don't."""
+    statuses = {sent.status for sent in day_stream.sent} | set(closed_stream.refusals())
+    operations = {request.opcode for request in day_stream.served()}
+    lacking = [f"status {status}" for status in STATUSES if status not in statuses]
+    return lacking + [name for opcode, name in OPERATIONS.items() if opcode not in operations]
+
+
+def show(name, stream):
+    print(f"{name}: {len(stream.sent)} requests, {len(stream.served())} served")
+    for opcode, count in sorted(Counter(request.opcode for request in stream.served()).items()):
+        print(f"  {OPERATIONS[opcode]} served {count}")
+    for line in stream.bill():
+        print(f"  {line}")
+
+
+def differing(files):
+    """The names of the files whose bytes are not these."""
+    paths = {HERE / name: content for name, content in files.items()}
+    return [
+        path.name
+        for path, content in paths.items()
+        if not path.is_file() or path.read_bytes() != content
+    ]
+
+
+def main():
+    streams = {"day": day(), "closed": closed()}
+    lacking = missing(streams["day"], streams["closed"])
+    files = {"servers.roster": roster()}
+    files |= {f"{name}.stream": stream.encode() for name, stream in streams.items()}
+    bills = {
+        f"{name}.bill": "".join(line + "\n" for line in stream.bill()).encode()
+        for name, stream in streams.items()
+    }
+    for name, stream in streams.items():
+        show(name, stream)
+    if "--check" not in sys.argv[1:]:
+        for name, content in files.items():
+            (HERE / name).write_bytes(content)
+    wrong = lacking + differing(files | bills)
+    for name in wrong:
+        print(f"differs or lacks: {name}")
+    print("samples: " + ("not as expected" if wrong else "as expected"))
+    return 1 if wrong else 0
+
+
+if __name__ == "__main__":
+    sys.exit(main())
