@@ -12,7 +12,11 @@ use Rattle.service.specs.Call.{Memory}
 use Rattle.service.specs.Called.{lentMemory, codeNumber}
 use Rattle.service.specs.declared.Counters.{Counters}
 use Rattle.service.specs.declared.CallAnswer.{CallAnswer}
+use Rattle.billing.specs.Outcome.{BillOutcome}
+use Rattle.billing.specs.declared.Billed.{Billed}
+use Rattle.billing.specs.declared.Billed.the-variants.{Written, BufferTooSmall, ConnectionIllFormed, RegistryIllFormed}
 use Rattle.abi.specs.declared.Answer.{Answer}
+use Rattle.abi.specs.declared.Bill.{Bill}
 
 -- 0 for a good file, else 1 + the R number
 unfoldable pub loadedNumber : Option RosterFault → ℕ
@@ -35,3 +39,23 @@ outcomeWith a connection registry counters buffer = record {
   answer = record { code = a .code; taken = a .taken; written = a .written; buffer = buffer };
   memory = lentMemory connection registry counters;
 }
+
+unfoldable pub billedNumber : Billed → ℕ
+billedNumber (Written written) = 0
+billedNumber BufferTooSmall = 1
+billedNumber ConnectionIllFormed = 2
+billedNumber RegistryIllFormed = 3
+
+-- a refused bill has no bytes
+unfoldable pub billedBytes : Billed → ℕ
+billedBytes (Written written) = written
+billedBytes BufferTooSmall = 0
+billedBytes ConnectionIllFormed = 0
+billedBytes RegistryIllFormed = 0
+
+abbrev pub billNumbered : Billed → Bill
+billNumbered b = record { code = billedNumber b; written = billedBytes b }
+
+-- what writing a bill says, and the buffer after it
+abbrev pub billedWith : BillOutcome → Bill × List ℕ
+billedWith o = (billNumbered (o .answer), o .out)

@@ -1,4 +1,6 @@
 // The functions exported to C: an enum comes back as a number, and a slice crosses as pointer and length.
+use billing::Billed;
+use billing::whole::write_bill;
 use connection::change::Opened;
 use connection::change::open_connection;
 use registry::RosterFault;
@@ -16,13 +18,21 @@ ghost use Rattle.connection.specs.Connection.{openConnection};
 ghost use Rattle.service.specs.Status.{refusalNumber};
 ghost use Rattle.service.specs.Call.{callOutcome};
 ghost use Rattle.service.specs.Called.{lentMemory, callWith, codeNumber};
-ghost use Rattle.abi.specs.Numbers.{loadedNumber, openedNumber, zeroCounters, numbered, outcomeWith};
+ghost use Rattle.billing.specs.Outcome.{billOutcome};
+ghost use Rattle.abi.specs.Numbers.{loadedNumber, openedNumber, zeroCounters, numbered, outcomeWith, billNumbered, billedWith};
 
 // What a call says: 0 if it was taken, else the C number; how many bytes of the chunk it took, and how many it wrote.
 #[repr(C)]
 pub struct Answer {
     pub code: u32,
     pub taken: usize,
+    pub written: usize,
+}
+
+// What writing a bill says: 0 if it was written, else why not; and how many bytes it has, 0 where there is none.
+#[repr(C)]
+pub struct Bill {
+    pub code: u32,
     pub written: usize,
 }
 
@@ -124,4 +134,37 @@ pub extern "C" fn razidkot_call(
     ensures { λ r. ⌜ outcomeWith r (now (connection .exit)) (now (registry .exit)) (now (counters .exit)) (now (response .exit)) ≡ callOutcome (lentMemory (now (connection .entry)) (now (registry .entry)) (now (counters .entry))) (callWith (now (chunk .entry)) (now (response .entry))) ⌝ }
 {
     number(call(chunk, connection, registry, counters, response))
+}
+
+fn number_billed(billed: Billed) -> Bill
+    ensures { λ r. ⌜ r ≡ billNumbered billed ⌝ }
+{
+    match billed {
+        Billed::Written(written) => Bill { code: 0, written },
+        Billed::BufferTooSmall => Bill {
+            code: 1,
+            written: 0,
+        },
+        Billed::ConnectionIllFormed => Bill {
+            code: 2,
+            written: 0,
+        },
+        Billed::RegistryIllFormed => Bill {
+            code: 3,
+            written: 0,
+        },
+    }
+}
+
+// 0 for a bill that was written, 1 for a buffer below 2048 bytes, 2 for an ill-formed connection, 3 for such a registry.
+#[no_mangle]
+pub extern "C" fn razidkot_bill(
+    out: &mut [u8],
+    counters: &Counters,
+    registry: &[u8],
+    connection: &[u8],
+) -> Bill
+    ensures { λ r. ⌜ (r, now (out .exit)) ≡ billedWith (billOutcome (now (out .entry)) (lentMemory (now (connection .entry)) (now (registry .entry)) (now (counters .entry)))) ⌝ }
+{
+    number_billed(write_bill(out, *counters, registry, connection))
 }
