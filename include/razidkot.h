@@ -42,6 +42,8 @@ extern "C" {
 #define RAZIDKOT_LONGEST_CHUNK 65536
 /* No response is longer. */
 #define RAZIDKOT_LONGEST_RESPONSE 629
+/* A shorter buffer gets no bill; no bill is longer. */
+#define RAZIDKOT_LEAST_BILL_BUFFER 2048
 /* 2^62: a call is refused if any counter is above it. */
 #define RAZIDKOT_HIGHEST_COUNTER (UINT64_C(1) << 62)
 
@@ -170,7 +172,16 @@ razidkot_answer razidkot_call(const uint8_t *chunk, size_t chunk_length,
                               razidkot_counters *counters,
                               uint8_t *response, size_t response_length);
 
-/* The place for razidkot_bill, which the archive doesn't have yet. */
+/*
+ * Writes the bill of these counters, registry and connection to the front of the buffer, and returns how many bytes it
+ * has: lines of text, each with a newline. Bytes of the buffer past the bill stay. The counters may be any numbers.
+ * Returns 0 and changes nothing if the buffer has fewer than RAZIDKOT_LEAST_BILL_BUFFER bytes, or if the connection or
+ * the registry is ill formed.
+ */
+size_t razidkot_bill(uint8_t *out, size_t out_length,
+                     const razidkot_counters *counters,
+                     const uint8_t *registry, size_t registry_length,
+                     const uint8_t *connection, size_t connection_length);
 
 #ifdef __cplusplus
 }

@@ -90,7 +90,8 @@ impl Reached {
     }
 }
 
-fn kind_of(connection: &[u8]) -> &'static str {
+/// Of a well-formed connection.
+pub fn kind_of(connection: &[u8]) -> &'static str {
     match connection {
         [0, 0, 0, ..] => KINDS[0],
         [0, ..] => KINDS[1],

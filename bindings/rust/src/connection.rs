@@ -1,6 +1,6 @@
 //! A connection, and the call on it.
 
-use crate::{raw, Counters, Registry, CONNECTION_SIZE};
+use crate::{raw, Counters, Registry, CONNECTION_SIZE, LEAST_BILL_BUFFER};
 use std::fmt;
 
 /// A connection, well formed always: only calls change it.
@@ -64,6 +64,24 @@ impl Connection {
     /// Has a request with a wrong start closed it? Later bytes are taken and dropped.
     pub fn is_closed(&self) -> bool {
         self.memory[0] == CLOSED
+    }
+
+    /// The bill: bytes taken, requests served for each application and with auth type 0, requests
+    /// refused with each status, bytes dropped and held. Each line ends with a newline.
+    ///
+    /// ```
+    /// use razidkot::{Connection, Counters, Registry};
+    ///
+    /// let registry = Registry::load(b"\x01\x01\x00b")?;
+    /// let bill = Connection::open().bill(&registry, &Counters::default());
+    /// assert_eq!(bill, "taken 0\nline 0 b 0\nopen 0\ndropped 0\nheld 0\n");
+    /// # Ok::<(), razidkot::RosterFault>(())
+    /// ```
+    pub fn bill(&self, registry: &Registry, counters: &Counters) -> String {
+        let mut out = vec![0; LEAST_BILL_BUFFER];
+        let written = raw::bill(&mut out, counters, registry.memory(), &self.memory);
+        out.truncate(written.expect("well-formed memory and room for any bill"));
+        String::from_utf8(out).expect("names of visible ASCII")
     }
 
     /// The connection's bytes, in the layout of docs/LAYOUT.md.

@@ -29,7 +29,15 @@ unsafe extern "C" {
         response: *mut u8,
         response_length: usize,
     ) -> Answer;
-    // The place for razidkot_bill, which the archive doesn't have yet.
+    fn razidkot_bill(
+        out: *mut u8,
+        out_length: usize,
+        counters: &Counters,
+        registry: *const u8,
+        registry_length: usize,
+        connection: *const u8,
+        connection_length: usize,
+    ) -> usize;
 }
 
 pub fn load_roster(file: &[u8], registry: &mut [u8]) -> u32 {
@@ -69,6 +77,20 @@ pub fn call(
             counters,
             response.as_mut_ptr(),
             response.len(),
+        )
+    }
+}
+
+pub fn bill(out: &mut [u8], counters: &Counters, registry: &[u8], connection: &[u8]) -> usize {
+    unsafe {
+        razidkot_bill(
+            out.as_mut_ptr(),
+            out.len(),
+            counters,
+            registry.as_ptr(),
+            registry.len(),
+            connection.as_ptr(),
+            connection.len(),
         )
     }
 }

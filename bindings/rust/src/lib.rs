@@ -66,5 +66,7 @@ pub const LEAST_RESPONSE_BUFFER: usize = 1_024;
 pub const LONGEST_CHUNK: usize = 65_536;
 /// No response is longer.
 pub const LONGEST_RESPONSE: usize = 629;
+/// A shorter buffer gets no bill; no bill is longer.
+pub const LEAST_BILL_BUFFER: usize = 2_048;
 /// A call is refused if any counter is above it.
 pub const HIGHEST_COUNTER: u64 = 1 << 62;

@@ -89,3 +89,29 @@ pub fn call(
 ) -> Answer {
     foreign::call(chunk, connection, registry, counters, response)
 }
+
+/// Writes a bill to the front of `out` and says how many bytes it has; bytes past it stay. `None`,
+/// and nothing written, if `out` has fewer than [`LEAST_BILL_BUFFER`](crate::LEAST_BILL_BUFFER)
+/// bytes, or if the connection or the registry is ill formed.
+///
+/// ```
+/// use razidkot::{raw, Counters, CONNECTION_SIZE, LEAST_BILL_BUFFER, REGISTRY_SIZE};
+///
+/// let (connection, registry) = ([0; CONNECTION_SIZE], [0; REGISTRY_SIZE]);
+/// let (mut out, counters) = ([0; LEAST_BILL_BUFFER], Counters::default());
+/// let written = raw::bill(&mut out, &counters, &registry, &connection);
+/// assert_eq!(written, Some(32));
+/// assert_eq!(&out[..32], b"taken 0\nopen 0\ndropped 0\nheld 0\n");
+/// assert_eq!(raw::bill(&mut out, &counters, &registry, &[]), None);
+/// ```
+pub fn bill(
+    out: &mut [u8],
+    counters: &Counters,
+    registry: &[u8],
+    connection: &[u8],
+) -> Option<usize> {
+    match foreign::bill(out, counters, registry, connection) {
+        0 => None,
+        written => Some(written),
+    }
+}
