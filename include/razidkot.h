@@ -172,16 +172,33 @@ razidkot_answer razidkot_call(const uint8_t *chunk, size_t chunk_length,
                               razidkot_counters *counters,
                               uint8_t *response, size_t response_length);
 
+/* What razidkot_bill says. The first that applies, in this order; the codes are those of this header alone. */
+enum razidkot_bill_code {
+    RAZIDKOT_BILL_WRITTEN = 0,
+    /* The buffer has fewer than RAZIDKOT_LEAST_BILL_BUFFER bytes. */
+    RAZIDKOT_BILL_BUFFER_TOO_SMALL = 1,
+    /* The connection memory has another size than RAZIDKOT_CONNECTION_SIZE, or no connection in it. */
+    RAZIDKOT_BILL_CONNECTION_ILL_FORMED = 2,
+    /* The registry memory has another size than RAZIDKOT_REGISTRY_SIZE, or no registry in it. */
+    RAZIDKOT_BILL_REGISTRY_ILL_FORMED = 3
+};
+
+typedef struct {
+    /* A razidkot_bill_code. */
+    uint32_t code;
+    /* How many bytes of text were written to the front of the buffer; 0 if there is no bill. */
+    size_t written;
+} razidkot_bill_answer;
+
 /*
- * Writes the bill of these counters, registry and connection to the front of the buffer, and returns how many bytes it
- * has: lines of text, each with a newline. Bytes of the buffer past the bill stay. The counters may be any numbers.
- * Returns 0 and changes nothing if the buffer has fewer than RAZIDKOT_LEAST_BILL_BUFFER bytes, or if the connection or
- * the registry is ill formed.
+ * Writes the bill of these counters, registry and connection to the front of the buffer: lines of text, each with a
+ * newline. Bytes of the buffer past the bill stay. The counters may be any numbers. Where there is no bill (code 1 to 3)
+ * the buffer stays as it was.
  */
-size_t razidkot_bill(uint8_t *out, size_t out_length,
-                     const razidkot_counters *counters,
-                     const uint8_t *registry, size_t registry_length,
-                     const uint8_t *connection, size_t connection_length);
+razidkot_bill_answer razidkot_bill(uint8_t *out, size_t out_length,
+                                   const razidkot_counters *counters,
+                                   const uint8_t *registry, size_t registry_length,
+                                   const uint8_t *connection, size_t connection_length);
 
 #ifdef __cplusplus
 }

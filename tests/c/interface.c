@@ -78,12 +78,14 @@ static void expect_bills(void)
 {
     static uint8_t out[RAZIDKOT_LEAST_BILL_BUFFER];
     const size_t c = sizeof connection, g = sizeof registry;
-    expect("no buffer", razidkot_bill(NULL, 0, &counters, registry, g, connection, c), 0);
-    expect("short", razidkot_bill(out, sizeof out - 1, &counters, registry, g, connection, c), 0);
-    expect("no connection", razidkot_bill(out, sizeof out, &counters, registry, g, NULL, 0), 0);
-    expect("no registry", razidkot_bill(out, sizeof out, &counters, NULL, 0, connection, c), 0);
+    expect("no buffer", razidkot_bill(NULL, 0, &counters, registry, g, connection, c).code, 1);
+    expect("short", razidkot_bill(out, sizeof out - 1, &counters, registry, g, connection, c).code, 1);
+    expect("no connection", razidkot_bill(out, sizeof out, &counters, registry, g, NULL, 0).code, 2);
+    expect("no registry", razidkot_bill(out, sizeof out, &counters, NULL, 0, connection, c).code, 3);
     razidkot_clear_counters(&counters);
-    expect("a bill", razidkot_bill(out, sizeof out, &counters, registry, g, connection, c), 32);
+    const razidkot_bill_answer bill = razidkot_bill(out, sizeof out, &counters, registry, g, connection, c);
+    expect("a bill", bill.code, RAZIDKOT_BILL_WRITTEN);
+    expect("its length", bill.written, 32);
     expect("its text", memcmp(out, "taken 0\nopen 0\ndropped 0\nheld 0\n", 32) != 0, 0);
 }
 

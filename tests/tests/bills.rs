@@ -1,6 +1,6 @@
 //! The compiled bill against the reference's: document 01, "The bill".
 
-use razidkot::raw;
+use razidkot::raw::{self, NoBill};
 use razidkot_tests::case::{Case, Fault};
 use razidkot_tests::generate::Random;
 use razidkot_tests::lent::{to_reference, Lent};
@@ -8,28 +8,28 @@ use razidkot_tests::reached::kind_of;
 use razidkot_tests::run::{for_seeds, Outcomes};
 
 /// Why there is no bill, in the order in which it is judged.
-fn refusal(lent: &Lent, length: usize) -> Option<&'static str> {
+fn refusal(lent: &Lent, length: usize) -> Option<NoBill> {
     if length < razidkot::LEAST_BILL_BUFFER {
-        Some("buffer too small")
+        Some(NoBill::BufferTooSmall)
     } else if !reference::connection_is_well_formed(&lent.connection) {
-        Some("connection ill formed")
+        Some(NoBill::ConnectionIllFormed)
     } else if !reference::registry_is_well_formed(&lent.registry) {
-        Some("registry ill formed")
+        Some(NoBill::RegistryIllFormed)
     } else {
         None
     }
 }
 
 /// The buffer with the bill that the reference writes, over bytes of 0x55.
-fn expected(lent: &Lent, length: usize) -> (Option<usize>, Vec<u8>) {
+fn expected(lent: &Lent, length: usize) -> (Result<usize, NoBill>, Vec<u8>) {
     let mut out = vec![0x55; length];
-    if refusal(lent, length).is_some() {
-        return (None, out);
+    if let Some(none) = refusal(lent, length) {
+        return (Err(none), out);
     }
     let counters = to_reference(&lent.counters);
     let text = reference::bill_text(&counters, &lent.registry, &lent.connection);
     out[..text.len()].copy_from_slice(&text);
-    (Some(text.len()), out)
+    (Ok(text.len()), out)
 }
 
 /// The memory of a case, with each fault of its calls but those of buffer and chunk.
@@ -64,7 +64,9 @@ fn bills_of_generated_memory_are_those_of_the_reference() {
             let length = random.pick(&[0, 2_047, 2_048, 2_048, 2_049, 3_000]);
             compare(&lent, length);
             outcomes.count(match refusal(&lent, length) {
-                Some(refusal) => refusal,
+                Some(NoBill::BufferTooSmall) => "buffer too small",
+                Some(NoBill::ConnectionIllFormed) => "connection ill formed",
+                Some(NoBill::RegistryIllFormed) => "registry ill formed",
                 None => kind_of(&lent.connection),
             });
         }

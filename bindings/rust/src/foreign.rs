@@ -4,9 +4,10 @@
 //! are proved to read and write nothing but what they are lent, and none has a precondition. What
 //! the header leaves undefined can't come from references: they are valid for their length and
 //! aligned, and what is lent `&mut` overlaps nothing else. A slice of length 0 is not read, so that
-//! its pointer may dangle. `Counters` and `Answer` are `repr(C)`, field by field those of the header.
+//! its pointer may dangle. `Counters`, `Answer` and `BillAnswer` are `repr(C)`,
+//! field by field those of the header.
 
-use crate::raw::Answer;
+use crate::raw::{Answer, BillAnswer};
 use crate::Counters;
 
 unsafe extern "C" {
@@ -37,7 +38,7 @@ unsafe extern "C" {
         registry_length: usize,
         connection: *const u8,
         connection_length: usize,
-    ) -> usize;
+    ) -> BillAnswer;
 }
 
 pub fn load_roster(file: &[u8], registry: &mut [u8]) -> u32 {
@@ -81,7 +82,7 @@ pub fn call(
     }
 }
 
-pub fn bill(out: &mut [u8], counters: &Counters, registry: &[u8], connection: &[u8]) -> usize {
+pub fn bill(out: &mut [u8], counters: &Counters, registry: &[u8], connection: &[u8]) -> BillAnswer {
     unsafe {
         razidkot_bill(
             out.as_mut_ptr(),

@@ -90,9 +90,35 @@ pub fn call(
     foreign::call(chunk, connection, registry, counters, response)
 }
 
-/// Writes a bill to the front of `out` and says how many bytes it has; bytes past it stay. `None`,
-/// and nothing written, if `out` has fewer than [`LEAST_BILL_BUFFER`](crate::LEAST_BILL_BUFFER)
-/// bytes, or if the connection or the registry is ill formed.
+/// Why there is no bill, in the order in which it is judged.
+#[derive(Clone, Copy, Debug, PartialEq, Eq)]
+pub enum NoBill {
+    /// The buffer has fewer than [`LEAST_BILL_BUFFER`](crate::LEAST_BILL_BUFFER) bytes.
+    BufferTooSmall,
+    /// As C3 of a call.
+    ConnectionIllFormed,
+    /// As C4 of a call.
+    RegistryIllFormed,
+}
+
+impl NoBill {
+    const ALL: [Self; 3] = [
+        Self::BufferTooSmall,
+        Self::ConnectionIllFormed,
+        Self::RegistryIllFormed,
+    ];
+}
+
+/// What billing says, as it comes from the archive: the header's `razidkot_bill_answer`.
+#[derive(Clone, Copy, Debug, PartialEq, Eq)]
+#[repr(C)]
+pub(crate) struct BillAnswer {
+    code: u32,
+    written: usize,
+}
+
+/// Writes a bill to the front of `out` and says how many bytes it has; bytes past it stay. Where
+/// there is no bill, `out` stays as it was.
 ///
 /// ```
 /// use razidkot::{raw, Counters, CONNECTION_SIZE, LEAST_BILL_BUFFER, REGISTRY_SIZE};
@@ -100,18 +126,20 @@ pub fn call(
 /// let (connection, registry) = ([0; CONNECTION_SIZE], [0; REGISTRY_SIZE]);
 /// let (mut out, counters) = ([0; LEAST_BILL_BUFFER], Counters::default());
 /// let written = raw::bill(&mut out, &counters, &registry, &connection);
-/// assert_eq!(written, Some(32));
+/// assert_eq!(written, Ok(32));
 /// assert_eq!(&out[..32], b"taken 0\nopen 0\ndropped 0\nheld 0\n");
-/// assert_eq!(raw::bill(&mut out, &counters, &registry, &[]), None);
+/// let none = raw::bill(&mut out, &counters, &registry, &[]);
+/// assert_eq!(none, Err(raw::NoBill::ConnectionIllFormed));
 /// ```
 pub fn bill(
     out: &mut [u8],
     counters: &Counters,
     registry: &[u8],
     connection: &[u8],
-) -> Option<usize> {
-    match foreign::bill(out, counters, registry, connection) {
-        0 => None,
-        written => Some(written),
+) -> Result<usize, NoBill> {
+    let answer = foreign::bill(out, counters, registry, connection);
+    match answer.code {
+        0 => Ok(answer.written),
+        code => Err(NoBill::ALL[code as usize - 1]),
     }
 }
