@@ -4,8 +4,11 @@ use crate::message::Step;
 use crate::message::Values;
 use crate::message::all_absent;
 use crate::message::read_step;
+use crate::reader::open_reader;
+use crate::reader::read_message;
 ghost use mathlib.Core.Path.{_≡_};
-ghost use Rattle.protobuf.specs.Body.{bodyOf};
+ghost use Rattle.protobuf.specs.Message.{allAbsent};
+ghost use Rattle.protobuf.specs.Body.{bodyAt, bodyOf};
 
 // A body that was read: its message, or where its first unreadable field's tag starts.
 pub enum Body {
@@ -13,12 +16,12 @@ pub enum Body {
     Unreadable(usize),
 }
 
-// The body `s` read as a message of the schema.
-pub fn read_body(s: &[u8], k: Schema) -> Body
-    ensures { λ r. ⌜ r ≡ bodyOf k (now (s .entry)) ⌝ }
+// The fields of the body `s` from `start` on, read as a message of the schema.
+pub fn read_fields(s: &[u8], start: usize, k: Schema) -> Body
+    ensures { λ r. ⌜ r ≡ bodyAt k (now (s .entry)) start allAbsent ⌝ }
 {
     let mut m = all_absent();
-    let mut at = 0;
+    let mut at = start;
     while at < s.len() {
         match read_step(s, at, k, m) {
             Step::Next(more, next) => {
@@ -31,4 +34,11 @@ pub fn read_body(s: &[u8], k: Schema) -> Body
         }
     }
     Body::Message(m)
+}
+
+// The body `s` read as a message of the schema.
+pub fn read_body(s: &[u8], k: Schema) -> Body
+    ensures { λ r. ⌜ r ≡ bodyOf k (now (s .entry)) ⌝ }
+{
+    read_message(open_reader(s), k)
 }

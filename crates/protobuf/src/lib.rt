@@ -2,5 +2,6 @@
 pub mod body;
 pub mod field;
 pub mod message;
+pub mod reader;
 pub mod varint;
 pub mod write;
