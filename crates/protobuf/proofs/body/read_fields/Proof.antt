@@ -1,4 +1,4 @@
--- `protobuf::body::read_fields` meets its contract. The loop's invariant: reading on from here gives what reading from `start` does. Assumes nothing.
+-- `protobuf::body::read_fields` meets its contract. The loop's invariant: reading on from here gives what reading from `start` does.
 use Prim.Native.Nat.{_-_}
 use mathlib.Core.Path.{_≡_, sym, _∙_}
 use native.Mathlib.Omega.{arith}
@@ -21,23 +21,23 @@ Inv-loop s start k m₀ at₀ m at = bodyAt k s at m ≡ bodyAt k s start allAbs
 abbrev μ-loop : tie.MeasureT-loop
 μ-loop s start k m₀ at₀ m at = length s - at
 
--- src/lib.rt:300:9
+-- src/body.rt:23:17
 all-absent-requires : tie.Need-all-absent-requires Inv-loop μ-loop
 all-absent-requires c κs = search needs
 
--- src/lib.rt:302:5
+-- src/body.rt:25:5
 loop-holds : tie.Need-loop-holds Inv-loop μ-loop
 loop-holds c = rw (c .all-absent .ensures)
 
--- src/lib.rt:303:15
+-- src/body.rt:26:15
 read-step-requires : tie.Need-read-step-requires Inv-loop μ-loop
 read-step-requires c κs = search needs
 
--- src/lib.rt:304:24
+-- src/body.rt:27:24
 enum-known-more : tie.Need-enum-known-more Inv-loop μ-loop
 enum-known-more c = search needs
 
--- src/lib.rt:302:5
+-- src/body.rt:25:5
 loop-less : tie.Need-loop-less Inv-loop μ-loop
 loop-less c =
     let a = c .before .before .before .before .before .before .before .before .args in
@@ -46,7 +46,7 @@ loop-less c =
     let e = sym (c .before .before .before .read-step .ensures) ∙ v .1 in
     omega (arith, laws.goes-ahead (a .k) (now (a .s)) (l .at) (l .m) (v .0 .0) (v .0 .1 .0) e)
 
--- src/lib.rt:302:5
+-- src/body.rt:25:5
 loop-again : tie.Need-loop-again Inv-loop μ-loop
 loop-again c =
     let a = c .before .before .before .before .before .before .before .before .args in
@@ -55,18 +55,18 @@ loop-again c =
     let e = sym (c .before .before .before .read-step .ensures) ∙ v .1 in
     sym (laws.goes-on (a .k) (now (a .s)) (l .at) (l .m) (v .0 .0) (v .0 .1 .0) (c .before .before .before .before .loop-test .taken) e) ∙ l .inv
 
--- src/lib.rt:309:17
+-- src/body.rt:32:17
 enum-told : tie.Need-enum-told Inv-loop μ-loop
 enum-told c = search needs
 
--- src/lib.rt:309:17
+-- src/body.rt:32:17
 returns : tie.Need-returns Inv-loop μ-loop
 returns c =
     let a = c .before .before .before .before .before .before .before .args in
     let l = c .before .before .before .before .loop in
     sym (laws.refuses (a .k) (now (a .s)) (l .at) (l .m) (c .before .before .before .loop-test .taken) (sym (c .before .before .read-step .ensures) ∙ c .enum-told .given .1)) ∙ l .inv
 
--- src/lib.rt:297:1
+-- src/body.rt:20:1
 returns-2 : tie.Need-returns-2 Inv-loop μ-loop
 returns-2 c =
     let a = c .before .before .before .before .args in
