@@ -8,7 +8,7 @@ use borrow.Rule.Slice.PartMut.{putMid}
 use lib.ListN.{length, take, drop, length-append, take-append-drop, length-drop, drop-of-length-le}
 use lib.Seq.{take-at, drop-at, drop-drop, length-take-le}
 use Rattle.wire.specs.Lists.{put}
-use Rattle.wire.specs.Wrote.{over, Wrote}
+use Rattle.wire.specs.Wrote.{Wrote}
 use Rattle.wire.proofs.BufferLaws.{lent}
 use Rattle.wire.proofs.PutLaws.{length-put}
 use Rattle.billing.specs.Text.{Placed}

@@ -8,13 +8,9 @@ use native.Mathlib.Omega.{arith}
 use denote.Enum.Declared.{tagOf}
 use types.Run.{OneOf}
 use Rattle.wire.specs.Choice.{firstOf}
-use Rattle.wire.specs.Wrote.{over}
-use Rattle.stream.specs.Call.{Effect, callRule}
-use Rattle.stream.specs.Calls.{Answer, Call, refused, took, CallOutcome}
+use Rattle.stream.specs.Calls.{Answer, Call, refused, took}
 use Rattle.service.specs.Status.{refusalNumber}
-use Rattle.service.specs.Counters.{Counts}
-use Rattle.service.specs.Judgement.{judgement}
-use Rattle.service.specs.Call.{Memory, stateIn, memoryOf, refusalTests, codeOf, refusalOf, callOutcome}
+use Rattle.service.specs.Call.{Memory, memoryOf, refusalTests, codeOf, refusalOf, callOutcome}
 use Rattle.service.specs.Called.{lentMemory, callWith, codeFor, codeNumber, outcomeWith}
 use Rattle.service.specs.Served.{WroteAny, Carried, effectOf}
 use Rattle.service.specs.declared.Counters.{Counters}

@@ -18,10 +18,6 @@ use Rattle.connection.specs.Gather.{heldIn}
 use Rattle.connection.proofs.GatherLaws.{Part, part-none, part-holds, part-again, holding-few, holding-size, after-few, after-size, after-in, after-some, gathers}
 use Rattle.connection.proofs.gather.gather.Statement.{statement}
 use Rattle.connection.proofs.gather.gather.Tie as tie
-use Rattle.connection.proofs.gather.gather.Reads as reads
-use Rattle.connection.proofs.gather.gather.Lts as lts
-use Rattle.connection.proofs.gather.fill.Reads as fill-reads
-use Rattle.stream.proofs.frame.read_frame.Reads as read-frame-reads
 
 -- a frame said to be unfinished is one
 told : (s t : List ℕ) (f : Frame) → s ≡ t → f ≡ frameOf (next s) → f ≡ Unfinished → next t ≡ unfinished

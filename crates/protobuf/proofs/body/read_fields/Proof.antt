@@ -10,10 +10,6 @@ use Rattle.protobuf.specs.Body.{bodyAt}
 use Rattle.protobuf.proofs.BodyLaws as laws
 use Rattle.protobuf.proofs.body.read_fields.Statement.{statement}
 use Rattle.protobuf.proofs.body.read_fields.Tie as tie
-use Rattle.protobuf.proofs.body.read_fields.Reads as reads
-use Rattle.protobuf.proofs.body.read_fields.Lts as lts
-use Rattle.protobuf.proofs.message.all_absent.Reads as all-absent-reads
-use Rattle.protobuf.proofs.message.read_step.Reads as read-step-reads
 
 abbrev Inv-loop : tie.InvT-loop
 Inv-loop s start k m₀ at₀ m at = bodyAt k s at m ≡ bodyAt k s start allAbsent

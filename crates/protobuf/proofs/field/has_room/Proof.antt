@@ -7,8 +7,6 @@ use mathlib.Core.Path.{sym}
 use borrow.Author.Needs.{needs}
 use Rattle.protobuf.proofs.field.has_room.Statement.{statement}
 use Rattle.protobuf.proofs.field.has_room.Tie as tie
-use Rattle.protobuf.proofs.field.has_room.Reads as reads
-use Rattle.protobuf.proofs.field.has_room.Lts as lts
 
 -- src/lib.rt:104:9
 returns : tie.Need-returns

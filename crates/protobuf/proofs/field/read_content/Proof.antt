@@ -3,11 +3,6 @@ use Rattle.protobuf.specs.Field.{contentAt}
 use borrow.Author.Needs.{needs}
 use Rattle.protobuf.proofs.field.read_content.Statement.{statement}
 use Rattle.protobuf.proofs.field.read_content.Tie as tie
-use Rattle.protobuf.proofs.field.read_content.Reads as reads
-use Rattle.protobuf.proofs.field.read_content.Lts as lts
-use Rattle.protobuf.proofs.field.read_fixed.Reads as read-fixed-reads
-use Rattle.protobuf.proofs.field.read_number.Reads as read-number-reads
-use Rattle.protobuf.proofs.field.read_span.Reads as read-span-reads
 
 -- src/lib.rt:176:9
 read-number-requires : tie.Need-read-number-requires

@@ -6,10 +6,6 @@ use mathlib.Core.Path.{sym, _∙_}
 use borrow.Author.Needs.{needs}
 use Rattle.protobuf.proofs.field.read_field.Statement.{statement}
 use Rattle.protobuf.proofs.field.read_field.Tie as tie
-use Rattle.protobuf.proofs.field.read_field.Reads as reads
-use Rattle.protobuf.proofs.field.read_field.Lts as lts
-use Rattle.protobuf.proofs.field.read_content.Reads as read-content-reads
-use Rattle.protobuf.proofs.varint.read_varint.Reads as read-varint-reads
 
 -- src/lib.rt:168:36
 read-varint-requires : tie.Need-read-varint-requires

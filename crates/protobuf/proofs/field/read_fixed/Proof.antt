@@ -8,9 +8,6 @@ use mathlib.Core.Path.{sym, _∙_}
 use borrow.Author.Needs.{needs}
 use Rattle.protobuf.proofs.field.read_fixed.Statement.{statement}
 use Rattle.protobuf.proofs.field.read_fixed.Tie as tie
-use Rattle.protobuf.proofs.field.read_fixed.Reads as reads
-use Rattle.protobuf.proofs.field.read_fixed.Lts as lts
-use Rattle.protobuf.proofs.field.has_room.Reads as room-reads
 
 -- src/lib.rt:124:8
 has-room-requires : tie.Need-has-room-requires

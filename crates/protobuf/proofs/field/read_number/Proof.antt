@@ -3,9 +3,6 @@ use mathlib.Core.Path.{sym, _∙_}
 use borrow.Author.Needs.{needs}
 use Rattle.protobuf.proofs.field.read_number.Statement.{statement}
 use Rattle.protobuf.proofs.field.read_number.Tie as tie
-use Rattle.protobuf.proofs.field.read_number.Reads as reads
-use Rattle.protobuf.proofs.field.read_number.Lts as lts
-use Rattle.protobuf.proofs.varint.read_varint.Reads as read-varint-reads
 
 -- src/lib.rt:115:11
 read-varint-requires : tie.Need-read-varint-requires

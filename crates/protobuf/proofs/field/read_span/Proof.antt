@@ -8,10 +8,6 @@ use mathlib.Core.Path.{sym, _∙_}
 use borrow.Author.Needs.{needs}
 use Rattle.protobuf.proofs.field.read_span.Statement.{statement}
 use Rattle.protobuf.proofs.field.read_span.Tie as tie
-use Rattle.protobuf.proofs.field.read_span.Reads as reads
-use Rattle.protobuf.proofs.field.read_span.Lts as lts
-use Rattle.protobuf.proofs.varint.read_varint.Reads as read-varint-reads
-use Rattle.protobuf.proofs.field.has_room.Reads as room-reads
 
 -- src/lib.rt:133:37
 read-varint-requires : tie.Need-read-varint-requires

@@ -2,11 +2,6 @@ use Rattle.protobuf.specs.Message.{itemOf}
 use borrow.Author.Needs.{needs}
 use Rattle.protobuf.proofs.message.item_of.Statement.{statement}
 use Rattle.protobuf.proofs.message.item_of.Tie as tie
-use Rattle.protobuf.proofs.message.item_of.Reads as reads
-use Rattle.protobuf.proofs.message.item_of.Lts as lts
-use Rattle.protobuf.proofs.message.kind_of.Reads as kind-of-reads
-use Rattle.protobuf.proofs.message.of_number.Reads as of-number-reads
-use Rattle.protobuf.proofs.message.of_span.Reads as of-span-reads
 
 -- src/lib.rt:280:25
 enum-known-f : tie.Need-enum-known-f

@@ -1,8 +1,6 @@
 use borrow.Author.Tests.{eq-eqb, ne-eqb}
 use Rattle.protobuf.proofs.message.kind_of.Statement.{statement}
 use Rattle.protobuf.proofs.message.kind_of.Tie as tie
-use Rattle.protobuf.proofs.message.kind_of.Reads as reads
-use Rattle.protobuf.proofs.message.kind_of.Lts as lts
 
 -- src/lib.rt:185:9
 returns : tie.Need-returns

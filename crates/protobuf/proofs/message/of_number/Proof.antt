@@ -2,8 +2,6 @@ use borrow.Author.Tests.{eq-eqb, ne-eqb}
 use borrow.Author.Needs.{needs}
 use Rattle.protobuf.proofs.message.of_number.Statement.{statement}
 use Rattle.protobuf.proofs.message.of_number.Tie as tie
-use Rattle.protobuf.proofs.message.of_number.Reads as reads
-use Rattle.protobuf.proofs.message.of_number.Lts as lts
 
 -- src/lib.rt:235:47
 enum-told : tie.Need-enum-told

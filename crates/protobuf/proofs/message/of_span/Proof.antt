@@ -1,8 +1,6 @@
 use borrow.Author.Needs.{needs}
 use Rattle.protobuf.proofs.message.of_span.Statement.{statement}
 use Rattle.protobuf.proofs.message.of_span.Tie as tie
-use Rattle.protobuf.proofs.message.of_span.Reads as reads
-use Rattle.protobuf.proofs.message.of_span.Lts as lts
 
 -- src/lib.rt:253:38
 enum-told : tie.Need-enum-told

@@ -3,11 +3,6 @@ use mathlib.Core.Path.{ap, sym, _∙_}
 use borrow.Author.Needs.{needs}
 use Rattle.protobuf.proofs.message.read_step.Statement.{statement}
 use Rattle.protobuf.proofs.message.read_step.Tie as tie
-use Rattle.protobuf.proofs.message.read_step.Reads as reads
-use Rattle.protobuf.proofs.message.read_step.Lts as lts
-use Rattle.protobuf.proofs.message.item_of.Reads as judge-reads
-use Rattle.protobuf.proofs.message.with_value.Reads as withValue-reads
-use Rattle.protobuf.proofs.field.read_field.Reads as read-field-reads
 
 -- src/lib.rt:283:20
 read-field-requires : tie.Need-read-field-requires

@@ -2,8 +2,6 @@ use Rattle.protobuf.specs.Message.{withValue}
 use borrow.Author.Tests.{eq-eqb, ne-eqb}
 use Rattle.protobuf.proofs.message.with_value.Statement.{statement}
 use Rattle.protobuf.proofs.message.with_value.Tie as tie
-use Rattle.protobuf.proofs.message.with_value.Reads as reads
-use Rattle.protobuf.proofs.message.with_value.Lts as lts
 
 -- src/lib.rt:208:9
 returns : tie.Need-returns

@@ -11,8 +11,6 @@ use Rattle.protobuf.specs.Varint.{varintOf}
 use Rattle.protobuf.proofs.VarintLaws as laws
 use Rattle.protobuf.proofs.varint.read_varint.Statement.{statement}
 use Rattle.protobuf.proofs.varint.read_varint.Tie as tie
-use Rattle.protobuf.proofs.varint.read_varint.Reads as reads
-use Rattle.protobuf.proofs.varint.read_varint.Lts as lts
 
 abbrev Inv-loop : tie.InvT-loop
 Inv-loop s at value₀ scale₀ left₀ p₀ value scale left p =

@@ -6,7 +6,6 @@ use Rattle.registry.specs.Check.{wellFormedLine}
 use Rattle.wire.specs.Lists.{blocks}
 use mathlib.Core.Path.{_≡_, refl, sym, ap, _∙_}
 use mathlib.Core.List.{[]}
-use mathlib.Core.Bool.{_||_}
 use Prim.Native.Nat.{ℕ, _+_, _*_, _-_, _≤_}
 use native.Mathlib.Omega.{arith}
 use borrow.Author.Needs.{needs}

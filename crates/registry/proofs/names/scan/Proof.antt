@@ -7,7 +7,7 @@ use Rattle.registry.proofs.BlockNameLaws.{fits, blockAt, scan-skip, sca
 use lib.Dec.{eqb}
 use mathlib.Core.Path.{_≡_, refl, sym, _∙_}
 use mathlib.Core.List.{List, []}
-use mathlib.Core.Bool.{false, _&&_, _||_}
+use mathlib.Core.Bool.{false, _&&_}
 use Prim.Native.Nat.{ℕ, _+_, _*_, _-_, _≤_, _<_}
 use native.Mathlib.Omega.{arith}
 use borrow.Author.Needs.{needs}

@@ -8,7 +8,7 @@ use Rattle.registry.proofs.NameLaws.{legal-short}
 use Rattle.registry.proofs.SlotLaws.{free-slot, key-slot, name-length, data-ok, data-none, data-long}
 use mathlib.Core.Path.{_≡_, sym, ap, _∙_}
 use mathlib.Core.List.{List, []}
-use mathlib.Core.Bool.{true, _||_}
+use mathlib.Core.Bool.{true}
 use Prim.Native.Nat.{ℕ, _+_, _-_, _≤_}
 use native.Mathlib.Omega.{arith}
 use borrow.Author.Needs.{needs}

@@ -1,8 +1,6 @@
 -- `service::call::call_by_value` meets its contract.
-use mathlib.Core.Path.{_≡_, sym, _∙_}
 use Rattle.service.proofs.CallLaws.{passed}
 use Rattle.service.proofs.CalledLaws.{taken-passes, refused-call, taken-call}
-use Rattle.service.specs.Called.{lentMemory, callWith}
 use borrow.Author.Needs.{needs}
 use Rattle.service.proofs.call.call_by_value.Statement.{statement}
 use Rattle.service.proofs.call.call_by_value.Tie as tie

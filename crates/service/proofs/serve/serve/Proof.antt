@@ -1,5 +1,5 @@
 -- `service::serve::serve` meets its contract.
-use Prim.Native.Nat.{ℕ, suc, _+_, _-_, _≤_, _<_}
+use Prim.Native.Nat.{ℕ, suc, _+_, _-_, _≤_}
 use mathlib.Core.Path.{_≡_, refl, sym, ap, subst, _∙_}
 use mathlib.Core.Bool.{true}
 use mathlib.Core.List.{List, [], _∷_}
@@ -14,7 +14,7 @@ use Rattle.connection.specs.Connection.{laidOut, connectionBytes, connectionOf}
 use Rattle.connection.specs.State.{stateOf}
 use Rattle.connection.specs.declared.check.State.the-variants.{Open, Skipping}
 use Rattle.connection.proofs.ConnectionLaws.{memory-good}
-use Rattle.connection.proofs.StateLaws.{state-open, state-skipping, state-closed, memory-is, WholeHeader, skipping-whole, header-there}
+use Rattle.connection.proofs.StateLaws.{state-open, state-skipping, state-closed, memory-is, skipping-whole, header-there}
 use Rattle.service.specs.Counters.{Counts, totalsOf}
 use Rattle.service.specs.Judgement.{judgement}
 use Rattle.service.specs.Call.{chunkMost}

@@ -1,18 +1,18 @@
 -- `service::serve::serve_fresh` meets its contract.
-use Prim.Native.Nat.{ℕ, _+_, _-_, _≤_, _<_, _^_}
+use Prim.Native.Nat.{ℕ, _-_, _≤_}
 use mathlib.Core.Path.{_≡_, refl, sym, ap, _∙_}
 use mathlib.Core.List.{List, []}
 use native.Mathlib.Omega.{arith}
 use lib.ListN.{length, take}
 use lib.Seq.{length-take-le}
-use Rattle.stream.specs.Frame.{unfinished, badStart, skipped, whole, next}
+use Rattle.stream.specs.Frame.{unfinished, skipped, whole, next}
 use Rattle.stream.specs.Rules.{State, opened, skipping, closed, judge}
 use Rattle.stream.specs.Effects.{answering}
 use Rattle.stream.specs.Call.{callRule}
 use Rattle.stream.proofs.FrameLaws.{next-unfinished, short}
 use Rattle.stream.proofs.FramedLaws.{frame-unfinished, frame-bad, frame-skipped, frame-whole, header-part, whole-part}
 use Rattle.stream.proofs.ChunkLaws.{call-unfinished, call-bad, call-large, call-whole, skipped-found}
-use Rattle.connection.specs.Connection.{heldMost, connectionSize, laidOut, connectionBytes, connectionOf}
+use Rattle.connection.specs.Connection.{heldMost, laidOut, connectionBytes, connectionOf}
 use Rattle.connection.proofs.ConnectionLaws.{legal-most, size-there}
 use Rattle.connection.proofs.CheckLaws.{well-size}
 use Rattle.connection.proofs.GatherLaws.{begun-few}

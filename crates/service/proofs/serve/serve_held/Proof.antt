@@ -1,5 +1,5 @@
 -- `service::serve::serve_held` meets its contract.
-use Prim.Native.Nat.{ℕ, _+_, _-_, _≤_, _<_}
+use Prim.Native.Nat.{ℕ, _+_, _-_, _≤_}
 use mathlib.Core.Path.{_≡_, refl, sym, ap, ap₂, subst, _∙_}
 use mathlib.Core.Bool.{true}
 use mathlib.Core.List.{List, [], _++_}
@@ -7,12 +7,10 @@ use native.Mathlib.Omega.{arith}
 use lib.ListN.{length, take, drop, length-append}
 use lib.Seq.{length-take-le}
 use Rattle.wire.specs.Request.{requestLength}
-use Rattle.stream.specs.Frame.{legalStart, unfinished, badStart, skipped, whole, next}
+use Rattle.stream.specs.Frame.{legalStart, skipped, whole, next}
 use Rattle.stream.specs.Rules.{State, opened, skipping, closed, judge}
-use Rattle.stream.specs.Effects.{waiting, answering}
-use Rattle.stream.specs.Call.{callRule}
-use Rattle.stream.specs.declared.frame.Frame.the-variants.{Skipped}
-use Rattle.stream.proofs.FramedLaws.{FrameSkipped, frame-unfinished, frame-bad, frame-skipped, frame-whole}
+use Rattle.stream.specs.Effects.{waiting}
+use Rattle.stream.proofs.FramedLaws.{frame-unfinished, frame-bad, frame-skipped, frame-whole}
 use Rattle.stream.proofs.ChunkLaws.{whole-found}
 use Rattle.stream.proofs.GatheredLaws.{after-unfinished, after-bad, after-whole, after-skips, after-skipped}
 use Rattle.connection.specs.Connection.{heldMost, connectionSize, laidOut, connectionBytes, connectionOf}

@@ -1,5 +1,5 @@
 -- `service::serve::wait` meets its contract.
-use mathlib.Core.Path.{_≡_, ap}
+use mathlib.Core.Path.{ap}
 use Rattle.service.specs.declared.Counters.{Counters}
 use Rattle.service.specs.declared.Served.{Served}
 use borrow.Author.Needs.{needs}
