@@ -1,6 +1,6 @@
 //! Inputs from a seed, the same on every run.
 
-use crate::ask::{import_body, name_body, registry_of, request, DESTROY, IMPORT};
+use crate::ask::{import_body, name_body, record, registry_of, request, DESTROY, IMPORT};
 use crate::layout::*;
 use crate::oracle::{bytes_field, varint};
 use reference::rules;
@@ -311,6 +311,31 @@ fn copy(registry: &mut [u8], from: usize, to: usize, size: usize) {
     if from.max(to) + size <= registry.len() {
         registry.copy_within(from..from + size, to);
     }
+}
+
+// ---- roster files
+
+/// A roster file of up to ten names; now and then one is no good, or not the first of its kind.
+pub fn some_roster(random: &mut Random) -> Vec<u8> {
+    let count = random.pick(&[0, 1, 2, 3, 7, 8, 8, 9, 10]);
+    let slips = random.once_in(2);
+    let mut names: Vec<Vec<u8>> = Vec::new();
+    let mut file = Vec::new();
+    for number in 0..count {
+        let length = random.pick(&[1, 2, 3, 40, 63, 64]);
+        let mut value = name(random, number, length);
+        let mut tag = 1;
+        match random.below(8) {
+            0 if slips => tag = random.pick(&[0, 2, 0xFF]),
+            1 if slips => value.resize(random.pick(&[0, 65, 256, 300]), b'n'),
+            2 if slips => value[length / 2] = random.pick(&[0, 0x20, 0x21, 0x7E, 0x7F, 0xFF]),
+            3 if slips && !names.is_empty() => value = random.pick(&names),
+            _ => {}
+        }
+        file.extend(record(tag, &value));
+        names.push(value);
+    }
+    file
 }
 
 // ---- bodies

@@ -3,6 +3,7 @@
 //! reference alike.
 
 pub mod ask;
+pub mod bill;
 pub mod case;
 pub mod connections;
 pub mod differential;

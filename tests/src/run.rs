@@ -41,7 +41,7 @@ impl Outcomes {
 }
 
 /// The shortest input, by leaving out parts, that still `fails`.
-pub fn shortest(input: &[u8], fails: impl Fn(&[u8]) -> bool) -> Vec<u8> {
+pub fn shortest<T: Clone>(input: &[T], fails: impl Fn(&[T]) -> bool) -> Vec<T> {
     let mut input = input.to_vec();
     let mut size = input.len();
     while size > 0 {

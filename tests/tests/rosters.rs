@@ -1,9 +1,8 @@
 //! Roster files: document 01, "Roster, registry, connection, tally", R0 to R5.
 
 use razidkot::{raw, RosterFault};
-use razidkot_tests::ask::record;
 use razidkot_tests::foreign;
-use razidkot_tests::generate::{mutated, name, Random};
+use razidkot_tests::generate::{mutated, some_roster};
 use razidkot_tests::run::{assert_agree, for_seeds, Outcomes};
 use reference::REGISTRY_SIZE;
 
@@ -14,29 +13,6 @@ fn agree(file: &[u8], size: usize) -> bool {
     let loaded = raw::load_roster(file, &mut service).map_err(RosterFault::number);
     let expected = reference::load_roster(file, &mut second).map_err(|fault| fault.number());
     loaded_by_leaf == expected && leaf == second && loaded == expected && service == second
-}
-
-/// A roster file of up to ten names; now and then one is no good, or not the first of its kind.
-fn some_roster(random: &mut Random) -> Vec<u8> {
-    let count = random.pick(&[0, 1, 2, 3, 7, 8, 8, 9, 10]);
-    let slips = random.once_in(2);
-    let mut names: Vec<Vec<u8>> = Vec::new();
-    let mut file = Vec::new();
-    for number in 0..count {
-        let length = random.pick(&[1, 2, 3, 40, 63, 64]);
-        let mut value = name(random, number, length);
-        let mut tag = 1;
-        match random.below(8) {
-            0 if slips => tag = random.pick(&[0, 2, 0xFF]),
-            1 if slips => value.resize(random.pick(&[0, 65, 256, 300]), b'n'),
-            2 if slips => value[length / 2] = random.pick(&[0, 0x20, 0x21, 0x7E, 0x7F, 0xFF]),
-            3 if slips && !names.is_empty() => value = random.pick(&names),
-            _ => {}
-        }
-        file.extend(record(tag, &value));
-        names.push(value);
-    }
-    file
 }
 
 #[test]

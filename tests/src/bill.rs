@@ -1,0 +1,88 @@
+//! The proved program `bill ROSTER STREAM`, run on files of a test.
+
+use std::ffi::OsStr;
+use std::fs;
+use std::io::Write;
+use std::path::{Path, PathBuf};
+use std::process::{Command, Output, Stdio};
+
+/// What `rt check bill` writes.
+const PROGRAM: &str = concat!(env!("CARGO_MANIFEST_DIR"), "/../target/bin/bill");
+
+fn program() -> Command {
+    let is_there = Path::new(PROGRAM).exists();
+    assert!(is_there, "target/bin/bill is missing: run `rt check bill`");
+    Command::new(PROGRAM)
+}
+
+/// What the program prints with these arguments.
+pub fn printed(arguments: &[impl AsRef<OsStr>]) -> Vec<u8> {
+    let output = program().args(arguments).stdin(Stdio::null()).output();
+    checked(output.expect("a program that can be run"))
+}
+
+/// The same with these bytes on its standard input, a few at a time.
+pub fn printed_from_pipe(arguments: &[&Path], bytes: &[u8]) -> Vec<u8> {
+    let mut running = program()
+        .args(arguments)
+        .stdin(Stdio::piped())
+        .stdout(Stdio::piped())
+        .stderr(Stdio::piped())
+        .spawn()
+        .expect("a program that can be run");
+    let mut pipe = running.stdin.take().expect("a pipe");
+    for few in bytes.chunks(11) {
+        pipe.write_all(few).expect("the program reads to the end");
+    }
+    drop(pipe);
+    checked(running.wait_with_output().expect("a program that ends"))
+}
+
+/// Its standard output; its status is 0 and it complains of nothing.
+fn checked(output: Output) -> Vec<u8> {
+    assert!(output.status.success(), "{output:?}");
+    assert!(output.stderr.is_empty(), "{output:?}");
+    output.stdout
+}
+
+pub fn text(bytes: Vec<u8>) -> String {
+    String::from_utf8(bytes).expect("a bill is text")
+}
+
+/// A temporary folder with the files of one test, since tests run at once.
+pub struct Folder(PathBuf);
+
+impl Folder {
+    /// `root` is the caller's CARGO_TARGET_TMPDIR.
+    pub fn new(root: &str, test: &str) -> Folder {
+        let path = Path::new(root).join(format!("bill-{test}"));
+        fs::create_dir_all(&path).expect("a folder for the test");
+        Folder(path)
+    }
+
+    pub fn path(&self) -> &Path {
+        &self.0
+    }
+
+    pub fn file(&self, name: &str, bytes: &[u8]) -> PathBuf {
+        let path = self.0.join(name);
+        fs::write(&path, bytes).expect("a file for the test");
+        path
+    }
+
+    pub fn missing(&self) -> PathBuf {
+        self.0.join("there is no such file")
+    }
+
+    /// What the program prints of files with these bytes.
+    pub fn printed(&self, roster: &[u8], stream: &[u8]) -> Vec<u8> {
+        printed(&[self.file("roster", roster), self.file("stream", stream)])
+    }
+
+    /// The bill, printed as the reference has it.
+    pub fn bill(&self, roster: &[u8], stream: &[u8]) -> String {
+        let expected = text(reference::bill(Some(roster), Some(stream)));
+        assert_eq!(text(self.printed(roster, stream)), expected);
+        expected
+    }
+}
