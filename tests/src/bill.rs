@@ -5,6 +5,8 @@ use std::fs;
 use std::io::Write;
 use std::path::{Path, PathBuf};
 use std::process::{Command, Output, Stdio};
+use std::thread;
+use std::time::Duration;
 
 /// What `rt check bill` writes.
 const PROGRAM: &str = concat!(env!("CARGO_MANIFEST_DIR"), "/../target/bin/bill");
@@ -31,8 +33,12 @@ pub fn printed_from_pipe(arguments: &[&Path], bytes: &[u8]) -> Vec<u8> {
         .spawn()
         .expect("a program that can be run");
     let mut pipe = running.stdin.take().expect("a pipe");
-    for few in bytes.chunks(11) {
+    for (place, few) in bytes.chunks(11).enumerate() {
         pipe.write_all(few).expect("the program reads to the end");
+        // Time for it to read so few.
+        if place < 3 {
+            thread::sleep(Duration::from_millis(50));
+        }
     }
     drop(pipe);
     checked(running.wait_with_output().expect("a program that ends"))

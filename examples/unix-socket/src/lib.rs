@@ -1,0 +1,18 @@
+//! An example, and no part of what is proved: the glue between the key service and a Unix socket.
+//! The service does no transport; document 01 leaves that to others, and they can begin from here.
+//!
+//! Many connections share one registry and one set of counters, behind a lock that each call holds
+//! for its own length ([`Service`]). A thread accepts ([`Server`]), and a thread for each connection
+//! reads, calls and writes ([`serve`]). Nothing is swallowed: what an error of the socket cost is
+//! said on standard error, and [`Totals`] adds up.
+
+mod ended;
+mod listener;
+mod peer;
+mod server;
+mod service;
+
+pub use ended::{Ended, Fault, Undelivered};
+pub use peer::serve;
+pub use server::{Server, StartError, Totals};
+pub use service::Service;

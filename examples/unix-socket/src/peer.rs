@@ -1,0 +1,120 @@
+//! One connection: bytes read from its peer, handed to the service, and responses written.
+
+use crate::{Ended, Fault, Service, Undelivered};
+use razidkot::{Answer, Connection, LEAST_RESPONSE_BUFFER};
+use std::io::{self, ErrorKind, Read, Write};
+use std::net::Shutdown;
+use std::os::unix::net::UnixStream;
+
+/// How many bytes are read at a time; a call takes up to 65,536.
+const CHUNK: usize = 8_192;
+
+/// Serves a peer until it ends or can't be read from.
+///
+/// A connection that the service closed (status 17) is read on: its later bytes are taken, dropped
+/// and counted until the peer ends it.
+pub fn serve(stream: &UnixStream, service: &Service) -> Ended {
+    let mut chunk = [0; CHUNK];
+    let mut peer = Peer {
+        stream,
+        service,
+        connection: Connection::open(),
+        response: [0; LEAST_RESPONSE_BUFFER],
+        ended: Ended::default(),
+    };
+    loop {
+        let taken = match read_some(stream, &mut chunk) {
+            Ok(0) => return peer.ended,
+            Ok(size) => peer.take(&chunk[..size]),
+            Err(error) => Err(Fault::Read(error)),
+        };
+        if let Err(fault) = taken {
+            peer.ended.fault = Some(fault);
+            return peer.ended;
+        }
+    }
+}
+
+/// What each connection has for itself; registry and counters are the service's.
+struct Peer<'a> {
+    stream: &'a UnixStream,
+    service: &'a Service,
+    connection: Connection,
+    response: [u8; LEAST_RESPONSE_BUFFER],
+    ended: Ended,
+}
+
+impl Peer<'_> {
+    /// Hands a chunk over, and what is left of it again, until all of it is taken. Every response
+    /// is written whole before the next call, which writes over it.
+    fn take(&mut self, chunk: &[u8]) -> Result<(), Fault> {
+        let mut rest = chunk;
+        while !rest.is_empty() {
+            let answer = self
+                .service
+                .call(&mut self.connection, rest, &mut self.response)
+                .map_err(|refusal| Fault::NotTaken {
+                    refusal,
+                    bytes: rest.len(),
+                })?;
+            self.count_unfinished(answer);
+            if answer.written > 0 {
+                self.deliver(answer.written);
+            }
+            rest = &rest[answer.taken..];
+        }
+        Ok(())
+    }
+
+    /// A response comes at the last byte of its request; on a closed connection there is none.
+    fn count_unfinished(&mut self, answer: Answer) {
+        if answer.written > 0 || self.connection.is_closed() {
+            self.ended.unfinished = 0;
+        } else {
+            self.ended.unfinished += answer.taken as u64;
+        }
+    }
+
+    /// Writes the response. Once one has failed, part of it may be out, and no other may follow;
+    /// requests are taken on, so that what is counted doesn't hang on when the peer left.
+    fn deliver(&mut self, written: usize) {
+        if let Some(undelivered) = &mut self.ended.undelivered {
+            undelivered.responses += 1;
+            undelivered.bytes += written as u64;
+            return;
+        }
+        if let Err((left, error)) = write_whole(self.stream, &self.response[..written]) {
+            self.ended.undelivered = Some(Undelivered {
+                error,
+                responses: 1,
+                bytes: left as u64,
+            });
+            // For a peer that still reads. To one that is gone it fails, and nothing more is lost.
+            let _ = self.stream.shutdown(Shutdown::Write);
+        }
+    }
+}
+
+/// The next bytes, one at least unless the peer has ended.
+fn read_some(mut stream: &UnixStream, chunk: &mut [u8]) -> io::Result<usize> {
+    loop {
+        match stream.read(chunk) {
+            Err(error) if error.kind() == ErrorKind::Interrupted => {}
+            other => return other,
+        }
+    }
+}
+
+/// Writes on where the socket took only a part. An error comes with how many bytes are left.
+fn write_whole(mut stream: &UnixStream, bytes: &[u8]) -> Result<(), (usize, io::Error)> {
+    let mut left = bytes;
+    while !left.is_empty() {
+        match stream.write(left) {
+            Ok(0) => return Err((left.len(), ErrorKind::WriteZero.into())),
+            Ok(count) => left = &left[count..],
+            Err(error) if error.kind() == ErrorKind::Interrupted => {}
+            Err(error) => return Err((left.len(), error)),
+        }
+    }
+    Ok(())
+}
