@@ -1,5 +1,6 @@
 //! The proved program `bill ROSTER STREAM`, run on files of a test.
 
+use crate::ask::{record, request, PING};
 use std::ffi::OsStr;
 use std::fs;
 use std::io::Write;
@@ -91,4 +92,19 @@ impl Folder {
         assert_eq!(text(self.printed(roster, stream)), expected);
         expected
     }
+}
+
+// ---- what the files have
+
+pub fn roster_of(names: &[Vec<u8>]) -> Vec<u8> {
+    names.iter().flat_map(|name| record(1, name)).collect()
+}
+
+/// The names a, b, .. as many as are asked for.
+pub fn letters(count: u8) -> Vec<Vec<u8>> {
+    (0..count).map(|number| vec![b'a' + number]).collect()
+}
+
+pub fn ping() -> Vec<u8> {
+    request(PING, None, &[])
 }

@@ -9,13 +9,14 @@ use std::io;
 pub struct Ended {
     /// Bytes taken of a request that the peer did not finish.
     pub unfinished: u64,
-    /// Responses that the peer did not take, if any.
+    /// Responses that could not be sent, if any.
     pub undelivered: Option<Undelivered>,
     /// Why it ended; none where the peer ended it.
     pub fault: Option<Fault>,
 }
 
-/// Responses to requests that were judged and counted, and that did not reach the peer whole.
+/// Responses to requests that were judged and counted, and that could not be sent whole. Whether a
+/// peer read what was sent, no server can tell.
 #[derive(Debug)]
 pub struct Undelivered {
     /// What the first of them failed with.

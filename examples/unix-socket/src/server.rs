@@ -26,7 +26,7 @@ pub struct Totals {
     pub counters: Counters,
     /// Bytes of requests that their peers did not finish.
     pub unfinished: u64,
-    /// Responses that their peers did not take.
+    /// Responses that could not be sent.
     pub undelivered: u64,
 }
 
@@ -62,7 +62,8 @@ impl Server {
     }
 
     /// Takes no more connections, ends those there are, and says what all have come to. What had
-    /// arrived before is still served.
+    /// arrived before is still served. An error, as where the socket's path is gone, may leave the
+    /// listener waiting.
     pub fn stop(self) -> io::Result<Totals> {
         self.socket.set_nonblocking(true)?;
         // The listener may be waiting; a connection wakes it, and behind the last one it would block.

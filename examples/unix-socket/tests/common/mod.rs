@@ -6,6 +6,7 @@
 use razidkot_tests::ask::{record, registry_of};
 use razidkot_tests::lent::to_reference;
 use reference::rules::{self, Outcome};
+use std::fs;
 use std::io::{Read, Write};
 use std::net::Shutdown;
 use std::os::unix::net::UnixStream;
@@ -37,6 +38,8 @@ pub fn start(test: &str) -> (Server, PathBuf) {
 
 pub fn start_with_patience(test: &str, patience: Duration) -> (Server, PathBuf) {
     let path = socket_path(test);
+    // One that a failed run left.
+    let _ = fs::remove_file(&path);
     let server = Server::start(&path, &roster(), patience).expect("a free path");
     (server, path)
 }
