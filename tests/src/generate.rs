@@ -200,72 +200,82 @@ pub fn place(random: &mut Random) -> Place {
 
 impl Damage {
     pub fn generate(random: &mut Random) -> Damage {
-        let line = random.below(LINES);
-        let place = place(random);
-        let length = random.pick(&[0, 1, 2, 31, 32, 33, 63, 64, 65, 128, 255]);
-        let name_byte = random.pick(&[0, 0x20, 0x21, b'~', 0x7F, 0x80, 0xFF]);
-        let flag = random.pick(&[0, 0, 1, 1, 2, 0x80, 0xFF]);
         match random.below(17) {
             0 | 1 => Damage::Byte {
                 at: random.below(REGISTRY_SIZE),
                 value: random.byte(),
             },
-            2 => Damage::ApplicationNameLength {
-                line,
-                value: length,
+            2..=5 => Damage::to_a_name(random),
+            6..=9 => Damage::to_a_key(random),
+            10..=13 => Damage::by_copying(random),
+            14 => Damage::ClearSlot {
+                place: place(random),
             },
-            3 => Damage::ApplicationNameByte {
-                line,
-                value: name_byte,
+            15 => Damage::ClearLine {
+                line: random.below(LINES),
             },
-            4 => Damage::KeyNameLength {
-                place,
-                value: length,
-            },
-            5 => Damage::KeyNameByte {
-                place,
-                value: name_byte,
-            },
-            6 => Damage::DataLength {
-                place,
-                value: random.pick(&[0, 1, 255, 256, 599, 600, 601, 0x200, 0xFFFF]),
-            },
-            7 => Damage::Bits {
-                place,
-                value: random.pick(&[
-                    0, 1_016, 1_023, 1_024, 1_028, 1_032, 2_048, 4_095, 4_096, 4_104, 0xFFFF,
-                ]),
-            },
-            8 => Damage::ExportAllowed { place, value: flag },
-            9 => Damage::VerifyAllowed { place, value: flag },
-            10 => Damage::CopyApplicationName {
-                from: random.below(LINES),
-                to: line,
-            },
-            11 => Damage::CopySlot {
-                from: Place {
-                    line: place.line,
-                    slot: random.below(SLOTS),
-                },
-                to: place,
-            },
-            12 => Damage::CopySlot {
-                from: Place {
-                    line,
-                    slot: random.below(SLOTS),
-                },
-                to: place,
-            },
-            13 => Damage::CopyLine {
-                from: random.below(LINES),
-                to: line,
-            },
-            14 => Damage::ClearSlot { place },
-            15 => Damage::ClearLine { line },
             _ => Damage::Resize {
                 size: random.pick(&[0, 1, 2_621, 20_967, 20_968, 20_969, 41_936]),
             },
         }
+    }
+
+    fn to_a_name(random: &mut Random) -> Damage {
+        let (line, place) = (random.below(LINES), place(random));
+        let length = random.pick(&[0, 1, 2, 31, 32, 33, 63, 64, 65, 128, 255]);
+        let byte = random.pick(&[0, 0x20, 0x21, b'~', 0x7F, 0x80, 0xFF]);
+        random.pick(&[
+            Damage::ApplicationNameLength {
+                line,
+                value: length,
+            },
+            Damage::ApplicationNameByte { line, value: byte },
+            Damage::KeyNameLength {
+                place,
+                value: length,
+            },
+            Damage::KeyNameByte { place, value: byte },
+        ])
+    }
+
+    fn to_a_key(random: &mut Random) -> Damage {
+        let place = place(random);
+        let length = random.pick(&[0, 1, 255, 256, 599, 600, 601, 0x200, 0xFFFF]);
+        let bits = random.pick(&[
+            0, 1_016, 1_023, 1_024, 1_028, 1_032, 2_048, 4_095, 4_096, 4_104, 0xFFFF,
+        ]);
+        let flag = random.pick(&[0, 0, 1, 1, 2, 0x80, 0xFF]);
+        random.pick(&[
+            Damage::DataLength {
+                place,
+                value: length,
+            },
+            Damage::Bits { place, value: bits },
+            Damage::ExportAllowed { place, value: flag },
+            Damage::VerifyAllowed { place, value: flag },
+        ])
+    }
+
+    fn by_copying(random: &mut Random) -> Damage {
+        let (from, to) = (random.below(LINES), random.below(LINES));
+        let (slot, there) = (random.below(SLOTS), place(random));
+        let near = Place {
+            line: there.line,
+            slot,
+        };
+        let far = Place { line: from, slot };
+        random.pick(&[
+            Damage::CopyApplicationName { from, to },
+            Damage::CopySlot {
+                from: near,
+                to: there,
+            },
+            Damage::CopySlot {
+                from: far,
+                to: there,
+            },
+            Damage::CopyLine { from, to },
+        ])
     }
 
     /// A registry of another size is only changed where it still has the bytes.
@@ -359,6 +369,21 @@ fn some_varint(random: &mut Random, value: u64) -> Vec<u8> {
     shortest
 }
 
+/// Field numbers around the bounds: 0, the listed ones, and the largest that a tag can hold.
+const UNLISTED: [u64; 11] = [
+    0,
+    1,
+    2,
+    3,
+    4,
+    5,
+    6,
+    16,
+    0x1FFF_FFFF,
+    0x2000_0000,
+    0x2000_0001,
+];
+
 /// One field, listed or not, of any wire type; whole more often than not.
 fn field(random: &mut Random, kinds: &[u64]) -> Vec<u8> {
     let listed = !kinds.is_empty() && !random.once_in(12);
@@ -366,20 +391,7 @@ fn field(random: &mut Random, kinds: &[u64]) -> Vec<u8> {
         let place = random.below(kinds.len());
         (place as u64 + 1, kinds[place])
     } else {
-        let number = random.pick(&[
-            0,
-            1,
-            2,
-            3,
-            4,
-            5,
-            6,
-            16,
-            0x1FFF_FFFF,
-            0x2000_0000,
-            0x2000_0001,
-        ]);
-        (number, random.below(8) as u64)
+        (random.pick(&UNLISTED), random.below(8) as u64)
     };
     let tag = some_varint(random, number << 3 | wire);
     let content = match wire {

@@ -129,27 +129,28 @@ fn an_import_has_the_last_of_each_of_its_five_fields() {
     assert!(allowed.get() > 500, "{allowed:?}");
 }
 
-#[test]
-fn destroy_and_export_have_a_name() {
-    const NAMES: [&[u8]; 2] = [b"k", &[b'k'; 32]];
-    let mut registry = registry_of(&[APPLICATION.to_vec()]);
-    for (name, data) in NAMES.into_iter().zip([b"first", b"other"]) {
+/// The application's registry with a key of each of these names.
+fn registry_with(names: &[&[u8]]) -> Vec<u8> {
+    let empty = registry_of(&[APPLICATION.to_vec()]);
+    names.iter().fold(empty, |registry, name| {
         let key = Key {
             name: name.to_vec(),
-            data: data.to_vec(),
+            data: b"data".to_vec(),
             bits: 2_048,
             export_allowed: true,
             verify_allowed: true,
         };
-        registry = ask(
-            &registry,
-            ask::IMPORT,
-            Some(APPLICATION),
-            &import_body(&key),
-        )
-        .outcome
-        .registry;
-    }
+        let body = import_body(&key);
+        ask(&registry, ask::IMPORT, Some(APPLICATION), &body)
+            .outcome
+            .registry
+    })
+}
+
+#[test]
+fn destroy_and_export_have_a_name() {
+    const NAMES: [&[u8]; 2] = [b"k", &[b'k'; 32]];
+    let registry = registry_with(&NAMES);
     let found = std::cell::Cell::new(0);
     let agrees = |body: &[u8]| {
         let expected = match foreign::read_body(body, Schema::Name) {
