@@ -1,0 +1,74 @@
+// A captured stream run through the call, in chunks.
+use crate::files::Input;
+use crate::files::TURNS;
+use crate::files::read_some;
+use service::Counters;
+use service::call::call_by_value;
+use service::call::counters_of;
+
+// A stream that was read: the counters after it, and whether it could be read to its end.
+pub struct Taken {
+    pub counters: Counters,
+    pub is_whole: bool,
+}
+
+// Hands a chunk over, and what is left of it again, until all of it is taken.
+fn feed(
+    chunk: &[u8],
+    connection: &mut [u8],
+    registry: &mut [u8],
+    counters: Counters,
+    response: &mut [u8],
+) -> Counters {
+    let mut after = counters;
+    let mut at = 0;
+    while at < chunk.len() {
+        let o = call_by_value(&chunk[at..], connection, registry, after, response);
+        at += o.taken;
+        after = counters_of(o);
+    }
+    after
+}
+
+fn zero_counters() -> Counters {
+    Counters {
+        taken: 0,
+        answered: 0,
+        dropped: 0,
+        served: [0; 8],
+        unauthenticated: 0,
+        refused: [0; 17],
+    }
+}
+
+// Runs a stream through the call, from a fresh connection and zero counters.
+pub fn take_stream(fd: i32, connection: &mut [u8], registry: &mut [u8]) -> Taken {
+    let mut chunk = io::large_buffer();
+    let mut response = [0u8; 1024];
+    let mut counters = zero_counters();
+    let mut turns = TURNS;
+    while 0 < turns {
+        match read_some(fd, &mut chunk) {
+            Input::Bytes(n) => {
+                counters = feed(&chunk[..n], connection, registry, counters, &mut response);
+            }
+            Input::End => {
+                return Taken {
+                    counters,
+                    is_whole: true,
+                };
+            }
+            Input::Failed => {
+                return Taken {
+                    counters,
+                    is_whole: false,
+                };
+            }
+        }
+        turns -= 1;
+    }
+    Taken {
+        counters,
+        is_whole: false,
+    }
+}

@@ -1,0 +1,71 @@
+// Files read in constant memory. A file that can't be opened or read to its end is unreadable.
+use registry::LINES;
+
+// Room for all of a roster file that decides whether it is good, and how: at most eight good records of 3 + 64 bytes,
+// and then a ninth record, which is faulty and has at most 3 + 65,535 bytes.
+pub const ROSTER_MOST: usize = LINES * 67 + 65538;
+
+// What reading once gives.
+pub enum Input {
+    Bytes(usize),
+    End,
+    Failed,
+}
+
+// A number that no run counts down: nothing says that a file ends, and a proved loop has to. So many chunks have
+// 2^62 bytes at most, above which a call is refused.
+pub const TURNS: u64 = 70368744177664;
+
+// Opens the file that an argument names; below 0 where it can't be.
+pub fn open_argument(number: usize) -> i32 {
+    let mut path = io::buffer();
+    let size = os::arg(number, &mut path);
+    if os::errno() != 0 {
+        return -1;
+    }
+    os::open_read(&path[..size])
+}
+
+// Reads once. No signal is handled here, so that no read is interrupted.
+pub fn read_some(fd: i32, buffer: &mut [u8]) -> Input {
+    let got = libc::read(fd, buffer);
+    if got < 0 {
+        return Input::Failed;
+    }
+    let size = io::count(got, buffer);
+    if size == 0 {
+        return Input::End;
+    }
+    Input::Bytes(size)
+}
+
+// Reads what is left of a file, and says whether it could be read to its end.
+pub fn read_rest(fd: i32) -> bool {
+    let mut buffer = io::buffer();
+    let mut turns = TURNS;
+    while 0 < turns {
+        match read_some(fd, &mut buffer) {
+            Input::Bytes(_) => {}
+            Input::End => return true,
+            Input::Failed => return false,
+        }
+        turns -= 1;
+    }
+    false
+}
+
+// Reads a file to its end, and keeps as many of its first bytes as there is room for.
+pub fn read_front(fd: i32, front: &mut [u8]) -> Input {
+    let mut size = 0;
+    while size < front.len() {
+        match read_some(fd, &mut front[size..]) {
+            Input::Bytes(more) => size += more,
+            Input::End => return Input::Bytes(size),
+            Input::Failed => return Input::Failed,
+        }
+    }
+    if read_rest(fd) {
+        return Input::Bytes(size);
+    }
+    Input::Failed
+}

@@ -1,0 +1,94 @@
+// What is printed: the bill, or the one line that stands for it.
+use crate::feed::take_stream;
+use crate::files::Input;
+use crate::files::ROSTER_MOST;
+use crate::files::read_front;
+use crate::files::read_rest;
+use billing::Billed;
+use billing::text::write_decimal;
+use billing::text::write_word;
+use billing::whole::write_bill;
+use connection::CONNECTION_SIZE;
+use connection::change::open_connection;
+use registry::REGISTRY_SIZE;
+use registry::RosterFault;
+use registry::roster::Loaded;
+use registry::roster::load_roster;
+
+// What becomes of a roster file.
+enum Source {
+    Good,
+    Faulty(RosterFault),
+    Unreadable,
+}
+
+fn write_no_file(out: &mut [u8]) -> usize {
+    write_word(out, 0, b"no file\n")
+}
+
+fn fault_number(fault: RosterFault) -> u64 {
+    match fault {
+        RosterFault::WrongMemorySize => 0,
+        RosterFault::CutRecord => 1,
+        RosterFault::UnknownTag => 2,
+        RosterFault::BadName => 3,
+        RosterFault::NinthName => 4,
+        RosterFault::RepeatedName => 5,
+    }
+}
+
+// The line of a refused roster, as `roster R3`.
+fn write_refused(out: &mut [u8], fault: RosterFault) -> usize {
+    let named = write_word(out, 0, b"roster R");
+    let numbered = write_decimal(out, named, fault_number(fault));
+    write_word(out, numbered, b"\n")
+}
+
+// Reads a roster file into memory lent for the registry.
+fn read_roster(fd: i32, registry: &mut [u8]) -> Source {
+    let mut front = [0u8; ROSTER_MOST];
+    let Input::Bytes(size) = read_front(fd, &mut front) else {
+        return Source::Unreadable;
+    };
+    match load_roster(&front[..size], registry) {
+        Loaded::Good => Source::Good,
+        Loaded::Faulty(fault) => Source::Faulty(fault),
+    }
+}
+
+// The bill of a stream that meets this registry.
+fn write_stream(out: &mut [u8], registry: &mut [u8], stream: i32) -> usize {
+    let mut connection = [0u8; CONNECTION_SIZE];
+    open_connection(&mut connection);
+    let taken = take_stream(stream, &mut connection, registry);
+    if !taken.is_whole {
+        return write_no_file(out);
+    }
+    let counters = taken.counters;
+    match write_bill(out, counters, registry, &connection) {
+        Billed::Written(size) => size,
+        _ => 0,
+    }
+}
+
+// The text for two files; one that isn't open, below 0, is unreadable. Either file unreadable comes before a faulty roster,
+// so that the stream is read to its end even then.
+pub fn write_text(out: &mut [u8], roster: i32, stream: i32) -> usize {
+    if roster < 0 {
+        return write_no_file(out);
+    }
+    if stream < 0 {
+        return write_no_file(out);
+    }
+    let mut registry = [0u8; REGISTRY_SIZE];
+    match read_roster(roster, &mut registry) {
+        Source::Unreadable => write_no_file(out),
+        Source::Faulty(fault) => {
+            if !read_rest(stream) {
+                return write_no_file(out);
+            }
+            write_refused(out, fault)
+        }
+        Source::Good => write_stream(out, &mut registry, stream),
+    }
+}
