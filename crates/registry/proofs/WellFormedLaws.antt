@@ -247,6 +247,9 @@ module _ (r : List ℕ) (g : Good r) (l : ℕ) (hl : l < lineCount) where
           };
         }
 
+    kept-after : Good (put r (place l k) v) × (namesIn (put r (place l k) v) ≡ namesIn r)
+    kept-after = (good-after, names-after)
+
 -- ---- the changes that operations make
 
 -- of these slots: none; a legal key under a name that none has, into the first free one; a named one cleared
@@ -269,17 +272,26 @@ module _ (r : List ℕ) (w : wellFormedRegistry r ≡ true) (line : Line) (a : U
   below : (name : List ℕ) (slot : Slot) → slotNamed name (slotsOf r line) ≡ At slot → slot .0 < slotCount
   below name slot e = omega (arith, found-below name (slotsOf r line) slot e, length-slots r line)
 
-  pub change-good : (c : Change) → Allowed (slotsOf r line) c → wellFormedRegistry (changed r line c) ≡ true
+  change-kept : (c : Change) → Allowed (slotsOf r line) c → (wellFormedRegistry (changed r line c) ≡ true) × (namesIn (changed r line c) ≡ namesIn r)
   unfolding changed names slotBytes
-  change-good unchanged stays = w
-  change-good (fill slot key) (fills legal n e) =
+  change-kept unchanged stays = (w, refl)
+  change-kept (fill slot key) (fills legal n e) =
       let missing = absent-name (key .name) n in
       let name : nameIn (keyBytes key) ≡ key .name = key-name key legal in
-      well-of _ (good-after r (good-of r w) (line .0) (a .there) (a .used) (slot .0) (below [] slot e) (keyBytes key) (key-length key legal) (key-good key legal)
+      let (good, same) = kept-after r (good-of r w) (line .0) (a .there) (a .used) (slot .0) (below [] slot e) (keyBytes key) (key-length key legal) (key-good key legal)
       (ap (λ (x : List ℕ). lone x names) name ∙ lone-absent (key .name) names missing)
-      (subst (λ (x : List ℕ). Apart x names) (sym name) (apart-absent (key .name) names missing)))
-  change-good (clear slot) (clears name e) =
-      well-of _ (good-after r (good-of r w) (line .0) (a .there) (a .used) (slot .0) (below name slot e) (slotBytes free) refl free-good refl (apart-empty names))
+      (subst (λ (x : List ℕ). Apart x names) (sym name) (apart-absent (key .name) names missing)) in
+      (well-of _ good, same)
+  change-kept (clear slot) (clears name e) =
+      let (good, same) = kept-after r (good-of r w) (line .0) (a .there) (a .used) (slot .0) (below name slot e) (slotBytes free) refl free-good refl (apart-empty names) in
+      (well-of _ good, same)
+
+  pub change-good : (c : Change) → Allowed (slotsOf r line) c → wellFormedRegistry (changed r line c) ≡ true
+  change-good c ok = change-kept c ok .0
+
+  -- no operation changes the applications' names
+  pub change-names : (c : Change) → Allowed (slotsOf r line) c → namesIn (changed r line c) ≡ namesIn r
+  change-names c ok = change-kept c ok .1
 
 -- ---- what a well-formed registry holds
 

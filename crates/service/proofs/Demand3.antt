@@ -23,13 +23,13 @@ use Rattle.service.proofs.JudgementLaws.{keeps}
 
 -- ---- memory
 
-lawful : Lawful layout
+pub lawful : Lawful layout
 unfolding Lawful layout stateIn memoryOf totalsOf countersOf
 lawful s w = λ i. record { connection = load-store (s .connection) w i; registry = s .registry; totals = s .totals }
 
 -- ---- what the rules keep is refused for the buffer or the chunk alone
 
-accepts : (registry : List ℕ) → wellFormedRegistry registry ≡ true → (seen : List ℕ) (call : Call)
+pub accepts : (registry : List ℕ) → wellFormedRegistry registry ≡ true → (seen : List ℕ) (call : Call)
     → length seen ≤ counterMost → length (call .chunk) ≤ chunkMost → bufferLeast ≤ length (call .buffer)
     → refusalOf (memoryOf (rules judgement registry seen .state)) call ≡ none
 unfolding refusalOf refusalTests codeOf firstOf memoryOf countersOf

@@ -46,7 +46,7 @@ importable-legal key e =
     let tests : List Bool = legalName keyNameMost (key .name) ∷ legalData (key .bytes) ∷ legalBits (key .bits) ∷ [] in
     record { name = every-at tests 0 e; bytes = every-at tests 1 e; bits = every-at tests 2 e }
 
-result-allowed : (r : List ℕ) (q : Request) → Allowed (askersSlots r (applicationOf r q)) (resultOf r q .change)
+pub result-allowed : (r : List ℕ) (q : Request) → Allowed (askersSlots r (applicationOf r q)) (resultOf r q .change)
 unfolding refuse success
 result-allowed r q = by-result r q (λ x. Allowed (askersSlots r (applicationOf r q)) (x .change)) (record {
   refused = λ status. stays;

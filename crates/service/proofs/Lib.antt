@@ -14,3 +14,4 @@ pub mod OutputLaws
 pub mod ServeLaws
 pub mod CalledLaws
 pub mod CodeDemand3
+pub mod BillLaws

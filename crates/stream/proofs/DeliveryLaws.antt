@@ -57,7 +57,7 @@ took-code n (some r) call = refl
 
 module _ {Reg Count Out : Type 0} (J : Judgement Reg Count Out) where
   -- a call on a chunk with a byte takes a byte
-  call-takes : (s : State Reg Count) (b : ℕ) (chunk : List ℕ) → 0 < callRule J s (b ∷ chunk) .taken
+  pub call-takes : (s : State Reg Count) (b : ℕ) (chunk : List ℕ) → 0 < callRule J s (b ∷ chunk) .taken
   call-takes s b chunk = go (byteRule J s b .response) refl
     where
       go : (o : Option Out) → byteRule J s b .response ≡ o → 0 < callRule J s (b ∷ chunk) .taken
