@@ -2,3 +2,4 @@ pub mod PlacedLaws
 pub mod DecimalLaws
 pub mod LineLaws
 pub mod HeldLaws
+pub mod RulesLaws

@@ -1,0 +1,56 @@
+-- THE BILL BY THE RULES: the text that write_bill's definition gives for the memory that calls leave is that of document 01's
+-- bill for the roster and the joined stream of taken bytes.
+use mathlib.Core.Path.{_≡_, refl, ap, ap₂, _∙_}
+use mathlib.Core.Bool.{true}
+use mathlib.Core.List.{List, [], _∷_, _++_}
+use Prim.Native.Nat.{ℕ, zero, suc, _-_, _<_}
+use native.Mathlib.Omega.{arith}
+use lib.ListN.{length, replicate}
+use Rattle.wire.specs.Lists.{all}
+use Rattle.wire.proofs.TestLaws.{and-left, and-right}
+use Rattle.stream.specs.Rules.{State, rules}
+use Rattle.stream.specs.Calls.{Call, takenStream}
+use Rattle.stream.proofs.KeptLaws.{rules-connection}
+use Rattle.stream.proofs.CallsLaws.{Lawful}
+use Rattle.registry.specs.Registry.{lineCount, applicationNameMost, namesIn, registryOf}
+use Rattle.registry.specs.Roster.{applications, rosterOf}
+use Rattle.registry.proofs.NameLaws.{legal-some}
+use Rattle.registry.proofs.RosterLaws.{isLegal, LegalNames, roster-legal, registry-names, registry-good}
+use Rattle.service.specs.Judgement.{judgement}
+use Rattle.service.specs.Call.{Memory, stateIn, memoryOf, layout, fresh}
+use Rattle.service.specs.Bill.{billOf, billFor}
+use Rattle.service.proofs.Demand3.{FollowsRules, lawful}
+use Rattle.service.proofs.CodeDemand3.{Ran, Runs, answersIn, leftAfter, code-demand3}
+use Rattle.service.proofs.BillLaws.{rules-names}
+use Rattle.billing.specs.Text.{usedNames}
+use Rattle.billing.specs.Outcome.{billIn}
+
+used-first : (names : List (List ℕ)) (k : ℕ) → all isLegal names ≡ true → usedNames (names ++ replicate k []) ≡ names
+unfolding usedNames
+used-first [] zero e = refl
+used-first [] (suc k) e = refl
+used-first ([] ∷ names) k e = let some = legal-some applicationNameMost [] (and-left (isLegal []) _ e) in absurd (omega arith)
+used-first ((b ∷ name) ∷ names) k e = ap (λ (l : List (List ℕ)). (b ∷ name) ∷ l) (used-first names k (and-right (isLegal (b ∷ name)) _ e))
+
+module _ (names : List (List ℕ)) (legal : LegalNames names) where
+  -- the used lines are the roster's
+  registry-used : usedNames (namesIn (registryOf names)) ≡ names
+  registry-used = ap usedNames (registry-names names legal) ∙ used-first names (lineCount - length names) (legal .legal)
+
+  -- the bill of what the rules leave in memory
+  pub bill-by-rules : (stream : List ℕ) → billIn (memoryOf (rules judgement (registryOf names) stream .state)) ≡ billFor (applications names) stream
+  unfolding billIn billFor Lawful layout memoryOf
+  bill-by-rules stream =
+      ap₂ billOf
+      (ap usedNames (rules-names (registryOf names) (registry-good names legal) stream) ∙ registry-used)
+      (lawful (rules judgement (registryOf names) stream .state) (rules-connection judgement (registryOf names) stream))
+
+-- any calls of the code, from a fresh connection, zero counters and the registry of a good roster file
+pub bill-of-calls : (file : List ℕ) (names : List (List ℕ)) → rosterOf file ≡ applications names
+    → (calls : List Call) (runs : List Ran) → Runs (fresh (registryOf names)) calls runs
+    → billIn (leftAfter (fresh (registryOf names)) runs) ≡ billFor (rosterOf file) (takenStream calls (answersIn runs))
+bill-of-calls file names good calls runs p =
+    let legal = roster-legal file names good in
+    let stream : List ℕ = takenStream calls (answersIn runs) in
+    let follows = code-demand3 (registryOf names) (registry-good names legal) .follows calls runs p in
+    rw good (ap billIn (follows .memory) ∙ bill-by-rules names legal stream)
