@@ -2,9 +2,19 @@
 use crate::files::Input;
 use crate::files::TURNS;
 use crate::files::read_some;
+use connection::change::open_connection;
 use service::Counters;
 use service::call::call_by_value;
 use service::call::counters_of;
+ghost use mathlib.Core.Bool.{true};
+ghost use mathlib.Core.Path.{_≡_};
+ghost use Prim.Native.Nat.{_≤_};
+ghost use lib.ListN.{length};
+ghost use Rattle.connection.specs.Connection.{connectionSize};
+ghost use Rattle.registry.specs.WellFormed.{wellFormedRegistry};
+ghost use Rattle.service.specs.Call.{bufferLeast, chunkMost, counterMost};
+ghost use Rattle.service.specs.Called.{lentMemory};
+ghost use Rattle.bill.specs.Stream.{zeroCounters, Follows, Takes, After};
 
 // A stream that was read: the counters after it, and whether it could be read to its end.
 pub struct Taken {
@@ -19,7 +29,10 @@ fn feed(
     registry: &mut [u8],
     counters: Counters,
     response: &mut [u8],
-) -> Counters {
+) -> Counters
+    requires { ⌜ (length (now chunk) ≤ chunkMost) × (bufferLeast ≤ length (now response)) × Follows (length (now chunk)) (lentMemory (now connection) (now registry) counters) ⌝ }
+    ensures { λ r. ⌜ Takes (now (chunk .entry)) (lentMemory (now (connection .entry)) (now (registry .entry)) counters) (lentMemory (now (connection .exit)) (now (registry .exit)) r) ⌝ }
+{
     let mut after = counters;
     let mut at = 0;
     while at < chunk.len() {
@@ -30,7 +43,9 @@ fn feed(
     after
 }
 
-fn zero_counters() -> Counters {
+fn zero_counters() -> Counters
+    ensures { λ r. ⌜ r ≡ zeroCounters ⌝ }
+{
     Counters {
         taken: 0,
         answered: 0,
@@ -42,9 +57,13 @@ fn zero_counters() -> Counters {
 }
 
 // Runs a stream through the call, from a fresh connection and zero counters.
-pub fn take_stream(fd: i32, connection: &mut [u8], registry: &mut [u8]) -> Taken {
+pub fn take_stream(fd: i32, connection: &mut [u8], registry: &mut [u8]) -> Taken
+    requires { ⌜ (length (now connection) ≡ connectionSize) × (wellFormedRegistry (now registry) ≡ true) ⌝ }
+    ensures { λ r. ⌜ After (now (registry .entry)) counterMost (lentMemory (now (connection .exit)) (now (registry .exit)) (r .counters)) ⌝ }
+{
+    open_connection(connection);
     let mut chunk = io::large_buffer();
-    let mut response = [0u8; 1024];
+    let mut response = io::buffer();
     let mut counters = zero_counters();
     let mut turns = TURNS;
     while 0 < turns {

@@ -1,9 +1,6 @@
 // Files read in constant memory. A file that can't be opened or read to its end is unreadable.
-use registry::LINES;
-
-// Room for all of a roster file that decides whether it is good, and how: at most eight good records of 3 + 64 bytes,
-// and then a ninth record, which is faulty and has at most 3 + 65,535 bytes.
-pub const ROSTER_MOST: usize = LINES * 67 + 65538;
+ghost use lib.ListN.{length};
+ghost use Rattle.bill.specs.Stream.{ReadWithin, KeptWithin};
 
 // What reading once gives.
 pub enum Input {
@@ -27,7 +24,9 @@ pub fn open_argument(number: usize) -> i32 {
 }
 
 // Reads once. No signal is handled here, so that no read is interrupted.
-pub fn read_some(fd: i32, buffer: &mut [u8]) -> Input {
+pub fn read_some(fd: i32, buffer: &mut [u8]) -> Input
+    ensures { λ r. ⌜ ReadWithin (length (now (buffer .entry))) r ⌝ }
+{
     let got = libc::read(fd, buffer);
     if got < 0 {
         return Input::Failed;
@@ -55,7 +54,9 @@ pub fn read_rest(fd: i32) -> bool {
 }
 
 // Reads a file to its end, and keeps as many of its first bytes as there is room for.
-pub fn read_front(fd: i32, front: &mut [u8]) -> Input {
+pub fn read_front(fd: i32, front: &mut [u8]) -> Input
+    ensures { λ r. ⌜ KeptWithin (length (now (front .entry))) r ⌝ }
+{
     let mut size = 0;
     while size < front.len() {
         match read_some(fd, &mut front[size..]) {

@@ -1,19 +1,26 @@
 // What is printed: the bill, or the one line that stands for it.
 use crate::feed::take_stream;
 use crate::files::Input;
-use crate::files::ROSTER_MOST;
 use crate::files::read_front;
 use crate::files::read_rest;
+use crate::memory::connection_memory;
+use crate::memory::registry_memory;
+use crate::memory::roster_front;
 use billing::Billed;
 use billing::text::write_decimal;
 use billing::text::write_word;
 use billing::whole::write_bill;
-use connection::CONNECTION_SIZE;
-use connection::change::open_connection;
-use registry::REGISTRY_SIZE;
 use registry::RosterFault;
 use registry::roster::Loaded;
 use registry::roster::load_roster;
+ghost use mathlib.Core.Path.{_≡_};
+ghost use Prim.Native.Nat.{_≤_};
+ghost use lib.ListN.{length};
+ghost use Rattle.wire.specs.Wrote.{Wrote};
+ghost use Rattle.registry.specs.Registry.{registrySize};
+ghost use Rattle.registry.specs.Roster.{faultNumber};
+ghost use Rattle.billing.specs.Outcome.{billMost};
+ghost use Rattle.bill.specs.Printed.{noFile, refusedRoster, Started, SourceOf, Prints};
 
 // What becomes of a roster file.
 enum Source {
@@ -22,11 +29,16 @@ enum Source {
     Unreadable,
 }
 
-fn write_no_file(out: &mut [u8]) -> usize {
+fn write_no_file(out: &mut [u8]) -> usize
+    requires { ⌜ billMost ≤ length (now out) ⌝ }
+    ensures { λ r. ⌜ Prints (now (out .exit)) r ⌝ }
+{
     write_word(out, 0, b"no file\n")
 }
 
-fn fault_number(fault: RosterFault) -> u64 {
+fn fault_number(fault: RosterFault) -> u64
+    ensures { λ r. ⌜ r ≡ faultNumber fault ⌝ }
+{
     match fault {
         RosterFault::WrongMemorySize => 0,
         RosterFault::CutRecord => 1,
@@ -38,15 +50,21 @@ fn fault_number(fault: RosterFault) -> u64 {
 }
 
 // The line of a refused roster, as `roster R3`.
-fn write_refused(out: &mut [u8], fault: RosterFault) -> usize {
+fn write_refused(out: &mut [u8], fault: RosterFault) -> usize
+    requires { ⌜ billMost ≤ length (now out) ⌝ }
+    ensures { λ r. ⌜ Wrote (refusedRoster fault) (now (out .entry)) (now (out .exit)) r × (r ≤ billMost) ⌝ }
+{
     let named = write_word(out, 0, b"roster R");
     let numbered = write_decimal(out, named, fault_number(fault));
     write_word(out, numbered, b"\n")
 }
 
 // Reads a roster file into memory lent for the registry.
-fn read_roster(fd: i32, registry: &mut [u8]) -> Source {
-    let mut front = [0u8; ROSTER_MOST];
+fn read_roster(fd: i32, registry: &mut [u8]) -> Source
+    requires { ⌜ length (now registry) ≡ registrySize ⌝ }
+    ensures { λ r. ⌜ SourceOf (now (registry .exit)) r ⌝ }
+{
+    let mut front = roster_front();
     let Input::Bytes(size) = read_front(fd, &mut front) else {
         return Source::Unreadable;
     };
@@ -57,9 +75,11 @@ fn read_roster(fd: i32, registry: &mut [u8]) -> Source {
 }
 
 // The bill of a stream that meets this registry.
-fn write_stream(out: &mut [u8], registry: &mut [u8], stream: i32) -> usize {
-    let mut connection = [0u8; CONNECTION_SIZE];
-    open_connection(&mut connection);
+fn write_stream(out: &mut [u8], registry: &mut [u8], stream: i32) -> usize
+    requires { ⌜ (billMost ≤ length (now out)) × Started (now registry) ⌝ }
+    ensures { λ r. ⌜ Prints (now (out .exit)) r ⌝ }
+{
+    let mut connection = connection_memory();
     let taken = take_stream(stream, &mut connection, registry);
     if !taken.is_whole {
         return write_no_file(out);
@@ -73,14 +93,17 @@ fn write_stream(out: &mut [u8], registry: &mut [u8], stream: i32) -> usize {
 
 // The text for two files; one that isn't open, below 0, is unreadable. Either file unreadable comes before a faulty roster,
 // so that the stream is read to its end even then.
-pub fn write_text(out: &mut [u8], roster: i32, stream: i32) -> usize {
+pub fn write_text(out: &mut [u8], roster: i32, stream: i32) -> usize
+    requires { ⌜ billMost ≤ length (now out) ⌝ }
+    ensures { λ r. ⌜ Prints (now (out .exit)) r ⌝ }
+{
     if roster < 0 {
         return write_no_file(out);
     }
     if stream < 0 {
         return write_no_file(out);
     }
-    let mut registry = [0u8; REGISTRY_SIZE];
+    let mut registry = registry_memory();
     match read_roster(roster, &mut registry) {
         Source::Unreadable => write_no_file(out),
         Source::Faulty(fault) => {

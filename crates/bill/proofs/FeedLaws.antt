@@ -1,0 +1,112 @@
+-- A chunk handed over until it is taken whole leaves in memory what the rules leave, and so does a stream read chunk by chunk.
+use mathlib.Core.Path.{_≡_, refl, sym, ap, _∙_, subst}
+use mathlib.Core.Bool.{true}
+use mathlib.Core.List.{List, [], _∷_, _++_, append-assoc, append-nil}
+use Prim.Native.Nat.{ℕ, _+_, _-_, _*_, _≤_, _<_, min}
+use native.Mathlib.Omega.{arith}
+use lib.ListN.{length, take, drop, length-append, length-take, length-drop}
+use lib.Seq.{take-add, take-all}
+use Rattle.stream.specs.Rules.{rules}
+use Rattle.stream.specs.Call.{callRule}
+use Rattle.stream.specs.Calls.{Call, CallOutcome, took}
+use Rattle.stream.proofs.CallLaws.{call-facts}
+use Rattle.stream.proofs.CallsLaws.{took-taken, call-took}
+use Rattle.stream.proofs.DeliveryLaws.{call-takes}
+use Rattle.registry.specs.WellFormed.{wellFormedRegistry}
+use Rattle.service.specs.Judgement.{judgement}
+use Rattle.service.specs.Call.{Memory, memoryOf, layout, bufferLeast, chunkMost, counterMost, refusalOf, callOutcome}
+use Rattle.service.specs.Called.{callWith}
+use Rattle.service.proofs.Demand3.{lawful, accepts}
+use Rattle.bill.specs.Stream.{leftBy, Follows, Takes, After}
+
+-- ---- one call
+
+-- n bytes of a chunk were taken, one at least
+pub record Handed (registry seen chunk : List ℕ) (n : ℕ) (m : Memory) : Type 0 where
+  pub some : 1 ≤ n
+  pub fits : n ≤ length chunk
+  pub memory : m ≡ leftBy registry (seen ++ take n chunk)
+
+takes-some : (registry seen chunk : List ℕ) → 1 ≤ length chunk → 1 ≤ callRule judgement (rules judgement registry seen .state) chunk .taken
+takes-some registry seen [] h = absurd (omega arith)
+takes-some registry seen (b ∷ chunk) h = call-takes judgement (rules judgement registry seen .state) b chunk
+
+module _ (registry seen : List ℕ) (good : wellFormedRegistry registry ≡ true) (short : length seen ≤ counterMost) (chunk buffer : List ℕ)
+    (some : 1 ≤ length chunk) (few : length chunk ≤ chunkMost) (room : bufferLeast ≤ length buffer) where
+  abbrev n : ℕ
+  n = callRule judgement (rules judgement registry seen .state) chunk .taken
+
+  abbrev call : Call
+  call = callWith chunk buffer
+
+  call-leaves : callOutcome (leftBy registry seen) call
+      ≡ record { answer = took n (callRule judgement (rules judgement registry seen .state) chunk .response) call; memory = leftBy registry (seen ++ take n chunk) }
+  unfolding callOutcome layout
+  call-leaves = call-took judgement layout lawful refusalOf registry seen call (accepts registry good seen call short few room)
+
+  call-hands : (o : CallOutcome Memory) → o ≡ callOutcome (leftBy registry seen) call → Handed registry seen chunk (o .answer .taken) (o .memory)
+  call-hands o e =
+      let all = e ∙ call-leaves in
+      let taken : o .answer .taken ≡ n
+      = ap (λ (x : CallOutcome Memory). x .answer .taken) all ∙ took-taken n (callRule judgement (rules judgement registry seen .state) chunk .response) call in
+      record {
+        some = omega (arith, taken, takes-some registry seen chunk some);
+        fits = omega (arith, taken, call-facts judgement registry seen chunk .fits);
+        memory = ap (λ (x : CallOutcome Memory). x .memory) all ∙ ap (λ (k : ℕ). leftBy registry (seen ++ take k chunk)) (sym taken);
+      }
+
+-- ---- what is left of a chunk handed over again
+
+pub takes-none : (chunk : List ℕ) (m : Memory) → Takes (take 0 chunk) m m
+unfolding Takes
+takes-none chunk m registry stream good short e = e ∙ ap (leftBy registry) (sym (append-nil stream))
+
+pub takes-all : (chunk : List ℕ) (at : ℕ) (before after : Memory) → length chunk ≤ at → Takes (take at chunk) before after → Takes chunk before after
+takes-all chunk at before after h t = subst (λ (x : List ℕ). Takes x before after) (take-all at chunk h) t
+
+module _ (chunk : List ℕ) (at : ℕ) (before after : Memory) (buffer : List ℕ) (o : CallOutcome Memory)
+    (few : length chunk ≤ chunkMost) (more : at < length chunk) (room : bufferLeast ≤ length buffer)
+    (taken : Takes (take at chunk) before after) (called : o ≡ callOutcome after (callWith (drop at chunk) buffer)) where
+  handed : (registry stream : List ℕ) → wellFormedRegistry registry ≡ true → length stream + at ≤ counterMost
+      → before ≡ leftBy registry stream → Handed registry (stream ++ take at chunk) (drop at chunk) (o .answer .taken) (o .memory)
+  unfolding Takes
+  handed registry stream good short e =
+      let t = length-take at chunk in
+      let d = length-drop at chunk in
+      let a = length-append stream (take at chunk) in
+      call-hands registry (stream ++ take at chunk) good (omega arith) (drop at chunk) buffer (omega arith) (omega arith) room o
+      (called ∙ ap (λ (m : Memory). callOutcome m (callWith (drop at chunk) buffer)) (taken registry stream good (omega arith) e))
+
+  pub takes-more : Takes (take (at + o .answer .taken) chunk) before (o .memory)
+  unfolding Takes
+  takes-more registry stream good short e =
+      let n : ℕ = o .answer .taken in
+      let t = length-take (at + n) chunk in
+      let h = handed registry stream good (omega arith) e in
+      h .memory
+      ∙ ap (leftBy registry)
+      (append-assoc stream (take at chunk) (take n (drop at chunk)) ∙ ap (λ (x : List ℕ). stream ++ x) (sym (take-add at n chunk)))
+
+  pub takes-fits : Follows (length chunk) before → (1 ≤ o .answer .taken) × (at + o .answer .taken ≤ length chunk)
+  takes-fits f =
+      let h = handed (f .registry) (f .stream) (f .good) (omega (arith, f .short)) (f .memory) in
+      let d = length-drop at chunk in
+      (h .some, omega (arith, h .fits))
+
+-- ---- a stream, chunk by chunk
+
+module _ (registry : List ℕ) (good : wellFormedRegistry registry ≡ true) (most : ℕ) (m : Memory) (a : After registry most m) where
+  -- the next chunk can be handed over
+  pub follows : (more : ℕ) → most + more ≤ counterMost → Follows more m
+  follows more h = record { registry = registry; stream = a .stream; good = good; short = omega (arith, a .short); memory = a .memory }
+
+  pub after-more : (chunk : List ℕ) (after : Memory) → most + length chunk ≤ counterMost → Takes chunk m after → After registry (most + length chunk) after
+  unfolding Takes
+  after-more chunk after h t = record {
+    stream = a .stream ++ chunk;
+    short = omega (arith, a .short, length-append (a .stream) chunk);
+    memory = t registry (a .stream) good (omega (arith, a .short)) (a .memory);
+  }
+
+  pub after-most : (least : ℕ) → most ≤ least → After registry least m
+  after-most least h = record { stream = a .stream; short = omega (arith, a .short); memory = a .memory }

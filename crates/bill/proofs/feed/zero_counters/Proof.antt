@@ -1,0 +1,13 @@
+-- `bill::feed::zero_counters` meets its contract.
+use mathlib.Core.Path.{refl}
+use Rattle.service.specs.Counters.{noCounts, countersOf}
+use Rattle.bill.specs.Stream.{zeroCounters}
+use Rattle.bill.proofs.feed.zero_counters.Statement.{statement}
+use Rattle.bill.proofs.feed.zero_counters.Tie as tie
+
+returns : tie.Need-returns
+unfolding zeroCounters countersOf noCounts
+returns c = refl
+
+pub zero-counters-spec : {M : Type 1} → statement M
+zero-counters-spec = tie.close (tie.spec returns)

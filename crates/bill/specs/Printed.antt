@@ -1,0 +1,44 @@
+-- What the program prints. No part of the reading copy: the bill's text is defined there. No contract can say which bytes a
+-- file has, so that the files are some two.
+use Prim.Native.Nat.{ℕ, _≤_}
+use mathlib.Core.Path.{_≡_}
+use mathlib.Core.Option.{Option, none, some}
+use mathlib.Core.List.{List, [], _++_}
+use lib.ListN.{length, take}
+use Rattle.registry.specs.Registry.{registryOf}
+use Rattle.registry.specs.Roster.{faultNumber, applications, faulty, rosterOf}
+use Rattle.registry.specs.declared.RosterFault.{RosterFault}
+use Rattle.service.specs.Text.{ascii}
+use Rattle.service.specs.Bill.{decimal, textLine, bill}
+use Rattle.bill.specs.declared.text.Source.{Source}
+use Rattle.bill.specs.declared.text.Source.the-variants.{Good, Faulty, Unreadable}
+
+unfoldable pub noFile : List ℕ
+noFile = textLine (ascii "no file") []
+
+unfoldable pub refusedRoster : RosterFault → List ℕ
+refusedRoster fault = ascii "roster R" ++ textLine (decimal (faultNumber fault)) []
+
+-- a registry without keys, of the names in some good roster file
+pub record Started (registry : List ℕ) : Type 0 where
+  pub file : List ℕ
+  pub names : List (List ℕ)
+  pub good : rosterOf file ≡ applications names
+  pub start : registry ≡ registryOf names
+
+-- some roster file that is refused
+pub record Refused (fault : RosterFault) : Type 0 where
+  pub file : List ℕ
+  pub first : rosterOf file ≡ faulty fault
+
+unfoldable pub SourceOf : (registry : List ℕ) → Source → Type 0
+SourceOf registry Good = Started registry
+SourceOf registry (Faulty fault) = Refused fault
+SourceOf registry Unreadable = Unit {0}
+
+-- the first n bytes are the bill of some two files; `none` is one that can't be read
+pub record Prints (out : List ℕ) (n : ℕ) : Type 0 where
+  pub roster : Option (List ℕ)
+  pub stream : Option (List ℕ)
+  pub fits : n ≤ length out
+  pub text : take n out ≡ bill roster stream

@@ -1,0 +1,52 @@
+-- What the program keeps while it reads a stream. No part of the reading copy.
+use Prim.Native.Nat.{ℕ, _+_, _≤_}
+use mathlib.Core.Path.{_≡_}
+use mathlib.Core.Bool.{true}
+use mathlib.Core.List.{List, [], _++_}
+use lib.ListN.{length}
+use Rattle.stream.specs.Rules.{rules}
+use Rattle.registry.specs.WellFormed.{wellFormedRegistry}
+use Rattle.service.specs.Counters.{noCounts, countersOf}
+use Rattle.service.specs.Judgement.{judgement}
+use Rattle.service.specs.Call.{Memory, memoryOf, counterMost}
+use Rattle.service.specs.declared.Counters.{Counters}
+use Rattle.bill.specs.declared.files.Input.{Input}
+use Rattle.bill.specs.declared.files.Input.the-variants.{Bytes, End, Failed}
+
+-- what reading into a buffer of so many bytes gives: some of them, or none
+unfoldable pub ReadWithin : (most : ℕ) → Input → Type 0
+ReadWithin most (Bytes n) = (1 ≤ n) × (n ≤ most)
+ReadWithin most End = Unit {0}
+ReadWithin most Failed = Unit {0}
+
+-- how much of a file was kept
+unfoldable pub KeptWithin : (most : ℕ) → Input → Type 0
+KeptWithin most (Bytes n) = n ≤ most
+KeptWithin most End = Unit {0}
+KeptWithin most Failed = Unit {0}
+
+unfoldable pub zeroCounters : Counters
+zeroCounters = countersOf (record { taken = 0; answered = 0; dropped = 0; counts = noCounts })
+
+-- what the rules leave in memory after a stream
+abbrev pub leftBy : (registry stream : List ℕ) → Memory
+leftBy registry stream = memoryOf (rules judgement registry stream .state)
+
+-- memory that the rules leave after some stream, from a good registry, and so many bytes more are below the counters' limit
+pub record Follows (more : ℕ) (m : Memory) : Type 0 where
+  pub registry : List ℕ
+  pub stream : List ℕ
+  pub good : wellFormedRegistry registry ≡ true
+  pub short : length stream + more ≤ counterMost
+  pub memory : m ≡ leftBy registry stream
+
+-- bytes were taken: from what the rules leave after a stream to what they leave after it and the bytes
+unfoldable pub Takes : (bytes : List ℕ) (before after : Memory) → Type 0
+Takes bytes before after = (registry stream : List ℕ) → wellFormedRegistry registry ≡ true → length stream + length bytes ≤ counterMost
+    → before ≡ leftBy registry stream → after ≡ leftBy registry (stream ++ bytes)
+
+-- what the rules leave after some stream of at most so many bytes
+pub record After (registry : List ℕ) (most : ℕ) (m : Memory) : Type 0 where
+  pub stream : List ℕ
+  pub short : length stream ≤ most
+  pub memory : m ≡ leftBy registry stream
