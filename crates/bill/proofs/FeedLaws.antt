@@ -4,20 +4,38 @@ use mathlib.Core.Bool.{true}
 use mathlib.Core.List.{List, [], _∷_, _++_, append-assoc, append-nil}
 use Prim.Native.Nat.{ℕ, _+_, _-_, _*_, _≤_, _<_, min}
 use native.Mathlib.Omega.{arith}
+use borrow.Author.Tests.{eq-eqb}
 use lib.ListN.{length, take, drop, length-append, length-take, length-drop}
 use lib.Seq.{take-add, take-all}
+use Rattle.stream.specs.Rules as rulesOf
 use Rattle.stream.specs.Rules.{rules}
+use Rattle.stream.specs.Call as stream
 use Rattle.stream.specs.Call.{callRule}
 use Rattle.stream.specs.Calls.{Call, CallOutcome, took}
 use Rattle.stream.proofs.CallLaws.{call-facts}
-use Rattle.stream.proofs.CallsLaws.{took-taken, call-took}
+use Rattle.stream.proofs.CallsLaws.{took-taken, call-took, fresh-memory}
 use Rattle.stream.proofs.DeliveryLaws.{call-takes}
+use Rattle.connection.specs.Connection.{connectionSize, connectionBytes, Opening, openConnection}
 use Rattle.registry.specs.WellFormed.{wellFormedRegistry}
 use Rattle.service.specs.Judgement.{judgement}
 use Rattle.service.specs.Call.{Memory, memoryOf, layout, bufferLeast, chunkMost, counterMost, refusalOf, callOutcome}
-use Rattle.service.specs.Called.{callWith}
+use Rattle.service.specs.Called.{lentMemory, callWith}
 use Rattle.service.proofs.Demand3.{lawful, accepts}
-use Rattle.bill.specs.Stream.{leftBy, Follows, Takes, After}
+use Rattle.service.specs.declared.Counters.{Counters}
+use Rattle.connection.specs.declared.change.Opened.{Opened}
+use Rattle.bill.specs.Stream.{ReadWithin, KeptWithin, zeroCounters, leftBy, Follows, Takes, After}
+use Rattle.bill.specs.declared.files.Input.{Input}
+use Rattle.bill.specs.declared.files.Input.the-variants.{Bytes}
+
+-- ---- what was read
+
+pub read-bytes : {most n : ℕ} {r : Input} → ReadWithin most r → r ≡ Bytes n → (1 ≤ n) × (n ≤ most)
+unfolding ReadWithin
+read-bytes {most} w e = subst (ReadWithin most) e w
+
+pub kept-bytes : {most n : ℕ} {r : Input} → KeptWithin most r → r ≡ Bytes n → n ≤ most
+unfolding KeptWithin
+kept-bytes {most} w e = subst (KeptWithin most) e w
 
 -- ---- one call
 
@@ -94,6 +112,20 @@ module _ (chunk : List ℕ) (at : ℕ) (before after : Memory) (buffer : List �
       (h .some, omega (arith, h .fits))
 
 -- ---- a stream, chunk by chunk
+
+-- a fresh connection and zero counters
+pub starts : (registry before connection : List ℕ) (opened : Opened) (counters : Counters) → length before ≡ connectionSize
+    → record { answer = opened; memory = connection } ≡ openConnection before → counters ≡ zeroCounters
+    → After registry 0 (lentMemory connection registry counters)
+unfolding openConnection layout memoryOf stream.fresh judgement zeroCounters
+starts registry before connection opened counters size e zero =
+    let made : openConnection before .memory ≡ connectionBytes (rulesOf.opened []) = rw (eq-eqb (length before) connectionSize size) in
+    let fresh : connection ≡ connectionBytes (rulesOf.opened []) = ap (λ (o : Opening). o .memory) e ∙ made in
+    record {
+      stream = [];
+      short = omega arith;
+      memory = (λ i. lentMemory (fresh i) registry (zero i)) ∙ sym (fresh-memory judgement layout lawful refusalOf registry);
+    }
 
 module _ (registry : List ℕ) (good : wellFormedRegistry registry ≡ true) (most : ℕ) (m : Memory) (a : After registry most m) where
   -- the next chunk can be handed over

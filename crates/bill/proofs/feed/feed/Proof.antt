@@ -78,7 +78,7 @@ loop-again c =
     let call = t .call-by-value in
     let more = takes-more chunk (l .at) _ _ (l .response) (outcome t) few (omega arith) (omega arith) taken (called t) in (
       subst (λ (x : Counters). Takes (take (l .at + call .result .taken) chunk) (lentMemory (start .args .connection .now) (start .args .registry .now) (start .args .counters)) (lentMemory (call .last .1 .0) (call .last .1 .1 .0) x))
-      (sym (c .counters-of .ensures)) more,
+          (sym (c .counters-of .ensures)) more,
       fits t .1,
       call .kept .1 .0 ∙ same,
       call .kept .1 .1 .0 ∙ same2,

@@ -1,125 +1,147 @@
+-- `bill::feed::take_stream` meets its contract. The loop's invariant: memory is as the rules leave it after some stream, of at most
+-- 65,536 bytes for each turn.
+use Prim.Native.Nat.{_-_, _*_, _≤_}
+use mathlib.Core.Path.{_≡_, refl, sym, _∙_}
+use native.Mathlib.Omega.{arith}
+use borrow.Author.Needs.{needs}
+use lib.ListN.{length, take}
+use lib.Seq.{length-take-le}
+use Rattle.service.specs.Call.{counterMost}
+use Rattle.service.specs.Called.{lentMemory}
+use Rattle.bill.specs.Stream.{After}
+use Rattle.bill.proofs.FeedLaws.{read-bytes, starts, follows, after-more, after-most}
 use Rattle.bill.proofs.feed.take_stream.Statement.{statement}
 use Rattle.bill.proofs.feed.take_stream.Tie as tie
-use Rattle.bill.proofs.feed.take_stream.Reads as reads
-use Rattle.bill.proofs.feed.take_stream.Lts as lts
-use Rattle.bill.proofs.feed.feed.Reads as feed-reads
-use Rattle.bill.proofs.feed.zero_counters.Reads as zero-counters-reads
-use Rattle.bill.proofs.files.read_some.Reads as read-some-reads
-use Rattle.connection.proofs.change.open_connection.Reads as open-connection-reads
-use Rattle.io.proofs.buffer.Reads as buffer-reads
-use Rattle.io.proofs.large_buffer.Reads as large-buffer-reads
 
 abbrev Inv-loop : tie.InvT-loop
 Inv-loop fd connection₀ registry₀ chunk₀ response₀ counters₀ turns₀ connection registry chunk response counters turns =
-    ?
+    After registry₀ ((70368744177664 - turns) * 65536) (lentMemory connection registry counters) × (turns ≤ 70368744177664)
+    × (length connection ≡ length connection₀) × (length registry ≡ length registry₀) × (length chunk ≡ 65536) × (length response ≡ 4096)
 
 abbrev μ-loop : tie.MeasureT-loop
-μ-loop fd connection₀ registry₀ chunk₀ response₀ counters₀ turns₀ connection registry chunk response counters turns =
-    ?
+μ-loop fd connection₀ registry₀ chunk₀ response₀ counters₀ turns₀ connection registry chunk response counters turns = turns
 
--- src/feed.rt:64:5
 open-connection-requires : tie.Need-open-connection-requires Inv-loop μ-loop
-open-connection-requires c κs = ?
+open-connection-requires c κs = search needs
 
--- src/feed.rt:65:21
 large-buffer-requires : tie.Need-large-buffer-requires Inv-loop μ-loop
-large-buffer-requires c κs = ?
+large-buffer-requires c κs = search needs
 
--- src/feed.rt:66:24
 buffer-requires : tie.Need-buffer-requires Inv-loop μ-loop
-buffer-requires c κs = ?
+buffer-requires c κs = search needs
 
--- src/feed.rt:67:9
 zero-counters-requires : tie.Need-zero-counters-requires Inv-loop μ-loop
-zero-counters-requires c κs = ?
+zero-counters-requires c κs = search needs
 
--- src/feed.rt:69:5
 loop-holds : tie.Need-loop-holds Inv-loop μ-loop
-loop-holds c = ?
+loop-holds c =
+    let opened = c .before .before .before .before .before in
+    let start = opened .before .before .before .before in (
+      starts (start .args .registry .now) (start .args .connection .now) _ _ _ (start .pre .0) (opened .open-connection .ensures) (c .zero-counters .ensures),
+      omega arith,
+      refl,
+      refl,
+      sym (c .before .before .large-buffer .ensures),
+      sym (c .before .buffer .ensures),
+    )
 
--- src/feed.rt:70:29
 slice-aggregate-read-some : tie.Need-slice-aggregate-read-some Inv-loop μ-loop
-slice-aggregate-read-some c = ?
+slice-aggregate-read-some c = search needs
 
--- src/feed.rt:70:15
 read-some-requires : tie.Need-read-some-requires Inv-loop μ-loop
-read-some-requires c κs = ?
+read-some-requires c κs = search needs
 
--- src/feed.rt:71:26
 enum-known-n : tie.Need-enum-known-n Inv-loop μ-loop
-enum-known-n c = ?
+enum-known-n c = search needs
 
--- src/feed.rt:72:33
+-- what was read is the front of the buffer
+read : (c : tie.After-known-told Inv-loop μ-loop)
+    → (let n = c .before .n .given .0 .0 in
+    let chunk = c .before .before .before .before .read-some .last .1 .0 in
+    (n ≤ 65536) × (length chunk ≡ 65536) × (length (take n chunk) ≡ n))
+read c =
+    let r = c .before .before .before .before in
+    let l = r .before .before .before .loop in
+    let same = r .read-some .kept .1 .0 in
+    let long = l .inv .4 in
+    let (some, most) = read-bytes (r .read-some .ensures) (c .before .n .given .1) in
+    (omega (arith, most, long), same ∙ long, length-take-le _ (r .read-some .last .1 .0) (omega (arith, most, same)))
+
 array-share-prefix-chunk : tie.Need-array-share-prefix-chunk Inv-loop μ-loop
-array-share-prefix-chunk c = ?
+array-share-prefix-chunk c = let (few, long, size) = read c in omega (arith, few, long)
 
--- src/feed.rt:72:33
 slice-aggregate-feed : tie.Need-slice-aggregate-feed Inv-loop μ-loop
-slice-aggregate-feed c = ?
+slice-aggregate-feed c = sym (read (c .before) .2)
 
--- src/feed.rt:72:78
 slice-aggregate-feed-2 : tie.Need-slice-aggregate-feed-2 Inv-loop μ-loop
-slice-aggregate-feed-2 c = ?
+slice-aggregate-feed-2 c = search needs
 
--- src/feed.rt:72:17
 feed-requires : tie.Need-feed-requires Inv-loop μ-loop
-feed-requires c κs = ?
+feed-requires c κs =
+    let (few, long, size) = read (c .before .before .before .before) in
+    let l = c .before .before .before .before .before .before .before .before .before .before .before .loop in
+    let start = c .before .before .before .before .before .before .before .before .before .before .before .before .before .before .before .before .before .before .before .before .before in
+    (omega (arith, few, size), omega (arith, l .inv .5), follows _ (start .pre .1) _ _ (l .inv .0) _ (omega (arith, few, size, l .inv .1)))
 
--- src/feed.rt:75:17
 enum-told : tie.Need-enum-told Inv-loop μ-loop
-enum-told c = ?
+enum-told c = search needs
 
--- src/feed.rt:75:17
 same-length : tie.Need-same-length Inv-loop μ-loop
-same-length c = ?
+same-length c = search needs
 
--- src/feed.rt:75:17
 same-length-2 : tie.Need-same-length-2 Inv-loop μ-loop
-same-length-2 c = ?
+same-length-2 c = search needs
 
--- src/feed.rt:75:17
 returns : tie.Need-returns Inv-loop μ-loop
-returns c = ?
+returns c =
+    let l = c .before .before .before .before .before .before .loop in
+    after-most _ (c .before .before .before .before .before .before .before .before .before .before .before .before .before .before .before .before .pre .1) _ _ (l .inv .0) counterMost (omega arith)
 
--- src/feed.rt:81:17
 enum-told-2 : tie.Need-enum-told-2 Inv-loop μ-loop
-enum-told-2 c = ?
+enum-told-2 c = search needs
 
--- src/feed.rt:81:17
 same-length-3 : tie.Need-same-length-3 Inv-loop μ-loop
-same-length-3 c = ?
+same-length-3 c = search needs
 
--- src/feed.rt:81:17
 same-length-4 : tie.Need-same-length-4 Inv-loop μ-loop
-same-length-4 c = ?
+same-length-4 c = search needs
 
--- src/feed.rt:81:17
 returns-2 : tie.Need-returns-2 Inv-loop μ-loop
-returns-2 c = ?
+returns-2 c =
+    let l = c .before .before .before .before .before .before .loop in
+    after-most _ (c .before .before .before .before .before .before .before .before .before .before .before .before .before .before .before .before .pre .1) _ _ (l .inv .0) counterMost (omega arith)
 
--- src/feed.rt:87:9
 sub-turns : tie.Need-sub-turns Inv-loop μ-loop
-sub-turns c = ?
+sub-turns c = omega arith
 
--- src/feed.rt:69:5
 loop-less : tie.Need-loop-less Inv-loop μ-loop
-loop-less c = ?
+loop-less c = omega arith
 
--- src/feed.rt:69:5
 loop-again : tie.Need-loop-again Inv-loop μ-loop
-loop-again c = ?
+loop-again c =
+    let t = c .before .before .before .before .before in
+    let (few, long, size) = read (t .before .before .before .before .before) in
+    let l = t .before .before .before .before .before .before .before .before .before .before .before .before .loop in
+    let good = t .before .before .before .before .before .before .before .before .before .before .before .before .before .before .before .before .before .before .before .before .before .before .pre .1 in
+    let (kept, turns, same, same2, long2, room) = l .inv in (
+      after-most _ good _ _ (after-more _ good _ _ kept _ _ (omega (arith, few, size)) (t .feed .ensures)) _ (omega (arith, few, size)),
+      omega arith,
+      t .feed .kept .1 .0 ∙ same,
+      t .feed .kept .1 .1 .0 ∙ same2,
+      long,
+      t .feed .kept .1 .1 .1 .1 .0 ∙ room,
+    )
 
--- src/feed.rt:60:1
 same-length-5 : tie.Need-same-length-5 Inv-loop μ-loop
-same-length-5 c = ?
+same-length-5 c = search needs
 
--- src/feed.rt:60:1
 same-length-6 : tie.Need-same-length-6 Inv-loop μ-loop
-same-length-6 c = ?
+same-length-6 c = search needs
 
--- src/feed.rt:60:1
 returns-3 : tie.Need-returns-3 Inv-loop μ-loop
-returns-3 c = ?
+returns-3 c =
+    let l = c .before .loop in
+    after-most _ (c .before .before .before .before .before .before .before .before .before .before .before .pre .1) _ _ (l .inv .0) counterMost (omega arith)
 
 pub take-stream-spec : {M : Type 1} → statement M
 take-stream-spec =

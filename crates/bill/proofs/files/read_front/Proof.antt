@@ -1,95 +1,99 @@
+-- `bill::files::read_front` meets its contract.
+use Prim.Native.Nat.{_+_, _-_, _≤_}
+use mathlib.Core.Path.{_≡_, refl, ap, _∙_}
+use native.Mathlib.Omega.{arith}
+use borrow.Author.Needs.{needs}
+use lib.ListN.{length, length-drop}
+use borrow.Rule.Slice.PartMut.{putMid, same-len-mid}
+use Rattle.wire.proofs.BufferLaws.{lent}
+use Rattle.bill.proofs.FeedLaws.{read-bytes}
+use Rattle.bill.specs.Stream.{ReadWithin, KeptWithin}
 use Rattle.bill.proofs.files.read_front.Statement.{statement}
 use Rattle.bill.proofs.files.read_front.Tie as tie
-use Rattle.bill.proofs.files.read_front.Reads as reads
-use Rattle.bill.proofs.files.read_front.Lts as lts
-use Rattle.bill.proofs.files.read_rest.Reads as read-rest-reads
-use Rattle.bill.proofs.files.read_some.Reads as read-some-reads
 
 abbrev Inv-loop : tie.InvT-loop
-Inv-loop fd front₀ size₀ front size = ?
+Inv-loop fd front₀ size₀ front size = (size ≤ length front) × (length front ≡ length front₀)
 
 abbrev μ-loop : tie.MeasureT-loop
-μ-loop fd front₀ size₀ front size = ?
+μ-loop fd front₀ size₀ front size = length front - size
 
--- src/files.rt:66:5
 loop-holds : tie.Need-loop-holds Inv-loop μ-loop
-loop-holds c = ?
+loop-holds c = (omega arith, refl)
 
--- src/files.rt:67:29
 sub-read-some : tie.Need-sub-read-some Inv-loop μ-loop
-sub-read-some c = ?
+sub-read-some c = omega arith
 
--- src/files.rt:67:29
 part-read-some-start : tie.Need-part-read-some-start Inv-loop μ-loop
-part-read-some-start c = ?
+part-read-some-start c = omega arith
 
--- src/files.rt:67:29
 part-read-some-end : tie.Need-part-read-some-end Inv-loop μ-loop
-part-read-some-end c = ?
+part-read-some-end c = search needs
 
--- src/files.rt:67:15
 read-some-requires : tie.Need-read-some-requires Inv-loop μ-loop
-read-some-requires c κs = ?
+read-some-requires c κs = search needs
 
--- src/files.rt:68:26
 enum-known-more : tie.Need-enum-known-more Inv-loop μ-loop
-enum-known-more c = ?
+enum-known-more c = search needs
 
--- src/files.rt:68:35
+-- a byte at least was read, and no more than there is room for
+fits : (c : tie.After-known-told Inv-loop μ-loop)
+    → (let l = c .before .before .before .before .before .before .before .before .loop in (1 ≤ c .before .more .given .0 .0) × (l .size + c .before .more .given .0 .0 ≤ length (l .front)))
+fits c =
+    let l = c .before .before .before .before .before .before .before .before .loop in
+    let (some, most) = read-bytes (c .before .before .before .before .before .read-some .ensures) (c .before .more .given .1) in
+    (some, omega (arith, most, ap length (lent (l .size) (l .front)), length-drop (l .size) (l .front)))
+
+-- what is lent on for reading keeps its length
+long : (c : tie.After-known-told Inv-loop μ-loop)
+    → (let l = c .before .before .before .before .before .before .before .before .loop in
+    length (putMid (l .size) (length (l .front) - l .size) (l .front) (c .before .before .before .before .before .read-some .last .1 .0)) ≡ length (l .front))
+long c = let l = c .before .before .before .before .before .before .before .before .loop in same-len-mid (l .size) (length (l .front) - l .size) (l .front) (c .before .before .before .before .before .read-some .last .1 .0) (c .before .before .before .before .before .read-some .kept .1 .0)
+
 add-size : tie.Need-add-size Inv-loop μ-loop
-add-size c = ?
+add-size c = omega (arith, fits c .1)
 
--- src/files.rt:66:5
 loop-less : tie.Need-loop-less Inv-loop μ-loop
-loop-less c = ?
+loop-less c = omega (arith, long c, fits c .0, fits c .1)
 
--- src/files.rt:66:5
 loop-again : tie.Need-loop-again Inv-loop μ-loop
-loop-again c = ?
+loop-again c = (omega (arith, long c, fits c .1), long c ∙ c .before .before .before .before .before .before .before .before .loop .inv .1)
 
--- src/files.rt:69:27
 enum-told : tie.Need-enum-told Inv-loop μ-loop
-enum-told c = ?
+enum-told c = search needs
 
--- src/files.rt:69:27
 same-length : tie.Need-same-length Inv-loop μ-loop
-same-length c = ?
+same-length c = search needs
 
--- src/files.rt:69:27
 returns : tie.Need-returns Inv-loop μ-loop
-returns c = ?
+unfolding KeptWithin
+returns c = omega arith
 
--- src/files.rt:70:30
 enum-told-2 : tie.Need-enum-told-2 Inv-loop μ-loop
-enum-told-2 c = ?
+enum-told-2 c = search needs
 
--- src/files.rt:70:30
 same-length-2 : tie.Need-same-length-2 Inv-loop μ-loop
-same-length-2 c = ?
+same-length-2 c = search needs
 
--- src/files.rt:70:30
 returns-2 : tie.Need-returns-2 Inv-loop μ-loop
-returns-2 c = ?
+unfolding KeptWithin
+returns-2 c = tt
 
--- src/files.rt:73:8
 read-rest-requires : tie.Need-read-rest-requires Inv-loop μ-loop
-read-rest-requires c κs = ?
+read-rest-requires c κs = search needs
 
--- src/files.rt:74:9
 same-length-3 : tie.Need-same-length-3 Inv-loop μ-loop
-same-length-3 c = ?
+same-length-3 c = search needs
 
--- src/files.rt:74:9
 returns-3 : tie.Need-returns-3 Inv-loop μ-loop
-returns-3 c = ?
+unfolding KeptWithin
+returns-3 c = omega arith
 
--- src/files.rt:62:1
 same-length-4 : tie.Need-same-length-4 Inv-loop μ-loop
-same-length-4 c = ?
+same-length-4 c = search needs
 
--- src/files.rt:62:1
 returns-4 : tie.Need-returns-4 Inv-loop μ-loop
-returns-4 c = ?
+unfolding KeptWithin
+returns-4 c = tt
 
 pub read-front-spec : {M : Type 1} → statement M
 read-front-spec =

@@ -30,7 +30,7 @@ same-length-3 c = search needs
 
 returns-3 : tie.Need-returns-3
 unfolding ReadWithin
-returns-3 c = (omega arith, omega (arith, c .before .count .ensures .0 .0, c .before .before .before .read .kept .1 .0))
+returns-3 c = (omega arith, omega (arith, c .before .count .ensures .0 .0, c .before .before .before .before .before .before .read .kept .1 .0))
 
 pub read-some-spec : {M : Type 1} → statement M
 read-some-spec =

@@ -1,67 +1,67 @@
+-- `bill::text::read_roster` meets its contract.
+use mathlib.Core.Path.{sym, subst}
+use native.Mathlib.Omega.{arith}
+use lib.Seq.{length-take-le}
+use Rattle.registry.specs.declared.roster.Loaded.{Loaded}
+use Rattle.bill.specs.Printed.{SourceOf}
+use Rattle.bill.proofs.FeedLaws.{kept-bytes}
+use Rattle.bill.proofs.PrintLaws.{sourceFor, source-of}
 use borrow.Author.Needs.{needs}
 use Rattle.bill.proofs.text.read_roster.Statement.{statement}
 use Rattle.bill.proofs.text.read_roster.Tie as tie
-use Rattle.bill.proofs.text.read_roster.Reads as reads
-use Rattle.bill.proofs.text.read_roster.Lts as lts
-use Rattle.bill.proofs.files.read_front.Reads as read-front-reads
-use Rattle.bill.proofs.memory.roster_front.Reads as roster-front-reads
-use Rattle.registry.proofs.roster.load_roster.Reads as load-roster-reads
 
--- src/text.rt:67:21
 roster-front-requires : tie.Need-roster-front-requires
 roster-front-requires c κs = search needs
 
--- src/text.rt:68:45
 slice-aggregate-read-front : tie.Need-slice-aggregate-read-front
 slice-aggregate-read-front c = search needs
 
--- src/text.rt:68:30
 read-front-requires : tie.Need-read-front-requires
 read-front-requires c κs = search needs
 
--- src/text.rt:68:22
 enum-known-size : tie.Need-enum-known-size
 enum-known-size c = search needs
 
--- src/text.rt:69:9
 returns : tie.Need-returns
-returns c = ?
+unfolding SourceOf
+returns c = tt
 
--- src/text.rt:71:23
 array-share-prefix-front : tie.Need-array-share-prefix-front
-array-share-prefix-front c = ?
+array-share-prefix-front c =
+    let read = c .before .before .before .before in
+    omega (arith, kept-bytes (read .read-front .ensures) (c .before .size .given .1), read .read-front .kept .1 .0)
 
--- src/text.rt:71:23
 slice-aggregate-load-roster : tie.Need-slice-aggregate-load-roster
-slice-aggregate-load-roster c = ?
+slice-aggregate-load-roster c =
+    let read = c .before .before .before .before .before in
+    sym (length-take-le _ (read .read-front .last .1 .0) (omega (arith, kept-bytes (read .read-front .ensures) (c .before .before .size .given .1), read .read-front .kept .1 .0)))
 
--- src/text.rt:71:11
 load-roster-requires : tie.Need-load-roster-requires
 load-roster-requires c κs = search needs
 
--- src/text.rt:72:25
 enum-told : tie.Need-enum-told
 enum-told c = search needs
 
--- src/text.rt:73:24
 enum-known-fault : tie.Need-enum-known-fault
 enum-known-fault c = search needs
 
--- src/text.rt:63:1
 same-length : tie.Need-same-length
 same-length c = search needs
 
--- src/text.rt:63:1
 returns-2 : tie.Need-returns-2
-returns-2 c = ?
+returns-2 c =
+    let load = c .before .before .before .before in
+    subst (λ (x : Loaded). SourceOf (load .load-roster .last .1 .0) (sourceFor x)) (c .enum-told .given .1)
+    (source-of _ _ _ (load .load-roster .result) (c .before .before .before .before .before .before .before .before .before .before .before .before .before .before .before .pre) (load .load-roster .ensures .0) (load .load-roster .ensures .1))
 
--- src/text.rt:63:1
 same-length-2 : tie.Need-same-length-2
 same-length-2 c = search needs
 
--- src/text.rt:63:1
 returns-3 : tie.Need-returns-3
-returns-3 c = ?
+returns-3 c =
+    let load = c .before .before .before .before .before in
+    subst (λ (x : Loaded). SourceOf (load .load-roster .last .1 .0) (sourceFor x)) (c .before .fault .given .1)
+    (source-of _ _ _ (load .load-roster .result) (c .before .before .before .before .before .before .before .before .before .before .before .before .before .before .before .before .pre) (load .load-roster .ensures .0) (load .load-roster .ensures .1))
 
 pub read-roster-spec : {M : Type 1} → statement M
 read-roster-spec =

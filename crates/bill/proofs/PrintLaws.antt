@@ -1,0 +1,125 @@
+-- What is written is the bill of some two files.
+use mathlib.Core.Path.{_≡_, refl, sym, ap, _∙_, subst}
+use mathlib.Core.Bool.{Bool, true}
+use mathlib.Core.Option.{Option, none, some}
+use mathlib.Core.List.{List, [], _∷_, _++_}
+use Prim.{⊥}
+use Prim.Native.Nat.{ℕ, _+_, _≤_}
+use native.Mathlib.Omega.{arith}
+use borrow.Author.Tests.{le-ltb, eq-eqb}
+use denote.Enum.Declared.{tagOf}
+use types.Run.{OneOf, miss}
+use lib.ListN.{length, take, drop, length-append}
+use lib.Seq.{take-append-seam}
+use Rattle.wire.specs.Choice.{firstOf}
+use Rattle.wire.specs.Wrote.{over, Wrote}
+use Rattle.stream.specs.Rules.{State, rules}
+use Rattle.stream.proofs.KeptLaws.{rules-connection, rules-kept}
+use Rattle.connection.proofs.ConnectionLaws.{stored-good}
+use Rattle.registry.specs.Registry.{registrySize, registryOf}
+use Rattle.registry.specs.WellFormed.{wellFormedRegistry}
+use Rattle.registry.specs.Roster.{Roster, applications, faulty, rosterOf, RosterOutcome, rosterInto, loadRoster}
+use Rattle.registry.specs.Check.{loadedOf}
+use Rattle.registry.specs.declared.RosterFault.{RosterFault}
+use Rattle.registry.specs.declared.roster.Loaded.{Loaded}
+use Rattle.registry.specs.declared.roster.Loaded.the-variants as loaded
+use Rattle.registry.proofs.RosterLaws.{roster-legal, registry-good}
+use Rattle.service.specs.Counters.{Counts, largestCount}
+use Rattle.service.specs.Judgement.{judgement}
+use Rattle.service.specs.Call.{Memory, memoryOf}
+use Rattle.service.specs.Bill.{billFor, bill}
+use Rattle.service.proofs.JudgementLaws.{keeps}
+use Rattle.billing.specs.Outcome.{billMost, billIn, refusalTests, BillOutcome, outcomeOf, billOutcome}
+use Rattle.billing.specs.declared.Billed.{Billed}
+use Rattle.billing.specs.declared.Billed.the-variants.{Written, BufferTooSmall, ConnectionIllFormed, RegistryIllFormed}
+use Rattle.billing.proofs.Billed.{the-type}
+use Rattle.billing.proofs.RulesLaws.{bill-by-rules}
+use Rattle.bill.specs.Stream.{leftBy, After}
+use Rattle.bill.specs.Printed.{refusedRoster, Started, Refused, SourceOf, Prints}
+use Rattle.bill.specs.declared.text.Source.{Source}
+use Rattle.bill.specs.declared.text.Source.the-variants as source
+
+-- ---- text at the front of the buffer
+
+pub prints : (roster stream : Option (List ℕ)) {text d e : List ℕ} {r : ℕ} → Wrote text d e r → text ≡ bill roster stream → Prints e r
+prints roster stream {text} {d} {e} {r} w same = record {
+  roster = roster;
+  stream = stream;
+  fits = omega (arith, w .count, ap length (w .bytes) ∙ length-append text (drop (length text) d));
+  text = ap (λ (n : ℕ). take n e) (w .count) ∙ ap (take (length text)) (w .bytes) ∙ take-append-seam text (drop (length text) d) ∙ same;
+}
+
+-- the line of a refused roster file; the stream can be read
+pub refused-prints : (fault : RosterFault) {d e : List ℕ} {r : ℕ} → Refused fault → Wrote (refusedRoster fault) d e r → Prints e r
+unfolding bill billFor refusedRoster
+refused-prints fault f w = prints (some (f .file)) (some []) w (rw (f .first))
+
+-- ---- a roster file that was loaded
+
+abbrev pub sourceFor : Loaded → Source
+sourceFor loaded.Good = source.Good
+sourceFor (loaded.Faulty fault) = source.Faulty fault
+
+pub source-of : (file memory after : List ℕ) (l : Loaded) → length memory ≡ registrySize
+    → l ≡ loadedOf (loadRoster file memory .fault) → after ≡ loadRoster file memory .registry → SourceOf after (sourceFor l)
+unfolding SourceOf loadedOf rosterInto
+source-of file memory after l size e kept = go (rosterOf file) refl
+  where
+    into : (r : Roster) → rosterOf file ≡ r → loadRoster file memory ≡ rosterInto memory r
+    into r q = unfold loadRoster in rw (eq-eqb (length memory) registrySize size, q)
+
+    told : (r : Roster) → rosterOf file ≡ r → l ≡ loadedOf (rosterInto memory r .fault)
+    told r q = e ∙ ap (λ (o : RosterOutcome). loadedOf (o .fault)) (into r q)
+
+    go : (r : Roster) → rosterOf file ≡ r → SourceOf after (sourceFor l)
+    go (applications names) q = rw (told (applications names) q)
+        (record { file = file; names = names; good = q; start = kept ∙ ap (λ (o : RosterOutcome). o .registry) (into (applications names) q) })
+    go (faulty fault) q = rw (told (faulty fault) q) (record { file = file; first = q })
+
+-- ---- the bill of a stream
+
+pub started-good : (registry : List ℕ) → Started registry → wellFormedRegistry registry ≡ true
+started-good registry s = ap wellFormedRegistry (s .start) ∙ registry-good (s .names) (roster-legal (s .file) (s .names) (s .good))
+
+module _ (registry : List ℕ) (good : wellFormedRegistry registry ≡ true) (stream d : List ℕ) (room : billMost ≤ length d) where
+  written : BillOutcome
+  written = record { answer = Written (length (billIn (leftBy registry stream))); out = over (billIn (leftBy registry stream)) d }
+
+  -- what the rules leave has a bill
+  billed : billOutcome d (leftBy registry stream) ≡ written
+  unfolding written billOutcome outcomeOf firstOf refusalTests memoryOf
+  billed =
+      let s : State (List ℕ) Counts = rules judgement registry stream .state in
+      rw (
+        le-ltb (length d) billMost room,
+        stored-good (s .connection) (rules-connection judgement registry stream),
+        rules-kept largestCount wellFormedRegistry judgement keeps registry good stream .good,
+      )
+
+sizeOf : Billed → ℕ
+sizeOf (Written n) = n
+sizeOf BufferTooSmall = 0
+sizeOf ConnectionIllFormed = 0
+sizeOf RegistryIllFormed = 0
+
+module _ (registry d e : List ℕ) (answer : Billed) (m : Memory) (most : ℕ) (room : billMost ≤ length d) (s : Started registry) (a : After registry most m)
+    (says : record { answer = answer; out = e } ≡ billOutcome d m) where
+  outcome : record { answer = answer; out = e } ≡ written registry (started-good registry s) (a .stream) d room
+  outcome = says ∙ ap (billOutcome d) (a .memory) ∙ billed registry (started-good registry s) (a .stream) d room
+
+  pub bill-prints : (n : ℕ) → answer ≡ Written n → Prints e n
+  unfolding written sizeOf bill
+  bill-prints n w =
+      let text : List ℕ = billIn (leftBy registry (a .stream)) in
+      let wrote : Wrote text d e n = record {
+        count = sym (ap sizeOf w) ∙ ap (λ (o : BillOutcome). sizeOf (o .answer)) outcome;
+        bytes = ap (λ (o : BillOutcome). o .out) outcome;
+      } in
+      prints (some (s .file)) (some (a .stream)) wrote
+      (rw (s .good) (ap (λ (r : List ℕ). billIn (leftBy r (a .stream))) (s .start) ∙ bill-by-rules (s .names) (roster-legal (s .file) (s .names) (s .good)) (a .stream)))
+
+  -- no other answer is given
+  pub always-written : OneOf (1 ∷ 2 ∷ 3 ∷ []) (tagOf the-type answer) → ⊥
+  unfolding written
+  always-written other =
+      miss (1 ∷ 2 ∷ 3 ∷ []) 0 tt (subst (λ (x : Billed). OneOf (1 ∷ 2 ∷ 3 ∷ []) (tagOf the-type x)) (ap (λ (o : BillOutcome). o .answer) outcome) other)
