@@ -35,7 +35,7 @@ use Rattle.billing.specs.declared.Billed.the-variants.{Written, BufferTooSmall,
 use Rattle.billing.proofs.Billed.{the-type}
 use Rattle.billing.proofs.RulesLaws.{bill-by-rules}
 use Rattle.bill.specs.Stream.{leftBy, After}
-use Rattle.bill.specs.Printed.{refusedRoster, Started, Refused, SourceOf, Prints}
+use Rattle.bill.specs.Printed.{noFile, refusedRoster, Started, Refused, SourceOf, Prints}
 use Rattle.bill.specs.declared.text.Source.{Source}
 use Rattle.bill.specs.declared.text.Source.the-variants as source
 
@@ -48,6 +48,10 @@ prints roster stream {text} {d} {e} {r} w same = record {
   fits = omega (arith, w .count, ap length (w .bytes) ∙ length-append text (drop (length text) d));
   text = ap (λ (n : ℕ). take n e) (w .count) ∙ ap (take (length text)) (w .bytes) ∙ take-append-seam text (drop (length text) d) ∙ same;
 }
+
+pub no-file-prints : {d e : List ℕ} {r : ℕ} → Wrote noFile d e r → Prints e r
+unfolding bill noFile
+no-file-prints w = prints none none w refl
 
 -- the line of a refused roster file; the stream can be read
 pub refused-prints : (fault : RosterFault) {d e : List ℕ} {r : ℕ} → Refused fault → Wrote (refusedRoster fault) d e r → Prints e r

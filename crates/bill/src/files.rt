@@ -40,7 +40,7 @@ pub fn read_some(fd: i32, buffer: &mut [u8]) -> Input
 
 // Reads what is left of a file, and says whether it could be read to its end.
 pub fn read_rest(fd: i32) -> bool {
-    let mut buffer = io::buffer();
+    let mut buffer = io::large_buffer();
     let mut turns = TURNS;
     while 0 < turns {
         match read_some(fd, &mut buffer) {

@@ -31,7 +31,7 @@ enum Source {
 
 fn write_no_file(out: &mut [u8]) -> usize
     requires { ⌜ billMost ≤ length (now out) ⌝ }
-    ensures { λ r. ⌜ Prints (now (out .exit)) r ⌝ }
+    ensures { λ r. ⌜ Wrote noFile (now (out .entry)) (now (out .exit)) r ⌝ }
 {
     write_word(out, 0, b"no file\n")
 }

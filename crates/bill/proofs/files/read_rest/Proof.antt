@@ -1,5 +1,4 @@
 -- `bill::files::read_rest` is safe and ends. The measure is the number of turns that are left.
-use Prim.Native.Nat.{_≤_}
 use mathlib.Core.Path.{_≡_}
 use native.Mathlib.Omega.{arith}
 use borrow.Author.Needs.{needs}
@@ -8,13 +7,13 @@ use Rattle.bill.proofs.files.read_rest.Statement.{statement}
 use Rattle.bill.proofs.files.read_rest.Tie as tie
 
 abbrev Inv-loop : tie.InvT-loop
-Inv-loop fd buffer₀ turns₀ buffer turns = length buffer ≡ 4096
+Inv-loop fd buffer₀ turns₀ buffer turns = length buffer ≡ 65536
 
 abbrev μ-loop : tie.MeasureT-loop
 μ-loop fd buffer₀ turns₀ buffer turns = turns
 
-buffer-requires : tie.Need-buffer-requires Inv-loop μ-loop
-buffer-requires c κs = search needs
+large-buffer-requires : tie.Need-large-buffer-requires Inv-loop μ-loop
+large-buffer-requires c κs = search needs
 
 loop-holds : tie.Need-loop-holds Inv-loop μ-loop
 loop-holds c = search needs
@@ -58,7 +57,7 @@ read-rest-spec =
     (tie.spec
     Inv-loop
     μ-loop
-    buffer-requires
+    large-buffer-requires
     loop-holds
     slice-aggregate-read-some
     read-some-requires

@@ -1,10 +1,8 @@
 -- `bill::text::write_no_file` meets its contract.
-use mathlib.Core.Path.{refl}
-use mathlib.Core.Option.{none}
 use Rattle.service.specs.Text.{ascii}
-use Rattle.service.specs.Bill.{textLine, bill}
+use Rattle.service.specs.Bill.{textLine}
 use Rattle.billing.proofs.PlacedLaws.{placed-front}
-use Rattle.bill.proofs.PrintLaws.{prints}
+use Rattle.bill.specs.Printed.{noFile}
 use borrow.Author.Needs.{needs}
 use Rattle.bill.proofs.text.write_no_file.Statement.{statement}
 use Rattle.bill.proofs.text.write_no_file.Tie as tie
@@ -19,8 +17,8 @@ same-length : tie.Need-same-length
 same-length c = search needs
 
 returns : tie.Need-returns
-unfolding bill textLine ascii
-returns c = prints none none (placed-front (c .before .before .write-word .ensures)) refl
+unfolding noFile textLine ascii
+returns c = placed-front (c .before .before .write-word .ensures)
 
 pub write-no-file-spec : {M : Type 1} → statement M
 write-no-file-spec =

@@ -1,6 +1,6 @@
 -- `bill::text::write_stream` meets its contract.
 use mathlib.Core.Path.{sym}
-use Rattle.bill.proofs.PrintLaws.{started-good, bill-prints, always-written}
+use Rattle.bill.proofs.PrintLaws.{no-file-prints, started-good, bill-prints, always-written}
 use borrow.Author.Needs.{needs}
 use Rattle.bill.proofs.text.write_stream.Statement.{statement}
 use Rattle.bill.proofs.text.write_stream.Tie as tie
@@ -24,7 +24,7 @@ same-length-2 : tie.Need-same-length-2
 same-length-2 c = search needs
 
 returns : tie.Need-returns
-returns c = search needs
+returns c = no-file-prints (c .before .before .write-no-file .ensures)
 
 slice-aggregate-write-bill : tie.Need-slice-aggregate-write-bill
 slice-aggregate-write-bill c = search needs

@@ -2,7 +2,7 @@
 use mathlib.Core.Path.{subst}
 use native.Mathlib.Omega.{arith}
 use Rattle.bill.specs.Printed.{SourceOf}
-use Rattle.bill.proofs.PrintLaws.{refused-prints}
+use Rattle.bill.proofs.PrintLaws.{no-file-prints, refused-prints}
 use borrow.Author.Needs.{needs}
 use Rattle.bill.proofs.text.write_text.Statement.{statement}
 use Rattle.bill.proofs.text.write_text.Tie as tie
@@ -14,7 +14,7 @@ same-length : tie.Need-same-length
 same-length c = search needs
 
 returns : tie.Need-returns
-returns c = search needs
+returns c = no-file-prints (c .before .before .write-no-file .ensures)
 
 write-no-file-requires-2 : tie.Need-write-no-file-requires-2
 write-no-file-requires-2 c κs = search needs
@@ -23,7 +23,7 @@ same-length-2 : tie.Need-same-length-2
 same-length-2 c = search needs
 
 returns-2 : tie.Need-returns-2
-returns-2 c = search needs
+returns-2 c = no-file-prints (c .before .before .write-no-file2 .ensures)
 
 registry-memory-requires : tie.Need-registry-memory-requires
 registry-memory-requires c κs = search needs
@@ -53,7 +53,7 @@ same-length-3 : tie.Need-same-length-3
 same-length-3 c = search needs
 
 returns-3 : tie.Need-returns-3
-returns-3 c = search needs
+returns-3 c = no-file-prints (c .before .before .write-no-file4 .ensures)
 
 write-refused-requires : tie.Need-write-refused-requires
 write-refused-requires c κs = search needs
@@ -74,7 +74,7 @@ same-length-4 : tie.Need-same-length-4
 same-length-4 c = search needs
 
 returns-4 : tie.Need-returns-4
-returns-4 c = search needs
+returns-4 c = no-file-prints (c .before .before .write-no-file3 .ensures)
 
 same-length-5 : tie.Need-same-length-5
 same-length-5 c = search needs
