@@ -7,7 +7,6 @@ use Rattle.registry.specs.Roster.{faultNumber}
 use Rattle.registry.specs.declared.RosterFault.{RosterFault}
 use Rattle.connection.specs.declared.change.Opened.{Opened}
 use Rattle.connection.specs.declared.change.Opened.the-variants.{Fresh, WrongSize}
-use Rattle.service.specs.Counters.{noCounts, countersOf}
 use Rattle.service.specs.Call.{Memory}
 use Rattle.service.specs.Called.{lentMemory, codeNumber}
 use Rattle.service.specs.declared.Counters.{Counters}
@@ -26,9 +25,6 @@ loadedNumber (some fault) = 1 + faultNumber fault
 unfoldable pub openedNumber : Opened → ℕ
 openedNumber Fresh = 0
 openedNumber WrongSize = 1
-
-unfoldable pub zeroCounters : Counters
-zeroCounters = countersOf (record { taken = 0; answered = 0; dropped = 0; counts = noCounts })
 
 abbrev pub numbered : CallAnswer → Answer
 numbered a = record { code = codeNumber (a .code); taken = a .taken; written = a .written }

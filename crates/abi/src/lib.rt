@@ -11,6 +11,7 @@ use service::Code;
 use service::Counters;
 use service::Refusal;
 use service::call::call;
+use service::counting::zero_counters;
 ghost use mathlib.Core.Path.{_≡_};
 ghost use Prim.Native.Nat.{_+_};
 ghost use Rattle.registry.specs.Roster.{faultNumber, loadRoster};
@@ -18,8 +19,9 @@ ghost use Rattle.connection.specs.Connection.{openConnection};
 ghost use Rattle.service.specs.Status.{refusalNumber};
 ghost use Rattle.service.specs.Call.{callOutcome};
 ghost use Rattle.service.specs.Called.{lentMemory, callWith, codeNumber};
+ghost use Rattle.service.specs.Counted.{zeroCounters};
 ghost use Rattle.billing.specs.Outcome.{billOutcome};
-ghost use Rattle.abi.specs.Numbers.{loadedNumber, openedNumber, zeroCounters, numbered, outcomeWith, billNumbered, billedWith};
+ghost use Rattle.abi.specs.Numbers.{loadedNumber, openedNumber, numbered, outcomeWith, billNumbered, billedWith};
 
 // What a call says: 0 if it was taken, else the C number; how many bytes of the chunk it took, and how many it wrote.
 #[repr(C)]
@@ -68,19 +70,6 @@ pub extern "C" fn razidkot_open_connection(memory: &mut [u8]) -> u32
     match open_connection(memory) {
         Opened::Fresh => 0,
         Opened::WrongSize => 1,
-    }
-}
-
-fn zero_counters() -> Counters
-    ensures { λ r. ⌜ r ≡ zeroCounters ⌝ }
-{
-    Counters {
-        taken: 0,
-        answered: 0,
-        dropped: 0,
-        served: [0; 8],
-        unauthenticated: 0,
-        refused: [0; 17],
     }
 }
 

@@ -1,8 +1,8 @@
 -- A chunk handed over until it is taken whole leaves in memory what the rules leave, and so does a stream read chunk by chunk.
-use mathlib.Core.Path.{_≡_, refl, sym, ap, _∙_, subst}
+use mathlib.Core.Path.{_≡_, sym, ap, _∙_, subst}
 use mathlib.Core.Bool.{true}
 use mathlib.Core.List.{List, [], _∷_, _++_, append-assoc, append-nil}
-use Prim.Native.Nat.{ℕ, _+_, _-_, _*_, _≤_, _<_, min}
+use Prim.Native.Nat.{ℕ, _+_, _-_, _≤_, _<_}
 use native.Mathlib.Omega.{arith}
 use borrow.Author.Tests.{eq-eqb}
 use lib.ListN.{length, take, drop, length-append, length-take, length-drop}
@@ -23,7 +23,8 @@ use Rattle.service.specs.Called.{lentMemory, callWith}
 use Rattle.service.proofs.Demand3.{lawful, accepts}
 use Rattle.service.specs.declared.Counters.{Counters}
 use Rattle.connection.specs.declared.change.Opened.{Opened}
-use Rattle.bill.specs.Stream.{ReadWithin, KeptWithin, zeroCounters, leftBy, Follows, Takes, After}
+use Rattle.service.specs.Counted.{zeroCounters}
+use Rattle.bill.specs.Stream.{ReadWithin, KeptWithin, leftBy, Follows, Takes, After}
 use Rattle.bill.specs.declared.files.Input.{Input}
 use Rattle.bill.specs.declared.files.Input.the-variants.{Bytes}
 

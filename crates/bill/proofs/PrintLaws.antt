@@ -1,10 +1,10 @@
 -- What is written is the bill of some two files.
 use mathlib.Core.Path.{_≡_, refl, sym, ap, _∙_, subst}
-use mathlib.Core.Bool.{Bool, true}
+use mathlib.Core.Bool.{true}
 use mathlib.Core.Option.{Option, none, some}
-use mathlib.Core.List.{List, [], _∷_, _++_}
+use mathlib.Core.List.{List, [], _∷_}
 use Prim.{⊥}
-use Prim.Native.Nat.{ℕ, _+_, _≤_}
+use Prim.Native.Nat.{ℕ, _≤_}
 use native.Mathlib.Omega.{arith}
 use borrow.Author.Tests.{le-ltb, eq-eqb}
 use denote.Enum.Declared.{tagOf}
@@ -16,7 +16,7 @@ use Rattle.wire.specs.Wrote.{over, Wrote}
 use Rattle.stream.specs.Rules.{State, rules}
 use Rattle.stream.proofs.KeptLaws.{rules-connection, rules-kept}
 use Rattle.connection.proofs.ConnectionLaws.{stored-good}
-use Rattle.registry.specs.Registry.{registrySize, registryOf}
+use Rattle.registry.specs.Registry.{registrySize}
 use Rattle.registry.specs.WellFormed.{wellFormedRegistry}
 use Rattle.registry.specs.Roster.{Roster, applications, faulty, rosterOf, RosterOutcome, rosterInto, loadRoster}
 use Rattle.registry.specs.Check.{loadedOf}

@@ -6,10 +6,8 @@ use mathlib.Core.List.{List, [], _++_}
 use lib.ListN.{length}
 use Rattle.stream.specs.Rules.{rules}
 use Rattle.registry.specs.WellFormed.{wellFormedRegistry}
-use Rattle.service.specs.Counters.{noCounts, countersOf}
 use Rattle.service.specs.Judgement.{judgement}
 use Rattle.service.specs.Call.{Memory, memoryOf, counterMost}
-use Rattle.service.specs.declared.Counters.{Counters}
 use Rattle.bill.specs.declared.files.Input.{Input}
 use Rattle.bill.specs.declared.files.Input.the-variants.{Bytes, End, Failed}
 
@@ -24,9 +22,6 @@ unfoldable pub KeptWithin : (most : ℕ) → Input → Type 0
 KeptWithin most (Bytes n) = n ≤ most
 KeptWithin most End = Unit {0}
 KeptWithin most Failed = Unit {0}
-
-unfoldable pub zeroCounters : Counters
-zeroCounters = countersOf (record { taken = 0; answered = 0; dropped = 0; counts = noCounts })
 
 -- what the rules leave in memory after a stream
 abbrev pub leftBy : (registry stream : List ℕ) → Memory

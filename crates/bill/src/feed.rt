@@ -6,6 +6,7 @@ use connection::change::open_connection;
 use service::Counters;
 use service::call::call_by_value;
 use service::call::counters_of;
+use service::counting::zero_counters;
 ghost use mathlib.Core.Bool.{true};
 ghost use mathlib.Core.Path.{_≡_};
 ghost use Prim.Native.Nat.{_≤_};
@@ -14,7 +15,7 @@ ghost use Rattle.connection.specs.Connection.{connectionSize};
 ghost use Rattle.registry.specs.WellFormed.{wellFormedRegistry};
 ghost use Rattle.service.specs.Call.{bufferLeast, chunkMost, counterMost};
 ghost use Rattle.service.specs.Called.{lentMemory};
-ghost use Rattle.bill.specs.Stream.{zeroCounters, Follows, Takes, After};
+ghost use Rattle.bill.specs.Stream.{Follows, Takes, After};
 
 // A stream that was read: the counters after it, and whether it could be read to its end.
 pub struct Taken {
@@ -41,19 +42,6 @@ fn feed(
         after = counters_of(o);
     }
     after
-}
-
-fn zero_counters() -> Counters
-    ensures { λ r. ⌜ r ≡ zeroCounters ⌝ }
-{
-    Counters {
-        taken: 0,
-        answered: 0,
-        dropped: 0,
-        served: [0; 8],
-        unauthenticated: 0,
-        refused: [0; 17],
-    }
 }
 
 // Runs a stream through the call, from a fresh connection and zero counters.

@@ -3,12 +3,12 @@
 use mathlib.Core.Path.{_≡_, refl, ap, ap₂, _∙_}
 use mathlib.Core.Bool.{true}
 use mathlib.Core.List.{List, [], _∷_, _++_}
-use Prim.Native.Nat.{ℕ, zero, suc, _-_, _<_}
+use Prim.Native.Nat.{ℕ, zero, suc, _-_}
 use native.Mathlib.Omega.{arith}
 use lib.ListN.{length, replicate}
 use Rattle.wire.specs.Lists.{all}
 use Rattle.wire.proofs.TestLaws.{and-left, and-right}
-use Rattle.stream.specs.Rules.{State, rules}
+use Rattle.stream.specs.Rules.{rules}
 use Rattle.stream.specs.Calls.{Call, takenStream}
 use Rattle.stream.proofs.KeptLaws.{rules-connection}
 use Rattle.stream.proofs.CallsLaws.{Lawful}
@@ -17,9 +17,9 @@ use Rattle.registry.specs.Roster.{applications, rosterOf}
 use Rattle.registry.proofs.NameLaws.{legal-some}
 use Rattle.registry.proofs.RosterLaws.{isLegal, LegalNames, roster-legal, registry-names, registry-good}
 use Rattle.service.specs.Judgement.{judgement}
-use Rattle.service.specs.Call.{Memory, stateIn, memoryOf, layout, fresh}
+use Rattle.service.specs.Call.{memoryOf, layout, fresh}
 use Rattle.service.specs.Bill.{billOf, billFor}
-use Rattle.service.proofs.Demand3.{FollowsRules, lawful}
+use Rattle.service.proofs.Demand3.{lawful}
 use Rattle.service.proofs.CodeDemand3.{Ran, Runs, answersIn, leftAfter, code-demand3}
 use Rattle.service.proofs.BillLaws.{rules-names}
 use Rattle.billing.specs.Text.{usedNames}

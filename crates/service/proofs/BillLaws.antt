@@ -8,7 +8,7 @@ use lib.ListN.{length, take}
 use Rattle.wire.specs.Request.{Request, requestOf}
 use Rattle.wire.proofs.TestLaws.{either}
 use Rattle.stream.specs.Frame.{oversized}
-use Rattle.stream.specs.Rules.{Verdict, Outcome, Progress, answer, finish, judge, rulesFrom, start, rules}
+use Rattle.stream.specs.Rules.{Verdict, Outcome, Progress, answer, finish, judge, start, rules}
 use Rattle.stream.proofs.AccountingLaws.{by-requests}
 use Rattle.registry.specs.Registry.{namesIn}
 use Rattle.registry.specs.WellFormed.{wellFormedRegistry}

@@ -1,7 +1,10 @@
 -- The counters after a call, in the reading copy's terms. No part of the reading copy.
 use Prim.Native.Nat.{ℕ, _+_}
-use Rattle.service.specs.Counters.{Counts, countersOf}
+use Rattle.service.specs.Counters.{Counts, noCounts, countersOf}
 use Rattle.service.specs.declared.Counters.{Counters}
+
+unfoldable pub zeroCounters : Counters
+zeroCounters = countersOf (record { taken = 0; answered = 0; dropped = 0; counts = noCounts })
 
 -- other counts of requests
 unfoldable pub withCounts : Counters → Counts → Counters

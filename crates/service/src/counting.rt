@@ -12,7 +12,21 @@ ghost use Rattle.service.specs.Counters.{totalsOf, countersOf, countServ
 ghost use Rattle.service.specs.Call.{counterMost};
 ghost use Rattle.service.specs.Decided.{lineOf};
 ghost use Rattle.service.specs.Answers.{AskerBelow};
-ghost use Rattle.service.specs.Counted.{withCounts, counted};
+ghost use Rattle.service.specs.Counted.{zeroCounters, withCounts, counted};
+
+// Nothing is counted yet.
+pub fn zero_counters() -> Counters
+    ensures { λ r. ⌜ r ≡ zeroCounters ⌝ }
+{
+    Counters {
+        taken: 0,
+        answered: 0,
+        dropped: 0,
+        served: [0; 8],
+        unauthenticated: 0,
+        refused: [0; 17],
+    }
+}
 
 // The largest of some counters.
 fn largest(counters: &[u64]) -> u64
