@@ -1,8 +1,8 @@
 -- What is written is the bill of some two files.
 use mathlib.Core.Path.{_≡_, refl, sym, ap, _∙_, subst}
-use mathlib.Core.Bool.{true}
+use mathlib.Core.Bool.{Bool, true, false}
 use mathlib.Core.Option.{Option, none, some}
-use mathlib.Core.List.{List, [], _∷_}
+use mathlib.Core.List.{List, [], _∷_, _++_}
 use Prim.{⊥}
 use Prim.Native.Nat.{ℕ, _≤_}
 use native.Mathlib.Omega.{arith}
@@ -13,10 +13,11 @@ use lib.ListN.{length, take, drop, length-append}
 use lib.Seq.{take-append-seam}
 use Rattle.wire.specs.Choice.{firstOf}
 use Rattle.wire.specs.Wrote.{over, Wrote}
-use Rattle.stream.specs.Rules.{State, rules}
+use Rattle.stream.specs.Rules.{rules}
 use Rattle.stream.proofs.KeptLaws.{rules-connection, rules-kept}
+use Rattle.connection.specs.Connection.{wellFormedConnection}
 use Rattle.connection.proofs.ConnectionLaws.{stored-good}
-use Rattle.registry.specs.Registry.{registrySize}
+use Rattle.registry.specs.Registry.{registrySize, registryOf}
 use Rattle.registry.specs.WellFormed.{wellFormedRegistry}
 use Rattle.registry.specs.Roster.{Roster, applications, faulty, rosterOf, RosterOutcome, rosterInto, loadRoster}
 use Rattle.registry.specs.Check.{loadedOf}
@@ -24,7 +25,7 @@ use Rattle.registry.specs.declared.RosterFault.{RosterFault}
 use Rattle.registry.specs.declared.roster.Loaded.{Loaded}
 use Rattle.registry.specs.declared.roster.Loaded.the-variants as loaded
 use Rattle.registry.proofs.RosterLaws.{roster-legal, registry-good}
-use Rattle.service.specs.Counters.{Counts, largestCount}
+use Rattle.service.specs.Counters.{largestCount}
 use Rattle.service.specs.Judgement.{judgement}
 use Rattle.service.specs.Call.{Memory, memoryOf}
 use Rattle.service.specs.Bill.{billFor, bill}
@@ -35,7 +36,7 @@ use Rattle.billing.specs.declared.Billed.the-variants.{Written, BufferTooSmall,
 use Rattle.billing.proofs.Billed.{the-type}
 use Rattle.billing.proofs.RulesLaws.{bill-by-rules}
 use Rattle.bill.specs.Stream.{leftBy, After}
-use Rattle.bill.specs.Printed.{noFile, refusedRoster, Started, Refused, SourceOf, Prints}
+use Rattle.bill.specs.Printed.{noFile, refusedRoster, faultyText, takenText, Started, Refused, SourceOf, Prints}
 use Rattle.bill.specs.declared.text.Source.{Source}
 use Rattle.bill.specs.declared.text.Source.the-variants as source
 
@@ -53,10 +54,11 @@ pub no-file-prints : {d e : List ℕ} {r : ℕ} → Wrote noFile d e r → Print
 unfolding bill noFile
 no-file-prints w = prints none none w refl
 
--- the line of a refused roster file; the stream can be read
-pub refused-prints : (fault : RosterFault) {d e : List ℕ} {r : ℕ} → Refused fault → Wrote (refusedRoster fault) d e r → Prints e r
-unfolding bill billFor refusedRoster
-refused-prints fault f w = prints (some (f .file)) (some []) w (rw (f .first))
+-- a refused roster file, and a stream that can be read or not
+pub faulty-prints : (fault : RosterFault) (isWhole : Bool) {d e : List ℕ} {r : ℕ} → Refused fault → Wrote (faultyText fault isWhole) d e r → Prints e r
+unfolding bill billFor refusedRoster faultyText
+faulty-prints fault true f w = prints (some (f .file)) (some []) w (rw (f .first))
+faulty-prints fault false f w = no-file-prints w
 
 -- ---- a roster file that was loaded
 
@@ -80,25 +82,7 @@ source-of file memory after l size e kept = go (rosterOf file) refl
         (record { file = file; names = names; good = q; start = kept ∙ ap (λ (o : RosterOutcome). o .registry) (into (applications names) q) })
     go (faulty fault) q = rw (told (faulty fault) q) (record { file = file; first = q })
 
--- ---- the bill of a stream
-
-pub started-good : (registry : List ℕ) → Started registry → wellFormedRegistry registry ≡ true
-started-good registry s = ap wellFormedRegistry (s .start) ∙ registry-good (s .names) (roster-legal (s .file) (s .names) (s .good))
-
-module _ (registry : List ℕ) (good : wellFormedRegistry registry ≡ true) (stream d : List ℕ) (room : billMost ≤ length d) where
-  written : BillOutcome
-  written = record { answer = Written (length (billIn (leftBy registry stream))); out = over (billIn (leftBy registry stream)) d }
-
-  -- what the rules leave has a bill
-  billed : billOutcome d (leftBy registry stream) ≡ written
-  unfolding written billOutcome outcomeOf firstOf refusalTests memoryOf
-  billed =
-      let s : State (List ℕ) Counts = rules judgement registry stream .state in
-      rw (
-        le-ltb (length d) billMost room,
-        stored-good (s .connection) (rules-connection judgement registry stream),
-        rules-kept largestCount wellFormedRegistry judgement keeps registry good stream .good,
-      )
+-- ---- the bill of well-formed memory
 
 sizeOf : Billed → ℕ
 sizeOf (Written n) = n
@@ -106,24 +90,55 @@ sizeOf BufferTooSmall = 0
 sizeOf ConnectionIllFormed = 0
 sizeOf RegistryIllFormed = 0
 
-module _ (registry d e : List ℕ) (answer : Billed) (m : Memory) (most : ℕ) (room : billMost ≤ length d) (s : Started registry) (a : After registry most m)
-    (says : record { answer = answer; out = e } ≡ billOutcome d m) where
-  outcome : record { answer = answer; out = e } ≡ written registry (started-good registry s) (a .stream) d room
-  outcome = says ∙ ap (billOutcome d) (a .memory) ∙ billed registry (started-good registry s) (a .stream) d room
+module _ (d e : List ℕ) (answer : Billed) (m : Memory) (room : billMost ≤ length d) (connected : wellFormedConnection (m .connection) ≡ true)
+    (registered : wellFormedRegistry (m .registry) ≡ true) (says : record { answer = answer; out = e } ≡ billOutcome d m) where
+  written : BillOutcome
+  written = record { answer = Written (length (billIn m)); out = over (billIn m) d }
 
-  pub bill-prints : (n : ℕ) → answer ≡ Written n → Prints e n
-  unfolding written sizeOf bill
-  bill-prints n w =
-      let text : List ℕ = billIn (leftBy registry (a .stream)) in
-      let wrote : Wrote text d e n = record {
-        count = sym (ap sizeOf w) ∙ ap (λ (o : BillOutcome). sizeOf (o .answer)) outcome;
-        bytes = ap (λ (o : BillOutcome). o .out) outcome;
-      } in
-      prints (some (s .file)) (some (a .stream)) wrote
-      (rw (s .good) (ap (λ (r : List ℕ). billIn (leftBy r (a .stream))) (s .start) ∙ bill-by-rules (s .names) (roster-legal (s .file) (s .names) (s .good)) (a .stream)))
+  outcome : record { answer = answer; out = e } ≡ written
+  unfolding written billOutcome outcomeOf firstOf refusalTests
+  outcome = says ∙ rw (le-ltb (length d) billMost room, connected, registered)
+
+  pub bill-wrote : (n : ℕ) → answer ≡ Written n → Wrote (billIn m) d e n
+  unfolding written sizeOf
+  bill-wrote n w = record {
+    count = sym (ap sizeOf w) ∙ ap (λ (o : BillOutcome). sizeOf (o .answer)) outcome;
+    bytes = ap (λ (o : BillOutcome). o .out) outcome;
+  }
 
   -- no other answer is given
   pub always-written : OneOf (1 ∷ 2 ∷ 3 ∷ []) (tagOf the-type answer) → ⊥
   unfolding written
   always-written other =
       miss (1 ∷ 2 ∷ 3 ∷ []) 0 tt (subst (λ (x : Billed). OneOf (1 ∷ 2 ∷ 3 ∷ []) (tagOf the-type x)) (ap (λ (o : BillOutcome). o .answer) outcome) other)
+
+-- ---- the bill of a stream
+
+pub started-good : (registry : List ℕ) → Started registry → wellFormedRegistry registry ≡ true
+started-good registry s = ap wellFormedRegistry (s .start) ∙ registry-good (s .names) (roster-legal (s .file) (s .names) (s .good))
+
+module _ (registry : List ℕ) (started : Started registry) (most : ℕ) (m : Memory) (a : After registry most m) where
+  pub after-connected : wellFormedConnection (m .connection) ≡ true
+  unfolding memoryOf
+  after-connected =
+      ap (λ (x : Memory). wellFormedConnection (x .connection)) (a .memory)
+      ∙ stored-good (rules judgement registry (a .stream) .state .connection) (rules-connection judgement registry (a .stream))
+
+  pub after-registered : wellFormedRegistry (m .registry) ≡ true
+  unfolding memoryOf
+  after-registered =
+      ap (λ (x : Memory). wellFormedRegistry (x .registry)) (a .memory)
+      ∙ rules-kept largestCount wellFormedRegistry judgement keeps registry (started-good registry started) (a .stream) .good
+
+  by-rules : billIn m ≡ bill (some (started .file)) (some (a .stream))
+  unfolding bill
+  by-rules =
+      rw (started .good)
+      (ap billIn (a .memory)
+      ∙ ap (λ (r : List ℕ). billIn (leftBy r (a .stream))) (started .start)
+      ∙ bill-by-rules (started .names) (roster-legal (started .file) (started .names) (started .good)) (a .stream))
+
+  pub taken-prints : (isWhole : Bool) {d e : List ℕ} {r : ℕ} → Wrote (takenText isWhole m) d e r → Prints e r
+  unfolding takenText
+  taken-prints true w = prints (some (started .file)) (some (a .stream)) w by-rules
+  taken-prints false w = no-file-prints w

@@ -2,6 +2,7 @@
 -- file has, so that the files are some two.
 use Prim.Native.Nat.{ℕ, _≤_}
 use mathlib.Core.Path.{_≡_}
+use mathlib.Core.Bool.{Bool, true, false}
 use mathlib.Core.Option.{Option, none, some}
 use mathlib.Core.List.{List, [], _++_}
 use lib.ListN.{length, take}
@@ -9,6 +10,8 @@ use Rattle.registry.specs.Registry.{registryOf}
 use Rattle.registry.specs.Roster.{faultNumber, applications, faulty, rosterOf}
 use Rattle.registry.specs.declared.RosterFault.{RosterFault}
 use Rattle.service.specs.Text.{ascii}
+use Rattle.service.specs.Call.{Memory}
+use Rattle.billing.specs.Outcome.{billIn}
 use Rattle.service.specs.Bill.{decimal, textLine, bill}
 use Rattle.bill.specs.declared.text.Source.{Source}
 use Rattle.bill.specs.declared.text.Source.the-variants.{Good, Faulty, Unreadable}
@@ -18,6 +21,15 @@ noFile = textLine (ascii "no file") []
 
 unfoldable pub refusedRoster : RosterFault → List ℕ
 refusedRoster fault = ascii "roster R" ++ textLine (decimal (faultNumber fault)) []
+
+-- what is printed for a refused roster file and for a good one, by whether the stream could be read to its end
+unfoldable pub faultyText : RosterFault → (isWhole : Bool) → List ℕ
+faultyText fault true = refusedRoster fault
+faultyText fault false = noFile
+
+unfoldable pub takenText : (isWhole : Bool) → Memory → List ℕ
+takenText true m = billIn m
+takenText false m = noFile
 
 -- a registry without keys, of the names in some good roster file
 pub record Started (registry : List ℕ) : Type 0 where

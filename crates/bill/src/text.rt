@@ -1,4 +1,5 @@
 // What is printed: the bill, or the one line that stands for it.
+use crate::feed::Taken;
 use crate::feed::take_stream;
 use crate::files::Input;
 use crate::files::read_front;
@@ -13,14 +14,18 @@ use billing::whole::write_bill;
 use registry::RosterFault;
 use registry::roster::Loaded;
 use registry::roster::load_roster;
+ghost use mathlib.Core.Bool.{true};
 ghost use mathlib.Core.Path.{_≡_};
 ghost use Prim.Native.Nat.{_≤_};
 ghost use lib.ListN.{length};
 ghost use Rattle.wire.specs.Wrote.{Wrote};
+ghost use Rattle.connection.specs.Connection.{wellFormedConnection};
+ghost use Rattle.registry.specs.WellFormed.{wellFormedRegistry};
 ghost use Rattle.registry.specs.Registry.{registrySize};
 ghost use Rattle.registry.specs.Roster.{faultNumber};
+ghost use Rattle.service.specs.Called.{lentMemory};
 ghost use Rattle.billing.specs.Outcome.{billMost};
-ghost use Rattle.bill.specs.Printed.{noFile, refusedRoster, Started, SourceOf, Prints};
+ghost use Rattle.bill.specs.Printed.{noFile, faultyText, takenText, Started, SourceOf, Prints};
 
 // What becomes of a roster file.
 enum Source {
@@ -49,14 +54,33 @@ fn fault_number(fault: RosterFault) -> u64
     }
 }
 
-// The line of a refused roster, as `roster R3`.
-fn write_refused(out: &mut [u8], fault: RosterFault) -> usize
+// The line of a refused roster, as `roster R3`; a stream that can't be read comes before it.
+fn write_faulty(out: &mut [u8], fault: RosterFault, is_whole: bool) -> usize
     requires { ⌜ billMost ≤ length (now out) ⌝ }
-    ensures { λ r. ⌜ Wrote (refusedRoster fault) (now (out .entry)) (now (out .exit)) r ⌝ }
+    ensures { λ r. ⌜ Wrote (faultyText fault «is_whole») (now (out .entry)) (now (out .exit)) r ⌝ }
 {
+    if !is_whole {
+        return write_no_file(out);
+    }
     let named = write_word(out, 0, b"roster R");
     let numbered = write_decimal(out, named, fault_number(fault));
     write_word(out, numbered, b"\n")
+}
+
+// The bill of what a stream left in memory, if it could be read.
+fn write_taken(out: &mut [u8], taken: Taken, registry: &[u8], connection: &[u8]) -> usize
+    requires { ⌜ (billMost ≤ length (now out)) × (wellFormedConnection (now connection) ≡ true) × (wellFormedRegistry (now registry) ≡ true) ⌝ }
+    ensures { λ r. ⌜ Wrote (takenText (taken .«is_whole») (lentMemory (now (connection .entry)) (now (registry .entry)) (taken .counters))) (now (out .entry)) (now (out .exit)) r ⌝ }
+{
+    if !taken.is_whole {
+        return write_no_file(out);
+    }
+    let counters = taken.counters;
+    match write_bill(out, counters, registry, connection) {
+        Billed::Written(size) => size,
+        // Never: there is room, and memory is well formed.
+        _ => 0,
+    }
 }
 
 // Reads a roster file into memory lent for the registry.
@@ -81,15 +105,7 @@ fn write_stream(out: &mut [u8], registry: &mut [u8], stream: i32) -> usize
 {
     let mut connection = connection_memory();
     let taken = take_stream(stream, &mut connection, registry);
-    if !taken.is_whole {
-        return write_no_file(out);
-    }
-    let counters = taken.counters;
-    match write_bill(out, counters, registry, &connection) {
-        Billed::Written(size) => size,
-        // Never: the calls leave a bill.
-        _ => 0,
-    }
+    write_taken(out, taken, registry, &connection)
 }
 
 // The text for two files; one that isn't open, below 0, is unreadable. Either file unreadable comes before a faulty roster,
@@ -107,12 +123,7 @@ pub fn write_text(out: &mut [u8], roster: i32, stream: i32) -> usize
     let mut registry = registry_memory();
     match read_roster(roster, &mut registry) {
         Source::Unreadable => write_no_file(out),
-        Source::Faulty(fault) => {
-            if !read_rest(stream) {
-                return write_no_file(out);
-            }
-            write_refused(out, fault)
-        }
+        Source::Faulty(fault) => write_faulty(out, fault, read_rest(stream)),
         Source::Good => write_stream(out, &mut registry, stream),
     }
 }

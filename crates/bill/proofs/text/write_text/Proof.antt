@@ -2,7 +2,7 @@
 use mathlib.Core.Path.{subst}
 use native.Mathlib.Omega.{arith}
 use Rattle.bill.specs.Printed.{SourceOf}
-use Rattle.bill.proofs.PrintLaws.{no-file-prints, refused-prints}
+use Rattle.bill.proofs.PrintLaws.{no-file-prints, faulty-prints}
 use borrow.Author.Needs.{needs}
 use Rattle.bill.proofs.text.write_text.Statement.{statement}
 use Rattle.bill.proofs.text.write_text.Tie as tie
@@ -46,17 +46,8 @@ enum-known-fault c = search needs
 read-rest-requires : tie.Need-read-rest-requires
 read-rest-requires c κs = search needs
 
-write-no-file-requires-4 : tie.Need-write-no-file-requires-4
-write-no-file-requires-4 c κs = search needs
-
-same-length-3 : tie.Need-same-length-3
-same-length-3 c = search needs
-
-returns-3 : tie.Need-returns-3
-returns-3 c = no-file-prints (c .before .before .write-no-file4 .ensures)
-
-write-refused-requires : tie.Need-write-refused-requires
-write-refused-requires c κs = search needs
+write-faulty-requires : tie.Need-write-faulty-requires
+write-faulty-requires c κs = search needs
 
 enum-told-2 : tie.Need-enum-told-2
 enum-told-2 c = search needs
@@ -70,27 +61,27 @@ write-stream-requires c κs =
     let read = c .before .before .before .before .before .read-roster in
     (omega arith, subst (SourceOf (read .last .1 .0)) (c .before .before .enum-told2 .given .1) (read .ensures))
 
+same-length-3 : tie.Need-same-length-3
+same-length-3 c = search needs
+
+returns-3 : tie.Need-returns-3
+returns-3 c = no-file-prints (c .before .before .write-no-file3 .ensures)
+
 same-length-4 : tie.Need-same-length-4
 same-length-4 c = search needs
 
 returns-4 : tie.Need-returns-4
-returns-4 c = no-file-prints (c .before .before .write-no-file3 .ensures)
+unfolding SourceOf
+returns-4 c =
+    let known = c .before .before .before .before .before .before in
+    let read = known .before .before .before .read-roster in
+    faulty-prints _ _ (subst (SourceOf (read .last .1 .0)) (known .fault .given .1) (read .ensures)) (c .before .before .write-faulty .ensures)
 
 same-length-5 : tie.Need-same-length-5
 same-length-5 c = search needs
 
 returns-5 : tie.Need-returns-5
-unfolding SourceOf
-returns-5 c =
-    let known = c .before .before .before .before .before .before .before in
-    let read = known .before .before .before .read-roster in
-    refused-prints _ (subst (SourceOf (read .last .1 .0)) (known .fault .given .1) (read .ensures)) (c .before .before .write-refused .ensures)
-
-same-length-6 : tie.Need-same-length-6
-same-length-6 c = search needs
-
-returns-6 : tie.Need-returns-6
-returns-6 c = search needs
+returns-5 c = search needs
 
 pub write-text-spec : {M : Type 1} → statement M
 write-text-spec =
@@ -109,16 +100,13 @@ write-text-spec =
     write-no-file-requires-3
     enum-known-fault
     read-rest-requires
-    write-no-file-requires-4
-    same-length-3
-    returns-3
-    write-refused-requires
+    write-faulty-requires
     enum-told-2
     slice-aggregate-write-stream
     write-stream-requires
+    same-length-3
+    returns-3
     same-length-4
     returns-4
     same-length-5
-    returns-5
-    same-length-6
-    returns-6)
+    returns-5)
