@@ -2,7 +2,7 @@
 use mathlib.Core.Path.{_≡_, refl, sym, ap, _∙_, subst}
 use mathlib.Core.Bool.{Bool, true, false}
 use mathlib.Core.Option.{Option, none, some}
-use mathlib.Core.List.{List, [], _∷_, _++_}
+use mathlib.Core.List.{List, [], _∷_}
 use Prim.{⊥}
 use Prim.Native.Nat.{ℕ, _≤_}
 use native.Mathlib.Omega.{arith}
@@ -17,7 +17,7 @@ use Rattle.stream.specs.Rules.{rules}
 use Rattle.stream.proofs.KeptLaws.{rules-connection, rules-kept}
 use Rattle.connection.specs.Connection.{wellFormedConnection}
 use Rattle.connection.proofs.ConnectionLaws.{stored-good}
-use Rattle.registry.specs.Registry.{registrySize, registryOf}
+use Rattle.registry.specs.Registry.{registrySize}
 use Rattle.registry.specs.WellFormed.{wellFormedRegistry}
 use Rattle.registry.specs.Roster.{Roster, applications, faulty, rosterOf, RosterOutcome, rosterInto, loadRoster}
 use Rattle.registry.specs.Check.{loadedOf}
