@@ -10,7 +10,8 @@ ghost use Rattle.registry.specs.Registry.{registrySize};
 ghost use Rattle.billing.specs.Outcome.{billMost};
 
 // Room for all of a roster file that decides whether it is good, and how: at most eight good records of 3 + 64 bytes,
-// and then a ninth record, which is faulty and has at most 3 + 65,535 bytes.
+// and then a ninth record, which is faulty and has at most 3 + 65,535 bytes. What is behind that of a longer file can't
+// matter: `front-decides` in proofs/FrontLaws.antt.
 pub const ROSTER_MOST: usize = LINES * 67 + 65538;
 
 pub fn roster_front() -> [u8; ROSTER_MOST]
