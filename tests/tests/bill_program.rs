@@ -2,7 +2,7 @@
 
 use razidkot::LONGEST_CHUNK;
 use razidkot_tests::ask::{registry_of, request, PING};
-use razidkot_tests::bill::{letters, ping, printed_from_pipe, roster_of, text, Folder};
+use razidkot_tests::bill::{letters, ping, printed, printed_from_pipe, roster_of, text, Folder};
 use razidkot_tests::generate::{mutated, name, some_roster, Random};
 use razidkot_tests::requests::{applications, requests, with_lengths};
 use razidkot_tests::run::{for_seeds, shortest, Outcomes};
@@ -11,6 +11,20 @@ use std::path::Path;
 
 fn folder(test: &str) -> Folder {
     Folder::new(env!("CARGO_TARGET_TMPDIR"), test)
+}
+
+// ---- the samples
+
+#[test]
+fn the_samples_have_the_bills_beside_them() {
+    let samples = Path::new(env!("CARGO_MANIFEST_DIR")).join("../samples");
+    let roster = samples.join("servers.roster");
+    for name in ["day", "closed"] {
+        let stream = samples.join(format!("{name}.stream"));
+        let expected =
+            std::fs::read(samples.join(format!("{name}.bill"))).expect("a sample's bill");
+        assert_eq!(text(printed(&[roster.clone(), stream])), text(expected));
+    }
 }
 
 // ---- generated pairs of files
