@@ -101,8 +101,8 @@ fn send_and_read(socket: &UnixStream, stream: &[u8], size: usize) -> Vec<u8> {
 }
 
 pub fn send(mut socket: &UnixStream, stream: &[u8], size: usize) {
-    for piece in stream.chunks(size) {
-        socket.write_all(piece).expect("a server that reads");
+    for part in stream.chunks(size) {
+        socket.write_all(part).expect("a server that reads");
     }
 }
 
