@@ -1,5 +1,6 @@
--- DEMAND 3 OF THE CODE, as one claim: any list of calls of `service::call::call`, each step being that function's contract word
--- for word. Every function of the proved crate meets its contract, so that whatever the code does is such a list.
+-- DEMAND 3 OF THE CODE, as one claim: any list of calls of `service::call::call`, each step being the contract of that function,
+-- the very definition (`CallContract`) that its `ensures` cites. Every function of a proved crate meets its contract, so that
+-- whatever the code does is such a list.
 use Prim.{⊥}
 use Prim.Native.Nat.{ℕ, zero, suc, _+_, _≤_}
 use mathlib.Core.Path.{_≡_, refl, sym, ap, subst, _∙_}
@@ -11,7 +12,7 @@ use Rattle.stream.proofs.DeliveryLaws.{within}
 use Rattle.registry.specs.WellFormed.{wellFormedRegistry}
 use Rattle.service.specs.Judgement.{judgement}
 use Rattle.service.specs.Call.{Memory, layout, fresh, bufferLeast, chunkMost, counterMost, refusalOf, callOutcome, callsOutcome}
-use Rattle.service.specs.Called.{lentMemory, callWith, codeNumber, outcomeOf, outcomeWith}
+use Rattle.service.specs.Called.{lentMemory, callWith, codeNumber, CallContract}
 use Rattle.service.specs.declared.Counters.{Counters}
 use Rattle.service.specs.declared.CallAnswer.{CallAnswer}
 use Rattle.service.proofs.Demand3.{FollowsRules, TakenWhole, demand3}
@@ -26,14 +27,12 @@ pub record Ran : Type 0 where
   pub counters : Counters
   pub response : List ℕ
 
--- the contract of `call`
-abbrev pub Contract : Memory → Call → Ran → Type 0
-Contract m call r =
-    outcomeWith (outcomeOf (r .says) (r .counters)) (r .connection) (r .registry) (r .response)
-    ≡ callOutcome (lentMemory (m .connection) (m .registry) (m .counters)) (callWith (call .chunk) (call .buffer))
-
 abbrev pub leftBy : Ran → Memory
 leftBy r = lentMemory (r .connection) (r .registry) (r .counters)
+
+-- the contract of `call`
+abbrev pub Contract : Memory → Call → Ran → Type 0
+Contract m call r = CallContract m call (r .says) (leftBy r) (r .response)
 
 -- one call after the other
 abbrev pub Runs : Memory → List Call → List Ran → Type 0

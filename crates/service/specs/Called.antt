@@ -1,10 +1,11 @@
 -- What the code says of a call, in the reading copy's terms. No part of the reading copy.
 use Prim.Native.Nat.{ℕ}
+use mathlib.Core.Path.{_≡_}
 use mathlib.Core.Option.{Option, none, some}
 use mathlib.Core.List.{List}
 use Rattle.stream.specs.Calls.{Call, CallOutcome}
 use Rattle.service.specs.Status.{refusalNumber}
-use Rattle.service.specs.Call.{Memory}
+use Rattle.service.specs.Call.{Memory, callOutcome}
 use Rattle.service.specs.declared.Counters.{Counters}
 use Rattle.service.specs.declared.Refusal.{Refusal}
 use Rattle.service.specs.declared.Code.{Code}
@@ -41,3 +42,9 @@ answerOf o = record { code = o .code; taken = o .taken; written = o .written }
 
 abbrev pub outcomeOf : CallAnswer → Counters → Outcome
 outcomeOf a counters = record { code = a .code; taken = a .taken; written = a .written; counters = counters }
+
+-- THE CONTRACT OF A CALL, which demand 3 of the code has as its single step: all that the call says and leaves is the
+-- definition's outcome
+abbrev pub CallContract : (before : Memory) → Call → CallAnswer → (after : Memory) (buffer : List ℕ) → Type 0
+CallContract before call says after buffer =
+    outcomeWith (outcomeOf says (after .counters)) (after .connection) (after .registry) buffer ≡ callOutcome before call

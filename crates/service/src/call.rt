@@ -8,7 +8,7 @@ use crate::refusals::judge_call;
 use crate::serve::serve;
 ghost use mathlib.Core.Path.{_≡_};
 ghost use Rattle.service.specs.Call.{callOutcome};
-ghost use Rattle.service.specs.Called.{lentMemory, callWith, outcomeWith, answerOf, outcomeOf};
+ghost use Rattle.service.specs.Called.{lentMemory, callWith, outcomeWith, answerOf, CallContract};
 ghost use Rattle.service.specs.declared.Code.the-variants.{Taken};
 
 // A refused call takes nothing, writes nothing and alters nothing.
@@ -79,7 +79,7 @@ pub fn call(
     counters: &mut Counters,
     response: &mut [u8],
 ) -> CallAnswer
-    ensures { λ r. ⌜ outcomeWith (outcomeOf r (now (counters .exit))) (now (connection .exit)) (now (registry .exit)) (now (response .exit)) ≡ callOutcome (lentMemory (now (connection .entry)) (now (registry .entry)) (now (counters .entry))) (callWith (now (chunk .entry)) (now (response .entry))) ⌝ }
+    ensures { λ r. ⌜ CallContract (lentMemory (now (connection .entry)) (now (registry .entry)) (now (counters .entry))) (callWith (now (chunk .entry)) (now (response .entry))) r (lentMemory (now (connection .exit)) (now (registry .exit)) (now (counters .exit))) (now (response .exit)) ⌝ }
 {
     let o = call_by_value(chunk, connection, registry, *counters, response);
     *counters = counters_of(o);

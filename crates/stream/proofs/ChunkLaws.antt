@@ -7,8 +7,8 @@ use mathlib.Core.List.{List, [], _∷_, _++_, append-assoc, append-nil}
 use native.Mathlib.Omega.{arith}
 use lib.ListN.{length, take, length-append}
 use lib.Seq.{take-append-le, take-append-add, take-length}
-use lib.Dec.{leb, ltb, eqb}
-use borrow.Author.Tests.{ltb-true, ltb-false, leb-true, leb-false, lt-leb, le-leb}
+use lib.Dec.{leb, eqb}
+use borrow.Author.Tests.{leb-true, leb-false, lt-leb, le-leb}
 use Rattle.wire.specs.Request.{headerSize, contentLength, authLength, headerLength, requestLength}
 use Rattle.wire.proofs.TestLaws.{and-left, and-right}
 use Rattle.stream.specs.Frame.{legalStart, oversized, Next, unfinished, badStart, skipped, whole, next}
@@ -489,53 +489,10 @@ module _ {Reg Count Out : Type 0} (J : Judgement Reg Count Out) where
     call-whole n q =
         call-open s held chunk e (unfinished-held held u) ∙ ap (openEffect s (length held) (length chunk) (held ++ chunk)) q
 
--- the differences in these laws are exact: what is held ends before the request, and the request lies in the bytes
-pub bad-fits : (held chunk : List ℕ) → next held ≡ unfinished → next (held ++ chunk) ≡ badStart
-    → (length held < 6) × (6 - length held ≤ length chunk)
-bad-fits held chunk u n =
-    let (h, l) = bad-found (held ++ chunk) n in
-    let few : length held < 6 = bad-behind held chunk (unfinished-held held u) l in
-    let k : length (held ++ chunk) ≡ length held + length chunk = length-append held chunk in
-    (few, omega arith)
-
-pub whole-fits : (held chunk : List ℕ) (n : ℕ) → next held ≡ unfinished → next (held ++ chunk) ≡ whole n
-    → (length held < n) × (n - length held ≤ length chunk)
-whole-fits held chunk n u q =
-    let (l, r, h) = whole-found (held ++ chunk) n q in
-    let few : length held < requestLength (held ++ chunk) = whole-behind held chunk (unfinished-held held u) l in
-    let k : length (held ++ chunk) ≡ length held + length chunk = length-append held chunk in
-    (omega arith, omega arith)
-
--- ---- LAW 4: any connection that is well formed
-
+-- a well-formed connection that skips has bytes to go
 pub skipping-more : (header : List ℕ) (toGo : ℕ) → wellFormed (skipping header toGo) ≡ true → 1 ≤ toGo
 unfolding wellFormed
 skipping-more header toGo h =
     leb-true 1 toGo (and-right (leb 6 (length header) && legalStart header && eqb (length header) (headerLength header) && oversized header) (leb 1 toGo)
     (and-left (leb 6 (length header) && legalStart header && eqb (length header) (headerLength header) && oversized header && leb 1 toGo)
     (leb toGo (contentLength header + authLength header)) h))
-
-module _ {Reg Count Out : Type 0} (J : Judgement Reg Count Out) where
-  -- what a call does, by the connection
-  unfoldable pub callEffect : State Reg Count → List ℕ → Connection → Effect Reg Count Out
-  callEffect s chunk (opened held) = openEffect J s (length held) (length chunk) (held ++ chunk) (next (held ++ chunk))
-  callEffect s chunk (skipping header toGo) = elim (ltb (length chunk) toGo) [
-    | true ↦ waiting s (length chunk) (skipping header (toGo - length chunk))
-    | false ↦ answering s toGo (requestLength header) (J .onOversized (s .registry) (s .totals .counts) header) (opened [])
-  ]
-  callEffect s chunk closed = dropping s (length chunk)
-
-  pub callRule-step : (s : State Reg Count) (chunk : List ℕ) → wellFormed (s .connection) ≡ true
-      → callRule J s chunk ≡ callEffect s chunk (s .connection)
-  unfolding callEffect wellFormed
-  callRule-step s chunk well = go (s .connection) refl well
-    where
-      go : (c : Connection) → s .connection ≡ c → wellFormed c ≡ true → callRule J s chunk ≡ callEffect s chunk c
-      go (opened held) e w = call-open J s held chunk e (unfinished-held held (unfinished-next held w))
-      go (skipping header toGo) e w = size (ltb (length chunk) toGo) refl
-        where
-          size : (b : Bool) → ltb (length chunk) toGo ≡ b → callRule J s chunk ≡ callEffect s chunk (skipping header toGo)
-          size true t = rw (t, callEffect) (call-skips J s header toGo chunk e (ltb-true _ _ t))
-          size false t =
-              rw (t, callEffect) (call-skipped J s header toGo chunk e (skipping-more header toGo w) (ltb-false _ _ t))
-      go closed e w = call-closed J s chunk e

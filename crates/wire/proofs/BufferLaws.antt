@@ -4,16 +4,11 @@ use mathlib.Core.List.{List, [], _∷_, _++_, append-assoc, append-nil}
 use Prim.Native.Nat.{ℕ, zero, suc, _+_, _-_, _≤_, _<_}
 use native.Mathlib.Omega.{arith}
 use native.Mathlib.Numerals.{add-one}
-use native.Mathlib.Nat.{zero-add}
 use borrow.Rule.Slice.PartMut.{putMid}
 use lib.ListN.{length, take, drop, set, getD, replicate, length-append, length-drop, drop-of-length-le}
-use lib.Seq.{sets, sets-eq, take-at, drop-at, drop-drop, take-length, take-all, take-append-seam, drop-append-add}
+use lib.Seq.{take-at, drop-at, drop-drop, take-length, take-all, take-append-seam, drop-append-add}
 use Rattle.wire.specs.Lists.{padded, put}
 use Rattle.wire.specs.Wrote.{over, Wrote}
-
--- a run of stores from index 0
-pub stores : (vs d : List ℕ) → length vs ≤ length d → sets d 0 vs ≡ over vs d
-stores vs d h = simp zero-add at (sets-eq vs d 0 (omega arith))
 
 pub length-over : (s d : List ℕ) → length s ≤ length d → length (over s d) ≡ length d
 length-over s d h = simp (length-append, length-drop) (omega arith)
