@@ -19,9 +19,9 @@ use Rattle.stream.proofs.CallLaws.{call-responds, call-goes-on}
 use Rattle.connection.specs.Connection.{wellFormedConnection}
 use Rattle.connection.proofs.ConnectionLaws.{store-load}
 use Rattle.registry.specs.WellFormed.{wellFormedRegistry}
-use Rattle.service.specs.Counters.{Counts, totalsOf, countersOf}
+use Rattle.service.specs.Counters.{Counts, totalsOf, countersOf, largestCounter}
 use Rattle.service.specs.Judgement.{refusedEarly, judgement}
-use Rattle.service.specs.Call.{Memory, stateIn, memoryOf, layout, bufferLeast, refusalTests, codeOf, refusalOf, callOutcome}
+use Rattle.service.specs.Call.{Memory, stateIn, memoryOf, layout, bufferLeast, counterMost, refusalTests, codeOf, refusalOf, callOutcome}
 use Rattle.service.specs.Served.{Ready}
 use Rattle.service.specs.declared.Refusal.{Refusal}
 use Rattle.service.proofs.JudgementLaws.{keeps}
@@ -83,12 +83,16 @@ call-short s w (b ∷ chunk) = go (λ t v. call-short t v chunk) (byteRule judge
 
 -- ---- a call that is not refused has passed the five tests
 
+pub record Passed (m : Memory) (call : Call) : Type 0 where
+  pub ready : Ready (m .connection) (m .registry) (call .chunk) (call .buffer)
+  pub counters-good : largestCounter (m .counters) ≤ counterMost
+
 no-code : (o : Option Refusal) → codeOf o ≡ none → o ≡ none
 unfolding codeOf
 no-code none e = refl
 no-code (some r) e = absurd (some≢none _ e)
 
-pub passed : (m : Memory) (call : Call) → refusalOf m call ≡ none → Ready m (call .chunk) (call .buffer)
+pub passed : (m : Memory) (call : Call) → refusalOf m call ≡ none → Passed m call
 unfolding refusalOf refusalTests
 passed m call e =
     let (c1, e₁) = none-first _ _ _ (no-code (firstOf (refusalTests m call)) e) in
@@ -97,10 +101,13 @@ passed m call e =
     let (c4, e₄) = none-first _ _ _ e₃ in
     let (c5, e₅) = none-first _ _ _ e₄ in
     record {
-      buffer-good = ltb-false _ _ c1;
-      chunk-good = ltb-false _ _ c2;
-      connection-good = not-false (wellFormedConnection (m .connection)) c3;
-      registry-good = not-false (wellFormedRegistry (m .registry)) c4;
+      ready =
+          record {
+            buffer-good = ltb-false _ _ c1;
+            chunk-good = ltb-false _ _ c2;
+            connection-good = not-false (wellFormedConnection (m .connection)) c3;
+            registry-good = not-false (wellFormedRegistry (m .registry)) c4;
+          };
       counters-good = ltb-false _ _ c5;
     }
 
@@ -146,7 +153,7 @@ module _ (m : Memory) (call : Call) where
       go (some code) e = rw (refused-outcome code e) (record { written = omega arith; buffer-length = refl })
       go none e =
           let t = passed m call e in
-          rw (taken-outcome e) (took-fits (effect .taken) (effect .response) _ (call-short (stateIn m) (t .registry-good) (call .chunk)) (t .buffer-good))
+          rw (taken-outcome e) (took-fits (effect .taken) (effect .response) _ (call-short (stateIn m) (t .ready .registry-good) (call .chunk)) (t .ready .buffer-good))
 
   pub refused-exactly : callOutcome m call .answer .code ≡ says (refusalOf m call)
   unfolding refused took effect
@@ -192,5 +199,5 @@ empty-idle m buffer = go (refusalOf m call) refl
           taken = refl;
           written = refl;
           buffer-stays = refl;
-          memory-stays = λ i. record { connection = store-load (m .connection) (t .connection-good) i; registry = m .registry; counters = m .counters };
+          memory-stays = λ i. record { connection = store-load (m .connection) (t .ready .connection-good) i; registry = m .registry; counters = m .counters };
         })

@@ -6,6 +6,7 @@ pub mod JudgementLaws
 pub mod ResponseLaws
 pub mod CallLaws
 pub mod CountingLaws
+pub mod CountedLaws
 pub mod Demand3
 pub mod AnswerLaws
 pub mod DecidedLaws
@@ -15,3 +16,4 @@ pub mod ServeLaws
 pub mod CalledLaws
 pub mod CodeDemand3
 pub mod BillLaws
+pub mod InPlace

@@ -1,11 +1,11 @@
 -- What a taken call has done, from what its parts have done.
-use Prim.Native.Nat.{ℕ, _+_, _-_, _≤_, _<_}
+use Prim.Native.Nat.{ℕ, _+_, _-_, _≤_, _<_, _^_}
 use mathlib.Core.Path.{_≡_, refl, sym, ap, _∙_, subst}
 use mathlib.Core.Bool.{Bool, true, false}
 use mathlib.Core.List.{List, []}
 use native.Mathlib.Omega.{arith}
 use lib.ListN.{length}
-use lib.Dec.{ltb}
+use lib.Dec.{ltb, lit<}
 use borrow.Author.Tests.{lt-ltb, le-ltb, ltb-true, ltb-false}
 use Rattle.wire.specs.Wrote.{over}
 use Rattle.wire.specs.Request.{requestLength}
@@ -16,76 +16,93 @@ use Rattle.stream.specs.Call.{Effect, callRule}
 use Rattle.stream.proofs.ChunkLaws.{call-closed}
 use Rattle.connection.specs.Connection.{laidOut, connectionBytes, connectionOf}
 use Rattle.connection.proofs.StateLaws.{WholeHeader, header-there, header-long, header-size}
-use Rattle.service.specs.Counters.{Counts, noCounts, count, totalsOf, countersOf, largestCounter}
+use Rattle.service.specs.Counters.{Counts, noCounts, totalsOf, countersOf}
 use Rattle.service.specs.Judgement.{judgement, refusedEarly, verdictOf}
-use Rattle.service.specs.Call.{bufferLeast, chunkMost, counterMost, stateIn}
+use Rattle.service.specs.Call.{bufferLeast, chunkMost, stateIn}
 use Rattle.service.specs.Called.{lentMemory}
-use Rattle.service.specs.Decided.{lineOf}
-use Rattle.service.specs.Answers.{AnsweredBy}
-use Rattle.service.specs.Counted.{counted}
-use Rattle.service.specs.Served.{Carried, SkipReady, effectOf, skipEffect}
+use Rattle.service.specs.Answers.{AskerBelow, AnsweredBy}
+use Rattle.service.specs.Counted.{countEvent, withCounts, countRequest, countTaken, countAnswered, countDropped, counted}
+use Rattle.service.specs.Served.{Modest, waited, finished, droppedAll, Carried, SkipReady, effectOf, skipEffect}
 use Rattle.service.specs.declared.Counters.{Counters}
 use Rattle.service.specs.declared.Answered.{Answered}
-use Rattle.service.specs.declared.Served.{Served}
+use Rattle.service.specs.declared.Handled.{Handled}
 
-zero-right : (n : ℕ) → n + 0 ≡ n
+pub zero-right : (n : ℕ) → n + 0 ≡ n
 zero-right n = omega arith
 
 abbrev pub stateWith : Connection → (registry : List ℕ) → Counters → State (List ℕ) Counts
 stateWith k registry c = record { connection = k; registry = registry; totals = totalsOf c }
 
+-- ---- what a call comes to is little
+
+modest-waited : (n : ℕ) → n ≤ chunkMost → Modest (waited n)
+modest-waited n few = record { taken = few; answered = lit< tt; dropped = omega arith; event = tt }
+
+modest-dropped : (n : ℕ) → n ≤ chunkMost → Modest (droppedAll n)
+modest-dropped n few = record { taken = few; answered = lit< tt; dropped = few; event = tt }
+
+modest-finished : (n size : ℕ) (a : Answered) → n ≤ chunkMost → size < 2 ^ 40 → AskerBelow (a .asker) → Modest (finished n size a)
+modest-finished n size a few small asker = record { taken = few; answered = small; dropped = omega arith; event = asker }
+
 module _ (k : Connection) (registry : List ℕ) (c : Counters) where
-  pub carried-wait : (n : ℕ) (conn : Connection) (connection before after : List ℕ) (r : Served)
-      → r ≡ record { taken = n; written = 0; counters = counted c n 0 0 (totalsOf c .counts) }
+  pub carried-wait : (n : ℕ) (conn : Connection) (connection before after : List ℕ) (r : Handled)
+      → n ≤ chunkMost → r ≡ waited n
       → connection ≡ connectionBytes conn → after ≡ before
-      → Carried (waiting (stateWith k registry c) n conn) connection registry before after r
-  unfolding totalsOf counted
-  carried-wait n conn connection before after r e m b = record {
-    taken-is = ap (λ (x : Served). x .taken) e;
-    response-is = (ap (λ (x : Served). x .written) e, b);
+      → Carried c (waiting (stateWith k registry c) n conn) connection registry before after r
+  unfolding totalsOf countersOf counted countRequest countEvent withCounts countTaken countAnswered countDropped
+  carried-wait n conn connection before after r few e m b = record {
+    code-is = ap (λ (x : Handled). x .code) e;
+    taken-is = ap (λ (x : Handled). x .taken) e;
+    response-is = (ap (λ (x : Handled). x .written) e, b);
     connection-is = m;
     registry-is = refl;
     counters-is =
-        ap (λ (x : Served). x .counters) e
+        ap (counted c) e
         ∙ (λ i. countersOf (record { taken = c .taken + n; answered = zero-right (c .answered) i; dropped = zero-right (c .dropped) i; counts = totalsOf c .counts }));
+    modest = subst Modest (sym e) (modest-waited n few);
   }
 
-  pub carried-drop : (n : ℕ) (connection before after : List ℕ) (r : Served)
-      → r ≡ record { taken = n; written = 0; counters = counted c n 0 n (totalsOf c .counts) }
+  pub carried-drop : (n : ℕ) (connection before after : List ℕ) (r : Handled)
+      → n ≤ chunkMost → r ≡ droppedAll n
       → connection ≡ connectionBytes closed → after ≡ before
-      → Carried (dropping (stateWith k registry c) n) connection registry before after r
-  unfolding totalsOf counted
-  carried-drop n connection before after r e m b = record {
-    taken-is = ap (λ (x : Served). x .taken) e;
-    response-is = (ap (λ (x : Served). x .written) e, b);
+      → Carried c (dropping (stateWith k registry c) n) connection registry before after r
+  unfolding totalsOf countersOf counted countRequest countEvent withCounts countTaken countAnswered countDropped
+  carried-drop n connection before after r few e m b = record {
+    code-is = ap (λ (x : Handled). x .code) e;
+    taken-is = ap (λ (x : Handled). x .taken) e;
+    response-is = (ap (λ (x : Handled). x .written) e, b);
     connection-is = m;
     registry-is = refl;
     counters-is =
-        ap (λ (x : Served). x .counters) e
+        ap (counted c) e
         ∙ (λ i. countersOf (record { taken = c .taken + n; answered = zero-right (c .answered) i; dropped = c .dropped + n; counts = totalsOf c .counts }));
+    modest = subst Modest (sym e) (modest-dropped n few);
   }
 
   -- the response and the registry of a verdict hang on no counts
-  pub carried-answer : (v : Counts → Verdict (List ℕ) Counts (List ℕ)) (n size : ℕ) (conn : Connection) (connection kept before after : List ℕ) (a : Answered) (r : Served)
+  pub carried-answer : (v : Counts → Verdict (List ℕ) Counts (List ℕ)) (n size : ℕ) (conn : Connection) (connection kept before after : List ℕ) (a : Answered) (r : Handled)
+      → n ≤ chunkMost → size < 2 ^ 40
       → AnsweredBy v kept before after a
       → v noCounts .response ≡ v (totalsOf c .counts) .response
       → v noCounts .registry ≡ v (totalsOf c .counts) .registry
-      → r ≡ record { taken = n; written = a .written; counters = counted c n size 0 (count (totalsOf c .counts) (lineOf (a .asker)) (a .status)) }
+      → r ≡ finished n size a
       → connection ≡ connectionBytes conn
-      → Carried (answering (stateWith k registry c) n size (v (totalsOf c .counts)) conn) connection kept before after r
-  unfolding totalsOf counted
-  carried-answer v n size conn connection kept before after a r by same-response same-registry e m = record {
-    taken-is = ap (λ (x : Served). x .taken) e;
+      → Carried c (answering (stateWith k registry c) n size (v (totalsOf c .counts)) conn) connection kept before after r
+  unfolding totalsOf countersOf counted countRequest countEvent withCounts countTaken countAnswered countDropped
+  carried-answer v n size conn connection kept before after a r few small by same-response same-registry e m = record {
+    code-is = ap (λ (x : Handled). x .code) e;
+    taken-is = ap (λ (x : Handled). x .taken) e;
     response-is =
         record {
-          count = ap (λ (x : Served). x .written) e ∙ by .response .count ∙ ap length same-response;
+          count = ap (λ (x : Handled). x .written) e ∙ by .response .count ∙ ap length same-response;
           bytes = by .response .bytes ∙ ap (λ (s : List ℕ). over s before) same-response;
         };
     connection-is = m;
     registry-is = by .kept ∙ same-registry;
     counters-is =
-        ap (λ (x : Served). x .counters) e
+        ap (counted c) e
         ∙ (λ i. countersOf (record { taken = c .taken + n; answered = c .answered + size; dropped = zero-right (c .dropped) i; counts = by .counts (totalsOf c .counts) i }));
+    modest = subst Modest (sym e) (modest-finished n size a few small (by .asker));
   }
 
 -- ---- an oversized request
@@ -102,16 +119,15 @@ module _ (registry : List ℕ) (c : Counters) (header : List ℕ) (used here toG
   unfolding skipEffect
   skip-answers h = rw (le-ltb here toGo h)
 
-pub skip-ready : (connection header buffer : List ℕ) (c : Counters) (kind number used here toGo : ℕ)
+pub skip-ready : (connection header buffer : List ℕ) (kind number used here toGo : ℕ)
     → connection ≡ laidOut kind number header → WholeHeader header
-    → bufferLeast ≤ length buffer → largestCounter c ≤ counterMost → used + here ≤ chunkMost
-    → SkipReady connection buffer c used here toGo
-skip-ready connection header buffer c kind number used here toGo laid h room counters fits =
+    → bufferLeast ≤ length buffer → used + here ≤ chunkMost
+    → SkipReady connection buffer used here toGo
+skip-ready connection header buffer kind number used here toGo laid h room fits =
     let there = header-there connection header kind number laid h in
     let long = header-long connection header kind number laid h in
     record {
       buffer-good = room;
-      counters-good = counters;
       used-good = fits;
       size-good = header-size connection header kind number laid h;
       long = subst (λ (x : List ℕ). 28 ≤ length x) (sym there) (h .long);
@@ -145,50 +161,50 @@ module _ (connection registry : List ℕ) (c : Counters) (chunk before : List �
   abbrev s : State (List ℕ) Counts
   s = stateWith (connectionOf connection) registry c
 
-  pub serves-wait : (n : ℕ) (conn : Connection) (left after : List ℕ) (r : Served)
+  pub serves-wait : (n : ℕ) (conn : Connection) (left after : List ℕ) (r : Handled)
       → callRule judgement s chunk ≡ waiting s n conn
-      → r ≡ record { taken = n; written = 0; counters = counted c n 0 0 (totalsOf c .counts) }
+      → n ≤ chunkMost → r ≡ waited n
       → left ≡ connectionBytes conn → after ≡ before
-      → Carried (effectOf (lentMemory connection registry c) chunk) left registry before after r
+      → Carried c (effectOf (lentMemory connection registry c) chunk) left registry before after r
   unfolding stateIn
-  serves-wait n conn left after r e w m b =
-      subst (λ (x : Effect (List ℕ) Counts (List ℕ)). Carried x left registry before after r) (sym e)
-      (carried-wait (connectionOf connection) registry c n conn left before after r w m b)
+  serves-wait n conn left after r e few w m b =
+      subst (λ (x : Effect (List ℕ) Counts (List ℕ)). Carried c x left registry before after r) (sym e)
+      (carried-wait (connectionOf connection) registry c n conn left before after r few w m b)
 
-  pub serves-answer : (v : Counts → Verdict (List ℕ) Counts (List ℕ)) (n size : ℕ) (conn : Connection) (left kept after : List ℕ) (a : Answered) (r : Served)
+  pub serves-answer : (v : Counts → Verdict (List ℕ) Counts (List ℕ)) (n size : ℕ) (conn : Connection) (left kept after : List ℕ) (a : Answered) (r : Handled)
       → Steady v
       → callRule judgement s chunk ≡ answering s n size (v (totalsOf c .counts)) conn
       → AnsweredBy v kept before after a
-      → r ≡ record { taken = n; written = a .written; counters = counted c n size 0 (count (totalsOf c .counts) (lineOf (a .asker)) (a .status)) }
+      → n ≤ chunkMost → size < 2 ^ 40 → r ≡ finished n size a
       → left ≡ connectionBytes conn
-      → Carried (effectOf (lentMemory connection registry c) chunk) left kept before after r
+      → Carried c (effectOf (lentMemory connection registry c) chunk) left kept before after r
   unfolding stateIn
-  serves-answer v n size conn left kept after a r steady e by w m =
-      subst (λ (x : Effect (List ℕ) Counts (List ℕ)). Carried x left kept before after r) (sym e)
-      (carried-answer (connectionOf connection) registry c v n size conn left kept before after a r by (steady .response _ _) (steady .registry _ _) w m)
+  serves-answer v n size conn left kept after a r steady e by few small w m =
+      subst (λ (x : Effect (List ℕ) Counts (List ℕ)). Carried c x left kept before after r) (sym e)
+      (carried-answer (connectionOf connection) registry c v n size conn left kept before after a r few small by (steady .response _ _) (steady .registry _ _) w m)
 
-  pub serves-drop : (left after : List ℕ) (r : Served)
+  pub serves-drop : (left after : List ℕ) (r : Handled)
       → connectionOf connection ≡ closed
-      → r ≡ record { taken = length chunk; written = 0; counters = counted c (length chunk) 0 (length chunk) (totalsOf c .counts) }
+      → length chunk ≤ chunkMost → r ≡ droppedAll (length chunk)
       → left ≡ connectionBytes closed → after ≡ before
-      → Carried (effectOf (lentMemory connection registry c) chunk) left registry before after r
+      → Carried c (effectOf (lentMemory connection registry c) chunk) left registry before after r
   unfolding stateIn
-  serves-drop left after r e w m b =
-      subst (λ (x : Effect (List ℕ) Counts (List ℕ)). Carried x left registry before after r) (sym (call-closed judgement s chunk e))
-      (carried-drop (connectionOf connection) registry c (length chunk) left before after r w m b)
+  serves-drop left after r e few w m b =
+      subst (λ (x : Effect (List ℕ) Counts (List ℕ)). Carried c x left registry before after r) (sym (call-closed judgement s chunk e))
+      (carried-drop (connectionOf connection) registry c (length chunk) left before after r few w m b)
 
   -- a request to skip, of which `here` bytes are at hand: waiting or answering, as the rule of a call says
-  pub serves-skip : (header : List ℕ) (used here toGo : ℕ) (left after : List ℕ) (r : Served)
+  pub serves-skip : (header : List ℕ) (used here toGo : ℕ) (left after : List ℕ) (r : Handled)
       → (here < toGo → callRule judgement s chunk ≡ waiting s (used + here) (skipping header (toGo - here)))
       → (toGo ≤ here → callRule judgement s chunk ≡ answering s (used + toGo) (requestLength header) (judgement .onOversized registry (totalsOf c .counts) header) (opened []))
-      → Carried (skipEffect registry c header used here toGo) left registry before after r
-      → Carried (effectOf (lentMemory connection registry c) chunk) left registry before after r
+      → Carried c (skipEffect registry c header used here toGo) left registry before after r
+      → Carried c (effectOf (lentMemory connection registry c) chunk) left registry before after r
   unfolding stateIn
   serves-skip header used here toGo left after r waits answers done = go (ltb here toGo) refl
     where
-      on : skipEffect registry c header used here toGo ≡ callRule judgement s chunk → Carried (callRule judgement s chunk) left registry before after r
-      on e = subst (λ (x : Effect (List ℕ) Counts (List ℕ)). Carried x left registry before after r) e done
+      on : skipEffect registry c header used here toGo ≡ callRule judgement s chunk → Carried c (callRule judgement s chunk) left registry before after r
+      on e = subst (λ (x : Effect (List ℕ) Counts (List ℕ)). Carried c x left registry before after r) e done
 
-      go : (b : Bool) → ltb here toGo ≡ b → Carried (callRule judgement s chunk) left registry before after r
+      go : (b : Bool) → ltb here toGo ≡ b → Carried c (callRule judgement s chunk) left registry before after r
       go true t = let less = ltb-true here toGo t in on (skip-waits registry c header used here toGo less ∙ sym (waits less))
       go false t = let more = ltb-false here toGo t in on (skip-answers registry c header used here toGo more ∙ sym (answers more))

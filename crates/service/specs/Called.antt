@@ -9,6 +9,8 @@ use Rattle.service.specs.Call.{Memory, callOutcome}
 use Rattle.service.specs.declared.Counters.{Counters}
 use Rattle.service.specs.declared.Refusal.{Refusal}
 use Rattle.service.specs.declared.Code.{Code}
+use Rattle.service.specs.declared.Event.the-variants.{NoRequest}
+use Rattle.service.specs.declared.Handled.{Handled}
 use Rattle.service.specs.declared.Outcome.{Outcome}
 use Rattle.service.specs.declared.CallAnswer.{CallAnswer}
 use Rattle.service.specs.declared.Code.the-variants.{Taken, Refused}
@@ -36,10 +38,15 @@ outcomeWith o connection registry buffer = record {
   memory = lentMemory connection registry (o .counters);
 }
 
--- an outcome is an answer and the counters
-abbrev pub answerOf : Outcome → CallAnswer
-answerOf o = record { code = o .code; taken = o .taken; written = o .written }
+-- what a call that is handled says
+abbrev pub answerOf : Handled → CallAnswer
+answerOf h = record { code = h .code; taken = h .taken; written = h .written }
 
+-- a call that is refused takes, writes and counts nothing
+abbrev pub refusedWith : Code → Handled
+refusedWith code = record { code = code; taken = 0; written = 0; answered = 0; dropped = 0; event = NoRequest }
+
+-- an outcome is an answer and the counters
 abbrev pub outcomeOf : CallAnswer → Counters → Outcome
 outcomeOf a counters = record { code = a .code; taken = a .taken; written = a .written; counters = counters }
 

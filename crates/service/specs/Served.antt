@@ -1,5 +1,5 @@
 -- What a taken call leaves in the memory that it was lent, in the reading copy's terms. No part of the reading copy.
-use Prim.Native.Nat.{ℕ, _+_, _-_, _≤_}
+use Prim.Native.Nat.{ℕ, _+_, _-_, _≤_, _<_, _^_}
 use mathlib.Core.Bool.{true}
 use mathlib.Core.Path.{_≡_}
 use mathlib.Core.Option.{Option, none, some}
@@ -14,32 +14,61 @@ use Rattle.stream.specs.Effects.{waiting, answering}
 use Rattle.stream.specs.Call.{Effect, callRule}
 use Rattle.connection.specs.Connection.{connectionSize, laidOut, connectionBytes, wellFormedConnection}
 use Rattle.registry.specs.WellFormed.{wellFormedRegistry}
-use Rattle.service.specs.Counters.{Counts, totalsOf, countersOf, largestCounter}
+use Rattle.service.specs.Counters.{Counts, totalsOf, countersOf}
 use Rattle.service.specs.Judgement.{judgement}
-use Rattle.service.specs.Call.{Memory, stateIn, bufferLeast, chunkMost, counterMost}
+use Rattle.service.specs.Call.{Memory, stateIn, bufferLeast, chunkMost}
+use Rattle.service.specs.Answers.{AskerBelow}
+use Rattle.service.specs.Counted.{counted}
 use Rattle.service.specs.declared.Counters.{Counters}
-use Rattle.service.specs.declared.Served.{Served}
+use Rattle.service.specs.declared.Answered.{Answered}
+use Rattle.service.specs.declared.Code.the-variants.{Taken}
+use Rattle.service.specs.declared.Event.{Event}
+use Rattle.service.specs.declared.Event.the-variants.{NoRequest, Request}
+use Rattle.service.specs.declared.Handled.{Handled}
 
--- none of C1 to C5 applies
-pub record Ready (m : Memory) (chunk buffer : List ℕ) : Type 0 where
+-- none of C1 to C4 applies
+pub record Ready (connection registry chunk buffer : List ℕ) : Type 0 where
   pub buffer-good : bufferLeast ≤ length buffer
   pub chunk-good : length chunk ≤ chunkMost
-  pub connection-good : wellFormedConnection (m .connection) ≡ true
-  pub registry-good : wellFormedRegistry (m .registry) ≡ true
-  pub counters-good : largestCounter (m .counters) ≤ counterMost
+  pub connection-good : wellFormedConnection connection ≡ true
+  pub registry-good : wellFormedRegistry registry ≡ true
+
+-- ---- what a call comes to
+
+abbrev pub waited : (n : ℕ) → Handled
+waited n = record { code = Taken; taken = n; written = 0; answered = 0; dropped = 0; event = NoRequest }
+
+abbrev pub finished : (n size : ℕ) → Answered → Handled
+finished n size a = record { code = Taken; taken = n; written = a .written; answered = size; dropped = 0; event = Request (a .asker) (a .status) }
+
+abbrev pub droppedAll : (n : ℕ) → Handled
+droppedAll n = record { code = Taken; taken = n; written = 0; answered = 0; dropped = n; event = NoRequest }
+
+abbrev pub EventBelow : Event → Type 0
+EventBelow NoRequest = Unit {0}
+EventBelow (Request asker status) = AskerBelow asker
+
+-- so little that counters of at most 2^62 have room for it
+pub record Modest (h : Handled) : Type 0 where
+  pub taken : h .taken ≤ chunkMost
+  pub answered : h .answered < 2 ^ 40
+  pub dropped : h .dropped ≤ chunkMost
+  pub event : EventBelow (h .event)
 
 -- the response, if there is one, was written over the front of `before`, which is now `after`; n says how many bytes
 abbrev pub WroteAny : Option (List ℕ) → (before after : List ℕ) → (n : ℕ) → Type 0
 WroteAny none before after n = (n ≡ 0) × (after ≡ before)
 WroteAny (some response) before after n = Wrote response before after n
 
--- the effect was carried out
-pub record Carried (e : Effect (List ℕ) Counts (List ℕ)) (connection registry before after : List ℕ) (r : Served) : Type 0 where
+-- the effect was carried out, but that the counters c have still to be counted up
+pub record Carried (c : Counters) (e : Effect (List ℕ) Counts (List ℕ)) (connection registry before after : List ℕ) (r : Handled) : Type 0 where
+  pub code-is : r .code ≡ Taken
   pub taken-is : r .taken ≡ e .taken
   pub response-is : WroteAny (e .response) before after (r .written)
   pub connection-is : connection ≡ connectionBytes (e .state .connection)
   pub registry-is : registry ≡ e .state .registry
-  pub counters-is : r .counters ≡ countersOf (e .state .totals)
+  pub counters-is : counted c r ≡ countersOf (e .state .totals)
+  pub modest : Modest r
 
 -- what a taken call does
 abbrev pub effectOf : Memory → (chunk : List ℕ) → Effect (List ℕ) Counts (List ℕ)
@@ -57,9 +86,8 @@ skipEffect registry c header used here toGo =
 abbrev pub headerAt : (connection : List ℕ) → List ℕ
 headerAt connection = take (headerLength (drop 9 connection)) (drop 9 connection)
 
-pub record SkipReady (connection buffer : List ℕ) (c : Counters) (used here toGo : ℕ) : Type 0 where
+pub record SkipReady (connection buffer : List ℕ) (used here toGo : ℕ) : Type 0 where
   pub buffer-good : bufferLeast ≤ length buffer
-  pub counters-good : largestCounter c ≤ counterMost
   pub used-good : used + here ≤ chunkMost
   pub size-good : length connection ≡ connectionSize
   pub long : 28 ≤ length (headerAt connection)

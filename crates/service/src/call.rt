@@ -1,36 +1,69 @@
-// A call: refused by C1 to C5, or served.
+// A call: refused by C1 to C5, or served, and counted.
 use crate::CallAnswer;
 use crate::Code;
 use crate::Counters;
+use crate::Event;
+use crate::Handled;
 use crate::Outcome;
-use crate::Served;
+use crate::counting::with_all;
+use crate::in_place::count;
 use crate::refusals::judge_call;
 use crate::serve::serve;
 ghost use mathlib.Core.Path.{_≡_};
 ghost use Rattle.service.specs.Call.{callOutcome};
-ghost use Rattle.service.specs.Called.{lentMemory, callWith, outcomeWith, answerOf, CallContract};
-ghost use Rattle.service.specs.declared.Code.the-variants.{Taken};
+ghost use Rattle.service.specs.Called.{lentMemory, callWith, outcomeWith, outcomeOf, answerOf, refusedWith, CallContract};
+ghost use Rattle.service.specs.Counted.{counted, Fits};
 
 // A refused call takes nothing, writes nothing and alters nothing.
-fn refuse(code: Code, counters: Counters) -> Outcome
-    ensures { λ r. ⌜ r ≡ record { code = code; taken = 0; written = 0; counters = counters } ⌝ }
+fn refuse(code: Code) -> Handled
+    ensures { λ r. ⌜ r ≡ refusedWith code ⌝ }
 {
-    Outcome {
+    Handled {
         code,
         taken: 0,
         written: 0,
-        counters,
+        answered: 0,
+        dropped: 0,
+        event: Event::NoRequest,
     }
 }
 
-fn take(s: Served) -> Outcome
-    ensures { λ r. ⌜ r ≡ record { code = Taken; taken = s .taken; written = s .written; counters = s .counters } ⌝ }
+// A call but for its counters, which are looked at and left.
+fn handle(
+    chunk: &[u8],
+    connection: &mut [u8],
+    registry: &mut [u8],
+    counters: Counters,
+    response: &mut [u8],
+) -> Handled
+    ensures { λ r. ⌜ CallContract (lentMemory (now (connection .entry)) (now (registry .entry)) counters) (callWith (now (chunk .entry)) (now (response .entry))) (answerOf r) (lentMemory (now (connection .exit)) (now (registry .exit)) (counted counters r)) (now (response .exit)) × Fits counters r ⌝ }
 {
-    let counters = s.counters;
+    let code = judge_call(chunk, connection, registry, counters, response);
+    let Code::Taken = code else {
+        return refuse(code);
+    };
+    serve(connection, registry, response, chunk)
+}
+
+fn answer_of(h: Handled) -> CallAnswer
+    ensures { λ r. ⌜ r ≡ answerOf h ⌝ }
+{
+    let code = h.code;
+    CallAnswer {
+        code,
+        taken: h.taken,
+        written: h.written,
+    }
+}
+
+fn outcome_of(h: Handled, counters: Counters) -> Outcome
+    ensures { λ r. ⌜ r ≡ outcomeOf (answerOf h) counters ⌝ }
+{
+    let code = h.code;
     Outcome {
-        code: Code::Taken,
-        taken: s.taken,
-        written: s.written,
+        code,
+        taken: h.taken,
+        written: h.written,
         counters,
     }
 }
@@ -45,23 +78,9 @@ pub fn call_by_value(
 ) -> Outcome
     ensures { λ r. ⌜ outcomeWith r (now (connection .exit)) (now (registry .exit)) (now (response .exit)) ≡ callOutcome (lentMemory (now (connection .entry)) (now (registry .entry)) counters) (callWith (now (chunk .entry)) (now (response .entry))) ⌝ }
 {
-    let code = judge_call(chunk, connection, registry, counters, response);
-    let Code::Taken = code else {
-        return refuse(code, counters);
-    };
-    let s = serve(connection, registry, response, chunk, counters);
-    take(s)
-}
-
-fn answer_of(o: Outcome) -> CallAnswer
-    ensures { λ r. ⌜ r ≡ answerOf o ⌝ }
-{
-    let code = o.code;
-    CallAnswer {
-        code,
-        taken: o.taken,
-        written: o.written,
-    }
+    let h = handle(chunk, connection, registry, counters, response);
+    let after = with_all(counters, h);
+    outcome_of(h, after)
 }
 
 pub fn counters_of(o: Outcome) -> Counters
@@ -81,7 +100,7 @@ pub fn call(
 ) -> CallAnswer
     ensures { λ r. ⌜ CallContract (lentMemory (now (connection .entry)) (now (registry .entry)) (now (counters .entry))) (callWith (now (chunk .entry)) (now (response .entry))) r (lentMemory (now (connection .exit)) (now (registry .exit)) (now (counters .exit))) (now (response .exit)) ⌝ }
 {
-    let o = call_by_value(chunk, connection, registry, *counters, response);
-    *counters = counters_of(o);
-    answer_of(o)
+    let h = handle(chunk, connection, registry, *counters, response);
+    count(counters, h);
+    answer_of(h)
 }

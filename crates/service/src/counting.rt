@@ -1,18 +1,20 @@
 // What a call adds to the counters.
 use crate::Asker;
 use crate::Counters;
+use crate::Event;
+use crate::Handled;
 use crate::Status;
 use crate::statuses::refused_index;
 use crate::statuses::status_number;
 ghost use mathlib.Core.Path.{_≡_};
-ghost use Prim.Native.Nat.{_+_, _≤_, _<_, _^_};
+ghost use Prim.Native.Nat.{_≤_, _<_};
 ghost use lib.Dec.{ltb};
 ghost use Rattle.service.specs.Status.{statusNumber};
-ghost use Rattle.service.specs.Counters.{totalsOf, countersOf, countServed, countRefused, count, largestCounter, maximum};
+ghost use Rattle.service.specs.Counters.{totalsOf, countServed, countRefused, count, largestCounter, maximum};
 ghost use Rattle.service.specs.Call.{counterMost};
 ghost use Rattle.service.specs.Decided.{lineOf};
 ghost use Rattle.service.specs.Answers.{AskerBelow};
-ghost use Rattle.service.specs.Counted.{zeroCounters, withCounts, counted};
+ghost use Rattle.service.specs.Counted.{zeroCounters, withCounts, countRequest, countTaken, countAnswered, countDropped, counted, RequestFits, TakenFits, AnsweredFits, DroppedFits, Fits};
 
 // Nothing is counted yet.
 pub fn zero_counters() -> Counters
@@ -69,7 +71,7 @@ pub fn is_too_high(c: Counters) -> bool
 }
 
 // One more request served: for an application, or for nobody that is named.
-fn count_served(c: Counters, asker: Asker) -> Counters
+fn with_served(c: Counters, asker: Asker) -> Counters
     requires { ⌜ (largestCounter c ≤ counterMost) × AskerBelow asker ⌝ }
     ensures { λ r. ⌜ r ≡ withCounts c (countServed (totalsOf c .counts) (lineOf asker)) ⌝ }
 {
@@ -87,7 +89,7 @@ fn count_served(c: Counters, asker: Asker) -> Counters
 }
 
 // One more request refused with a status.
-fn count_refused(c: Counters, status: Status) -> Counters
+fn with_refused(c: Counters, status: Status) -> Counters
     requires { ⌜ (largestCounter c ≤ counterMost) × (0 < statusNumber status) ⌝ }
     ensures { λ r. ⌜ r ≡ withCounts c (countRefused (totalsOf c .counts) status) ⌝ }
 {
@@ -98,44 +100,65 @@ fn count_refused(c: Counters, status: Status) -> Counters
 }
 
 // One more request by its status.
-fn count_request(c: Counters, asker: Asker, status: Status) -> Counters
+fn with_answer(c: Counters, asker: Asker, status: Status) -> Counters
     requires { ⌜ (largestCounter c ≤ counterMost) × AskerBelow asker ⌝ }
     ensures { λ r. ⌜ r ≡ withCounts c (count (totalsOf c .counts) (lineOf asker) status) ⌝ }
 {
     if status_number(status) == 0 {
-        return count_served(c, asker);
+        return with_served(c, asker);
     }
-    count_refused(c, status)
+    with_refused(c, status)
 }
 
-// `n` bytes are taken and bring no response.
-pub fn count_waiting(c: Counters, n: usize) -> Counters
-    requires { ⌜ (largestCounter c ≤ counterMost) × (n ≤ 65536) ⌝ }
-    ensures { λ r. ⌜ r ≡ counted c n 0 0 (totalsOf c .counts) ⌝ }
+// The request that a call answered, if it answered one.
+pub fn with_request(c: Counters, h: Handled) -> Counters
+    requires { ⌜ RequestFits c h ⌝ }
+    ensures { λ r. ⌜ r ≡ countRequest c h ⌝ }
+{
+    let event = h.event;
+    match event {
+        Event::NoRequest => c,
+        Event::Request { asker, status } => with_answer(c, asker, status),
+    }
+}
+
+// The bytes that a call took.
+pub fn with_taken(c: Counters, h: Handled) -> Counters
+    requires { ⌜ TakenFits c h ⌝ }
+    ensures { λ r. ⌜ r ≡ countTaken c h ⌝ }
 {
     let mut next = c;
-    next.taken += n as u64;
+    next.taken += h.taken as u64;
     next
 }
 
-// `n` bytes are taken, the last of them being the last of a request of `size` bytes.
-pub fn count_answer(c: Counters, n: usize, size: u64, asker: Asker, status: Status) -> Counters
-    requires { ⌜ (largestCounter c ≤ counterMost) × (n ≤ 65536) × (size < 2 ^ 40) × AskerBelow asker ⌝ }
-    ensures { λ r. ⌜ r ≡ counted c n size 0 (count (totalsOf c .counts) (lineOf asker) status) ⌝ }
-{
-    let mut next = count_request(c, asker, status);
-    next.taken += n as u64;
-    next.answered += size;
-    next
-}
-
-// `n` bytes are taken and dropped.
-pub fn count_dropped(c: Counters, n: usize) -> Counters
-    requires { ⌜ (largestCounter c ≤ counterMost) × (n ≤ 65536) ⌝ }
-    ensures { λ r. ⌜ r ≡ counted c n 0 n (totalsOf c .counts) ⌝ }
+// The bytes of the request that it answered.
+pub fn with_answered(c: Counters, h: Handled) -> Counters
+    requires { ⌜ AnsweredFits c h ⌝ }
+    ensures { λ r. ⌜ r ≡ countAnswered c h ⌝ }
 {
     let mut next = c;
-    next.taken += n as u64;
-    next.dropped += n as u64;
+    next.answered += h.answered;
     next
+}
+
+// The bytes that it dropped.
+pub fn with_dropped(c: Counters, h: Handled) -> Counters
+    requires { ⌜ DroppedFits c h ⌝ }
+    ensures { λ r. ⌜ r ≡ countDropped c h ⌝ }
+{
+    let mut next = c;
+    next.dropped += h.dropped as u64;
+    next
+}
+
+// All that a call counts.
+pub fn with_all(c: Counters, h: Handled) -> Counters
+    requires { ⌜ Fits c h ⌝ }
+    ensures { λ r. ⌜ r ≡ counted c h ⌝ }
+{
+    let requests = with_request(c, h);
+    let taken = with_taken(requests, h);
+    let answered = with_answered(taken, h);
+    with_dropped(answered, h)
 }

@@ -6,6 +6,7 @@ use registry::Slot;
 pub mod answer;
 pub mod call;
 pub mod counting;
+pub mod in_place;
 pub mod operations;
 pub mod order;
 pub mod refusals;
@@ -110,11 +111,21 @@ pub struct Answered {
     pub written: usize,
 }
 
-// What a taken call comes to: how many bytes it took, how many it wrote, and the counters after it.
-pub struct Served {
+// The request that a call answered, as it is counted: for whom, and with which status.
+pub enum Event {
+    NoRequest,
+    Request { asker: Asker, status: Status },
+}
+
+// What a call comes to, before it is counted: what it says, how many bytes it took and wrote, the bytes of the request that it
+// answered, those that it dropped, and that request.
+pub struct Handled {
+    pub code: Code,
     pub taken: usize,
     pub written: usize,
-    pub counters: Counters,
+    pub answered: u64,
+    pub dropped: usize,
+    pub event: Event,
 }
 
 // What a call says, and the counters after it.

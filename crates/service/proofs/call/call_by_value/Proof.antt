@@ -1,21 +1,20 @@
 -- `service::call::call_by_value` meets its contract.
-use Rattle.service.proofs.CallLaws.{passed}
-use Rattle.service.proofs.CalledLaws.{taken-passes, refused-call, taken-call}
+use mathlib.Core.Path.{ap, _∙_}
 use borrow.Author.Needs.{needs}
+use Rattle.service.specs.Called.{outcomeOf, answerOf, outcomeWith}
+use Rattle.service.specs.declared.Counters.{Counters}
+use Rattle.service.specs.declared.Outcome.{Outcome}
 use Rattle.service.proofs.call.call_by_value.Statement.{statement}
 use Rattle.service.proofs.call.call_by_value.Tie as tie
 
-judge-call-requires : tie.Need-judge-call-requires
-judge-call-requires c κs = search needs
+handle-requires : tie.Need-handle-requires
+handle-requires c κs = search needs
 
-enum-told : tie.Need-enum-told
-enum-told c = search needs
+with-all-requires : tie.Need-with-all-requires
+with-all-requires c κs = search needs
 
-enum-told-2 : tie.Need-enum-told-2
-enum-told-2 c = search needs
-
-refuse-requires : tie.Need-refuse-requires
-refuse-requires c κs = search needs
+outcome-of-requires : tie.Need-outcome-of-requires
+outcome-of-requires c κs = search needs
 
 same-length : tie.Need-same-length
 same-length c = search needs
@@ -28,49 +27,19 @@ same-length-3 c = search needs
 
 returns : tie.Need-returns
 returns c =
-    let a = c .before .before .before .before .before .before .before .before .before .before .before .args in
-    refused-call (a .connection .now) (a .registry .now) (a .counters) (a .chunk .now) (a .response .now) (c .before .before .before .judge-call .result) (c .refuse .result) (c .before .before .before .judge-call .ensures) (c .before .before .match .keys2) (c .refuse .ensures)
-
-serve-requires : tie.Need-serve-requires
-serve-requires c κs =
-    let a = c .before .before .before .before .before .before .before .before .before .before .before .before .before .args in
-    passed _ _ (taken-passes (a .connection .now) (a .registry .now) (a .counters) (a .chunk .now) (a .response .now) (c .before .before .before .before .before .judge-call .result) (c .before .before .before .before .before .judge-call .ensures) (c .before .before .before .enum-told .given .1))
-
-take-requires : tie.Need-take-requires
-take-requires c κs = search needs
-
-same-length-4 : tie.Need-same-length-4
-same-length-4 c = search needs
-
-same-length-5 : tie.Need-same-length-5
-same-length-5 c = search needs
-
-same-length-6 : tie.Need-same-length-6
-same-length-6 c = search needs
-
-returns-2 : tie.Need-returns-2
-returns-2 c =
-    let a = c .before .before .before .before .before .before .before .before .before .before .before .before .before .before .before .before .before .before .before .before .before .args in
-    let serve = c .before .before .before .before .before .before .before .serve in
-    taken-call (a .connection .now) (a .registry .now) (a .counters) (a .chunk .now) (a .response .now) (serve .last .0) (serve .last .1 .0) (serve .last .1 .1 .0) (serve .result) (c .take .result)
-    (taken-passes (a .connection .now) (a .registry .now) (a .counters) (a .chunk .now) (a .response .now) (c .before .before .before .before .before .before .before .before .before .before .before .before .before .judge-call .result) (c .before .before .before .before .before .before .before .before .before .before .before .before .before .judge-call .ensures) (c .before .before .before .before .before .before .before .before .before .before .before .enum-told .given .1))
-    (serve .ensures) (c .take .ensures)
+    let handle = c .before .before .before .before .before .before .before .before .handle in
+    ap (λ (x : Outcome). outcomeWith x (handle .last .1 .0) (handle .last .1 .1 .0) (handle .last .1 .1 .1 .1 .0))
+    (c .outcome-of .ensures ∙ ap (λ (x : Counters). outcomeOf (answerOf (handle .result)) x) (c .before .with-all .ensures))
+    ∙ handle .ensures .0
 
 pub call-by-value-spec : {M : Type 1} → statement M
 call-by-value-spec =
     tie.close
     (tie.spec
-    judge-call-requires
-    enum-told
-    enum-told-2
-    refuse-requires
+    handle-requires
+    with-all-requires
+    outcome-of-requires
     same-length
     same-length-2
     same-length-3
-    returns
-    serve-requires
-    take-requires
-    same-length-4
-    same-length-5
-    same-length-6
-    returns-2)
+    returns)

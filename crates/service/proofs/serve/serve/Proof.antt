@@ -21,7 +21,7 @@ use Rattle.service.specs.Call.{chunkMost}
 use Rattle.service.specs.Called.{lentMemory}
 use Rattle.service.specs.Served.{Ready, SkipReady, Carried, headerAt, skipEffect, effectOf}
 use Rattle.service.specs.declared.Counters.{Counters}
-use Rattle.service.specs.declared.Served.{Served}
+use Rattle.service.specs.declared.Handled.{Handled}
 use Rattle.service.proofs.ServeLaws.{stateWith, skip-ready, serves-skip, serves-drop}
 use borrow.Author.Needs.{needs}
 use Rattle.service.proofs.serve.serve.Statement.{statement}
@@ -35,7 +35,7 @@ fresh : (k : Connection) (n : ℕ) → stateOf k ≡ Open n → n ≡ 0 → k �
 fresh k n o e = let x = state-open k n o in x .is ∙ ap opened (nothing-held (x .held) (x .long ∙ e))
 
 -- a request is being skipped
-module _ (k registry : List ℕ) (c : Counters) (chunk before : List ℕ) (toGo : ℕ) (ready : Ready (lentMemory k registry c) chunk before) (o : stateOf (connectionOf k) ≡ Skipping toGo) where
+module _ (k registry chunk before : List ℕ) (toGo : ℕ) (ready : Ready k registry chunk before) (o : stateOf (connectionOf k) ≡ Skipping toGo) where
   header : List ℕ
   header = state-skipping (connectionOf k) toGo o .header
 
@@ -50,22 +50,22 @@ module _ (k registry : List ℕ) (c : Counters) (chunk before : List ℕ) (toGo 
   unfolding connectionBytes
   header-held = memory-is k (ready .connection-good) (skipping header toGo) is
 
-  skips : SkipReady k before c 0 (length chunk) toGo
+  skips : SkipReady k before 0 (length chunk) toGo
   skips =
-      skip-ready k header before c 1 toGo 0 (length chunk) toGo header-held (skipping-whole header toGo good) (ready .buffer-good) (ready .counters-good)
+      skip-ready k header before 1 toGo 0 (length chunk) toGo header-held (skipping-whole header toGo good) (ready .buffer-good)
       (let few = ready .chunk-good in (let x : 0 + length chunk ≤ chunkMost = omega arith in x))
 
-  answers-skip : (left after : List ℕ) (r : Served)
-      → Carried (skipEffect registry c (headerAt k) 0 (length chunk) toGo) left registry before after r
-      → Carried (effectOf (lentMemory k registry c) chunk) left registry before after r
-  answers-skip left after r done =
+  answers-skip : (c : Counters) (left after : List ℕ) (r : Handled)
+      → Carried c (skipEffect registry c (headerAt k) 0 (length chunk) toGo) left registry before after r
+      → Carried c (effectOf (lentMemory k registry c) chunk) left registry before after r
+  answers-skip c left after r done =
       let s : State (List ℕ) Counts = stateWith (connectionOf k) registry c in
       serves-skip k registry c chunk before header 0 (length chunk) toGo left after r
       (λ less. call-skips judgement s header toGo chunk is less
       ∙ ap (λ (x : ℕ). waiting s x (skipping header (toGo - length chunk))) (let x : length chunk ≡ 0 + length chunk = omega arith in x))
       (λ more. call-skipped judgement s header toGo chunk is (skipping-more header toGo good) more
       ∙ ap (λ (x : ℕ). answering s x (requestLength header) (judgement .onOversized registry (totalsOf c .counts) header) (opened [])) (let x : toGo ≡ 0 + toGo = omega arith in x))
-      (subst (λ (x : List ℕ). Carried (skipEffect registry c x 0 (length chunk) toGo) left registry before after r) (header-there k header 1 toGo header-held (skipping-whole header toGo good)) done)
+      (subst (λ (x : List ℕ). Carried c (skipEffect registry c x 0 (length chunk) toGo) left registry before after r) (header-there k header 1 toGo header-held (skipping-whole header toGo good)) done)
 
 read-state-requires : tie.Need-read-state-requires
 read-state-requires c κs = search needs
@@ -101,7 +101,7 @@ skip-requires : tie.Need-skip-requires
 skip-requires c κs =
     let s = c .before .before .before .before .before .before .before .before .before .before .before in
     let a = s .args in
-    skips (a .connection .now) (a .registry .now) (a .c) (a .chunk .now) (a .out .now) (c .before .before .before .to-go .given .0 .0) (s .pre) (sym (c .before .before .before .before .before .read-state .ensures) ∙ c .before .before .before .to-go .given .1)
+    skips (a .connection .now) (a .registry .now) (a .chunk .now) (a .out .now) (c .before .before .before .to-go .given .0 .0) (s .pre) (sym (c .before .before .before .before .before .read-state .ensures) ∙ c .before .before .before .to-go .given .1)
 
 enum-told : tie.Need-enum-told
 enum-told c = search needs
@@ -132,8 +132,9 @@ returns-3 c =
     let s = c .before .before .before .before .before .before .before .before .before .before .before .before .before .before .before .before in
     let a = s .args in
     let skip = c .before .before .before .before .skip in
-    answers-skip (a .connection .now) (a .registry .now) (a .c) (a .chunk .now) (a .out .now) (c .before .before .before .before .before .before .before .before .to-go .given .0 .0) (s .pre) (sym (c .before .before .before .before .before .before .before .before .before .before .read-state .ensures) ∙ c .before .before .before .before .before .before .before .before .to-go .given .1)
-    (skip .last .0) (skip .last .1 .0) (skip .result) (skip .ensures (a .registry .now))
+    λ counters.
+    answers-skip (a .connection .now) (a .registry .now) (a .chunk .now) (a .out .now) (c .before .before .before .before .before .before .before .before .to-go .given .0 .0) (s .pre) (sym (c .before .before .before .before .before .before .before .before .before .before .read-state .ensures) ∙ c .before .before .before .before .before .before .before .before .to-go .given .1) counters
+    (skip .last .0) (skip .last .1 .0) (skip .result) (skip .ensures (a .registry .now) counters)
 
 same-length-9 : tie.Need-same-length-9
 same-length-9 c = search needs
@@ -143,7 +144,8 @@ returns-4 c =
     let s = c .before .before .before .before .before .before .before .before .before in
     let a = s .args in
     let shut = state-closed (connectionOf (a .connection .now)) (sym (c .before .before .before .read-state .ensures) ∙ c .before .enum-told .given .1) in
-    serves-drop (a .connection .now) (a .registry .now) (a .c) (a .chunk .now) (a .out .now) (a .connection .now) (a .out .now) (c .drop-all .result) shut (c .drop-all .ensures)
+    λ counters.
+    serves-drop (a .connection .now) (a .registry .now) counters (a .chunk .now) (a .out .now) (a .connection .now) (a .out .now) (c .drop-all .result) shut (s .pre .chunk-good) (c .drop-all .ensures)
     (memory-is (a .connection .now) (s .pre .connection-good) closed shut) refl
 
 pub serve-spec : {M : Type 1} → statement M

@@ -1,10 +1,11 @@
 -- `service::serve::serve_fresh` meets its contract.
-use Prim.Native.Nat.{ℕ, _-_, _≤_}
+use Prim.Native.Nat.{ℕ, _-_, _≤_, _<_, _^_}
 use mathlib.Core.Path.{_≡_, refl, sym, ap, _∙_}
 use mathlib.Core.List.{List, []}
 use native.Mathlib.Omega.{arith}
 use lib.ListN.{length, take}
 use lib.Seq.{length-take-le}
+use lib.Dec.{lit<}
 use Rattle.stream.specs.Frame.{unfinished, skipped, whole, next}
 use Rattle.stream.specs.Rules.{State, opened, skipping, closed, judge}
 use Rattle.stream.specs.Effects.{answering}
@@ -19,6 +20,7 @@ use Rattle.connection.proofs.GatherLaws.{begun-few}
 use Rattle.connection.proofs.StateLaws.{memory-is}
 use Rattle.service.specs.Counters.{Counts, totalsOf}
 use Rattle.service.specs.Judgement.{judgement}
+use Rattle.service.specs.Call.{chunkMost}
 use Rattle.service.specs.declared.Counters.{Counters}
 use Rattle.service.proofs.ServeLaws.{stateWith, bad-steady, judge-steady, serves-wait, serves-answer}
 use borrow.Author.Needs.{needs}
@@ -77,7 +79,7 @@ close-requires : tie.Need-close-requires
 close-requires c κs = well-size _ (c .before .before .before .before .before .before .before .before .before .before .before .before .pre .0 .connection-good)
 
 finish-requires : tie.Need-finish-requires
-finish-requires c κs = (c .before .before .before .before .before .before .before .before .before .before .before .before .before .before .before .pre .0 .counters-good, omega arith, omega arith, c .before .before .before .before .before .before .answer-bad-start .ensures [] .asker)
+finish-requires c κs = search needs
 
 enum-known-header : tie.Need-enum-known-header
 enum-known-header c = search needs
@@ -133,14 +135,7 @@ answer-whole-requires c κs =
     (w .legal, w .long, s .pre .0 .registry-good, s .pre .0 .buffer-good)
 
 finish-requires-2 : tie.Need-finish-requires-2
-finish-requires-2 c κs =
-    let s = c .before .before .before .before .before .before .before .before .before .before .before .before .before .before .before .before in
-    let chunk : List ℕ = s .args .chunk .now in
-    let n : ℕ = c .before .before .before .before .before .before .before .before .before .n .given .0 .0 in
-    let w = whole-part chunk n (frame-whole (next chunk) n (sym (c .before .before .before .before .before .before .before .before .before .before .before .read-frame .ensures) ∙ c .before .before .before .before .before .before .before .before .before .n .given .1)) in
-    let fits = w .fits in
-    let few = s .pre .0 .chunk-good in
-    (s .pre .0 .counters-good, omega arith, omega arith, c .before .before .before .before .answer-whole .ensures .asker)
+finish-requires-2 c κs = search needs
 
 same-length : tie.Need-same-length
 same-length c = search needs
@@ -152,8 +147,10 @@ returns c =
     let chunk : List ℕ = a .chunk .now in
     let k : List ℕ = a .connection .now in
     let begun = frame-unfinished (next chunk) (sym (c .before .before .before .before .before .before .before .read-frame .ensures) ∙ c .before .before .before .before .before .enum-told .given .1) in
-    serves-wait k (a .registry .now) (a .c) chunk (a .out .now) (length chunk) (opened chunk) (c .before .before .before .append .last .0) (a .out .now) (c .wait .result)
-    (call-unfinished judgement (stateWith (connectionOf k) (a .registry .now) (a .c)) [] chunk (s .pre .1) nothing begun)
+    λ counters.
+    serves-wait k (a .registry .now) counters chunk (a .out .now) (length chunk) (opened chunk) (c .before .before .before .append .last .0) (a .out .now) (c .wait .result)
+    (call-unfinished judgement (stateWith (connectionOf k) (a .registry .now) counters) [] chunk (s .pre .1) nothing begun)
+    (s .pre .0 .chunk-good)
     (c .wait .ensures)
     (c .before .before .before .append .ensures [] refl (memory-is k (s .pre .0 .connection-good) (opened []) (s .pre .1)))
     refl
@@ -172,11 +169,14 @@ returns-2 c =
     let k : List ℕ = a .connection .now in
     let bad = frame-bad (next chunk) (sym (c .before .before .before .before .before .before .before .before .before .before .before .read-frame .ensures) ∙ c .before .before .before .before .before .before .before .before .before .enum-told2 .given .1) in
     let answer = c .before .before .before .before .before .before .before .answer-bad-start in
-    serves-answer k (a .registry .now) (a .c) chunk (a .out .now) (λ x. judgement .onBadStart (a .registry .now) x) 6 6 closed
+    λ counters.
+    serves-answer k (a .registry .now) counters chunk (a .out .now) (λ x. judgement .onBadStart (a .registry .now) x) 6 6 closed
     (c .before .before .before .close .last .0) (a .registry .now) (answer .last .0) (answer .result) (c .finish .result)
     (bad-steady (a .registry .now))
-    (call-bad judgement (stateWith (connectionOf k) (a .registry .now) (a .c)) [] chunk (s .pre .1) nothing bad)
+    (call-bad judgement (stateWith (connectionOf k) (a .registry .now) counters) [] chunk (s .pre .1) nothing bad)
     (answer .ensures (a .registry .now))
+    (omega arith)
+    (lit< tt)
     (c .finish .ensures)
     (c .before .before .before .close .ensures)
 
@@ -192,8 +192,10 @@ returns-3 c =
     let f = frame-skipped (next chunk) _ _ (sym (c .before .before .before .before .before .before .before .before .before .before .before .before .before .read-frame .ensures) ∙ c .before .before .before .before .before .before .before .before .before .before .before .header .given .1) in
     let part : take (c .before .before .before .before .before .before .before .before .before .before .before .header .given .0 .0) chunk ≡ f .header = ap (λ (n : ℕ). take n chunk) (sym (f .long)) ∙ header-part chunk (f .header) _ (f .is) .1 in
     let held = c .before .before .before .before .before .before .before .append2 .ensures [] refl (memory-is k (s .pre .0 .connection-good) (opened []) (s .pre .1)) in
-    serves-wait k (a .registry .now) (a .c) chunk (a .out .now) (length chunk) (skipping (f .header) (c .before .before .before .before .before .before .before .before .before .before .before .header .given .0 .1 .0)) (c .before .before .before .set-skipping .last .0) (a .out .now) (c .wait2 .result)
-    (call-large judgement (stateWith (connectionOf k) (a .registry .now) (a .c)) [] chunk (s .pre .1) nothing (f .header) _ (f .is))
+    λ counters.
+    serves-wait k (a .registry .now) counters chunk (a .out .now) (length chunk) (skipping (f .header) (c .before .before .before .before .before .before .before .before .before .before .before .header .given .0 .1 .0)) (c .before .before .before .set-skipping .last .0) (a .out .now) (c .wait2 .result)
+    (call-large judgement (stateWith (connectionOf k) (a .registry .now) counters) [] chunk (s .pre .1) nothing (f .header) _ (f .is))
+    (s .pre .0 .chunk-good)
     (c .wait2 .ensures)
     (laid-skipping (c .before .before .before .before .before .before .before .append2 .last .0) (c .before .before .before .set-skipping .last .0) (f .header) _ (held ∙ ap (λ (x : List ℕ). connectionBytes (opened x)) part) (c .before .before .before .set-skipping .ensures))
     refl
@@ -213,11 +215,18 @@ returns-4 c =
     let n : ℕ = c .before .before .before .before .before .before .before .before .before .before .n .given .0 .0 in
     let w = frame-whole (next chunk) n (sym (c .before .before .before .before .before .before .before .before .before .before .before .before .read-frame .ensures) ∙ c .before .before .before .before .before .before .before .before .before .before .n .given .1) in
     let answer = c .before .before .before .before .before .answer-whole in
-    serves-answer k (a .registry .now) (a .c) chunk (a .out .now) (λ x. judge judgement (a .registry .now) x (take n chunk)) n n (opened [])
+    let part = whole-part chunk n w .fits in
+    let few = s .pre .0 .chunk-good in
+    let fits : n ≤ chunkMost = omega arith in
+    let small : n < 2 ^ 40 = omega (arith, fits) in
+    λ counters.
+    serves-answer k (a .registry .now) counters chunk (a .out .now) (λ x. judge judgement (a .registry .now) x (take n chunk)) n n (opened [])
     k (answer .last .1 .1 .0) (answer .last .0) (answer .result) (c .finish2 .result)
     (judge-steady (a .registry .now) (take n chunk))
-    (fresh-whole k (a .registry .now) (a .c) chunk n (s .pre .1) w)
+    (fresh-whole k (a .registry .now) counters chunk n (s .pre .1) w)
     (answer .ensures)
+    fits
+    small
     (c .finish2 .ensures)
     (memory-is k (s .pre .0 .connection-good) (opened []) (s .pre .1))
 

@@ -6,6 +6,7 @@ use mathlib.Core.List.{List, [], _++_}
 use native.Mathlib.Omega.{arith}
 use lib.ListN.{length, take, drop, length-append}
 use lib.Seq.{length-take-le}
+use lib.Dec.{lit<}
 use Rattle.wire.specs.Request.{requestLength}
 use Rattle.stream.specs.Frame.{legalStart, skipped, whole, next}
 use Rattle.stream.specs.Rules.{State, opened, skipping, closed, judge}
@@ -21,24 +22,22 @@ use Rattle.connection.specs.declared.gather.Gathered.{Gathered}
 use Rattle.connection.proofs.CheckLaws.{well-size}
 use Rattle.connection.proofs.GatherLaws.{held-back}
 use Rattle.connection.proofs.StateLaws.{state-open, open-holds, open-held, WholeHeader, header-whole, header-there, held-fits}
-use Rattle.service.specs.Counters.{Counts, count, totalsOf}
-use Rattle.service.specs.Counted.{counted}
-use Rattle.service.specs.Decided.{lineOf}
+use Rattle.service.specs.Counters.{Counts}
 use Rattle.service.specs.Judgement.{judgement}
 use Rattle.service.specs.Call.{chunkMost}
 use Rattle.service.specs.Called.{lentMemory}
-use Rattle.service.specs.Served.{Ready, SkipReady, Carried, headerAt, skipEffect, effectOf}
+use Rattle.service.specs.Served.{Ready, SkipReady, Carried, finished, headerAt, skipEffect, effectOf}
 use Rattle.service.specs.Answers.{AnsweredBy}
 use Rattle.service.specs.declared.Answered.{Answered}
 use Rattle.service.specs.declared.Counters.{Counters}
-use Rattle.service.specs.declared.Served.{Served}
+use Rattle.service.specs.declared.Handled.{Handled}
 use Rattle.service.proofs.ServeLaws.{stateWith, bad-steady, judge-steady, skip-ready, serves-wait, serves-answer, serves-skip}
 use borrow.Author.Needs.{needs}
 use Rattle.service.proofs.serve.serve_held.Statement.{statement}
 use Rattle.service.proofs.serve.serve_held.Tie as tie
 
 -- n bytes are held in the memory `k`, and with those of the chunk that `g` used they are now in `m`
-module _ (k registry : List ℕ) (c : Counters) (chunk before : List ℕ) (n : ℕ) (ready : Ready (lentMemory k registry c) chunk before) (o : stateOf (connectionOf k) ≡ Open n) where
+module _ (k registry chunk before : List ℕ) (n : ℕ) (ready : Ready k registry chunk before) (o : stateOf (connectionOf k) ≡ Open n) where
   holds : Holding k n
   holds = open-holds k (ready .connection-good) n (state-open (connectionOf k) n o)
 
@@ -46,8 +45,8 @@ module _ (k registry : List ℕ) (c : Counters) (chunk before : List ℕ) (n : �
   held-is = open-held k (ready .connection-good) n (state-open (connectionOf k) n o)
 
   module _ (m : List ℕ) (g : Gathered) (G : Gathers (heldIn n k) chunk m g) where
-    s : State (List ℕ) Counts
-    s = stateWith (connectionOf k) registry c
+    s : Counters → State (List ℕ) Counts
+    s c = stateWith (connectionOf k) registry c
 
     used-few : g .used ≤ chunkMost
     used-few = let u = G .used in let few = ready .chunk-good in omega arith
@@ -73,18 +72,20 @@ module _ (k registry : List ℕ) (c : Counters) (chunk before : List ℕ) (n : �
           let (legal, long, fits) = whole-found (heldIn n k ++ take (g .used) chunk) size w in
           subst (λ (x : List ℕ). (legalStart x ≡ true) × (length x ≡ requestLength x)) (sym whole-there) (legal, whole-long ∙ sym long)
 
-      answers-whole : (left kept after : List ℕ) (a : Answered) (r : Served)
+      answers-whole : (c : Counters) (left kept after : List ℕ) (a : Answered) (r : Handled)
+          → length m ≡ connectionSize
           → AnsweredBy (λ x. judge judgement registry x (take (9 + size - 9) (drop 9 m))) kept before after a
-          → r ≡ record { taken = g .used; written = a .written; counters = counted c (g .used) size 0 (count (totalsOf c .counts) (lineOf (a .asker)) (a .status)) }
+          → r ≡ finished (g .used) size a
           → left ≡ connectionBytes (opened [])
-          → Carried (effectOf (lentMemory k registry c) chunk) left kept before after r
+          → Carried c (effectOf (lentMemory k registry c) chunk) left kept before after r
       unfolding s
-      answers-whole left kept after a r by w′ l =
+      answers-whole c left kept after a r room by w′ l =
+          let few = whole-fits room in
           serves-answer k registry c chunk before (λ x. judge judgement registry x (heldIn n k ++ take (g .used) chunk)) (g .used) size (opened []) left kept after a r
           (judge-steady registry (heldIn n k ++ take (g .used) chunk))
-          (after-whole judgement s (heldIn n k) chunk held-is (holds .begun) (g .used) (G .used) size w (G .whole size w))
+          (after-whole judgement (s c) (heldIn n k) chunk held-is (holds .begun) (g .used) (G .used) size w (G .whole size w))
           (subst (λ (q : List ℕ). AnsweredBy (λ x. judge judgement registry x q) kept before after a) whole-there by)
-          w′ l
+          used-few (omega (arith, few)) w′ l
 
     -- the bytes that were gathered are the header of a request to skip
     module _ (h : List ℕ) (missing : ℕ) (w : next (heldIn n k ++ take (g .used) chunk) ≡ skipped h missing) where
@@ -95,21 +96,21 @@ module _ (k registry : List ℕ) (c : Counters) (chunk before : List ℕ) (n : �
       header-good : WholeHeader h
       header-good = header-whole h missing (ap next (sym (G .header h missing w)) ∙ w)
 
-      skips : SkipReady m before c (g .used) (length chunk - g .used) missing
+      skips : SkipReady m before (g .used) (length chunk - g .used) missing
       skips =
-          skip-ready m h before c 0 (length h) (g .used) (length chunk - g .used) missing header-held header-good (ready .buffer-good) (ready .counters-good)
+          skip-ready m h before 0 (length h) (g .used) (length chunk - g .used) missing header-held header-good (ready .buffer-good)
           (let u = G .used in let few = ready .chunk-good in (let x : g .used + (length chunk - g .used) ≤ chunkMost = omega arith in x))
 
-      answers-skip : (left after : List ℕ) (r : Served)
-          → Carried (skipEffect registry c (headerAt m) (g .used) (length chunk - g .used) missing) left registry before after r
-          → Carried (effectOf (lentMemory k registry c) chunk) left registry before after r
+      answers-skip : (c : Counters) (left after : List ℕ) (r : Handled)
+          → Carried c (skipEffect registry c (headerAt m) (g .used) (length chunk - g .used) missing) left registry before after r
+          → Carried c (effectOf (lentMemory k registry c) chunk) left registry before after r
       unfolding s
-      answers-skip left after r done =
+      answers-skip c left after r done =
           serves-skip k registry c chunk before h (g .used) (length chunk - g .used) missing left after r
-          (λ less. after-skips judgement s (heldIn n k) chunk held-is (holds .begun) (g .used) (G .used) h missing w less
-          ∙ ap (λ (x : ℕ). waiting s x (skipping h (missing - (length chunk - g .used)))) (let u = G .used in (let x : length chunk ≡ g .used + (length chunk - g .used) = omega arith in x)))
-          (after-skipped judgement s (heldIn n k) chunk held-is (holds .begun) (g .used) (G .used) h missing w)
-          (subst (λ (x : List ℕ). Carried (skipEffect registry c x (g .used) (length chunk - g .used) missing) left registry before after r) (header-there m h 0 (length h) header-held header-good) done)
+          (λ less. after-skips judgement (s c) (heldIn n k) chunk held-is (holds .begun) (g .used) (G .used) h missing w less
+          ∙ ap (λ (x : ℕ). waiting (s c) x (skipping h (missing - (length chunk - g .used)))) (let u = G .used in (let x : length chunk ≡ g .used + (length chunk - g .used) = omega arith in x)))
+          (after-skipped judgement (s c) (heldIn n k) chunk held-is (holds .begun) (g .used) (G .used) h missing w)
+          (subst (λ (x : List ℕ). Carried c (skipEffect registry c x (g .used) (length chunk - g .used) missing) left registry before after r) (header-there m h 0 (length h) header-held header-good) done)
 
 gather-requires : tie.Need-gather-requires
 gather-requires c κs =
@@ -117,7 +118,7 @@ gather-requires c κs =
     let a = s .args in
     let k : List ℕ = a .connection .now in
     let chunk : List ℕ = a .chunk .now in
-    holds k (a .registry .now) (a .c) chunk (a .out .now) (a .held) (s .pre .0) (s .pre .1)
+    holds k (a .registry .now) chunk (a .out .now) (a .held) (s .pre .0) (s .pre .1)
 
 enum-told : tie.Need-enum-told
 enum-told c = search needs
@@ -135,13 +136,7 @@ close-requires : tie.Need-close-requires
 close-requires c κs = c .before .before .before .before .before .before .before .before .before .gather .kept .0 ∙ well-size _ (c .before .before .before .before .before .before .before .before .before .before .before .before .before .before .before .pre .0 .connection-good)
 
 finish-requires : tie.Need-finish-requires
-finish-requires c κs =
-    let s = c .before .before .before .before .before .before .before .before .before .before .before .before .before .before .before .before .before .before in
-    let a = s .args in
-    let k : List ℕ = a .connection .now in
-    let chunk : List ℕ = a .chunk .now in
-    let g = c .before .before .before .before .before .before .before .before .before .before .before .before .gather in
-    (s .pre .0 .counters-good, used-few k (a .registry .now) (a .c) chunk (a .out .now) (a .held) (s .pre .0) (s .pre .1) (g .last .0) (g .result) (g .ensures), omega arith, c .before .before .before .before .before .before .answer-bad-start .ensures [] .asker)
+finish-requires c κs = search needs
 
 enum-known-frame : tie.Need-enum-known-frame
 enum-known-frame c = search needs
@@ -157,7 +152,7 @@ skip-requires c κs =
     let chunk : List ℕ = a .chunk .now in
     let g = c .before .before .before .before .before .before .before .gather in
     let f = frame-skipped _ _ _ (sym (g .ensures .frame) ∙ c .before .before .before .frame .given .1) in
-    skips k (a .registry .now) (a .c) chunk (a .out .now) (a .held) (s .pre .0) (s .pre .1) (g .last .0) (g .result) (g .ensures) (f .header) _ (f .is)
+    skips k (a .registry .now) chunk (a .out .now) (a .held) (s .pre .0) (s .pre .1) (g .last .0) (g .result) (g .ensures) (f .header) _ (f .is)
 
 enum-known-frame-2 : tie.Need-enum-known-frame-2
 enum-known-frame-2 c = search needs
@@ -171,7 +166,7 @@ add-end c =
     let g = c .before .before .before .before .before .gather in
     let size : ℕ = c .before .frame2 .given .0 .0 in
     let w = frame-whole _ size (sym (g .ensures .frame) ∙ c .before .frame2 .given .1) in
-    let few = whole-fits k (a .registry .now) (a .c) chunk (a .out .now) (a .held) (s .pre .0) (s .pre .1) (g .last .0) (g .result) (g .ensures) size w (g .kept .0 ∙ well-size k (s .pre .0 .connection-good)) in
+    let few = whole-fits k (a .registry .now) chunk (a .out .now) (a .held) (s .pre .0) (s .pre .1) (g .last .0) (g .result) (g .ensures) size w (g .kept .0 ∙ well-size k (s .pre .0 .connection-good)) in
     search needs
 
 sub-answer-whole : tie.Need-sub-answer-whole
@@ -190,7 +185,7 @@ part-answer-whole-end c =
     let size : ℕ = c .before .before .before .frame2 .given .0 .0 in
     let w = frame-whole _ size (sym (g .ensures .frame) ∙ c .before .before .before .frame2 .given .1) in
     let room = g .kept .0 ∙ well-size k (s .pre .0 .connection-good) in
-    let few = whole-fits k (a .registry .now) (a .c) chunk (a .out .now) (a .held) (s .pre .0) (s .pre .1) (g .last .0) (g .result) (g .ensures) size w room in
+    let few = whole-fits k (a .registry .now) chunk (a .out .now) (a .held) (s .pre .0) (s .pre .1) (g .last .0) (g .result) (g .ensures) size w room in
     search needs
 
 answer-whole-requires : tie.Need-answer-whole-requires
@@ -202,23 +197,14 @@ answer-whole-requires c κs =
     let g = c .before .before .before .before .before .before .before .before .before .gather in
     let size : ℕ = c .before .before .before .before .before .frame2 .given .0 .0 in
     let w = frame-whole _ size (sym (g .ensures .frame) ∙ c .before .before .before .before .before .frame2 .given .1) in
-    let q = whole-request k (a .registry .now) (a .c) chunk (a .out .now) (a .held) (s .pre .0) (s .pre .1) (g .last .0) (g .result) (g .ensures) size w in
+    let q = whole-request k (a .registry .now) chunk (a .out .now) (a .held) (s .pre .0) (s .pre .1) (g .last .0) (g .result) (g .ensures) size w in
     (q .0, q .1, s .pre .0 .registry-good, s .pre .0 .buffer-good)
 
 reset-requires : tie.Need-reset-requires
 reset-requires c κs = c .before .before .before .before .before .before .before .before .before .before .before .before .before .before .before .gather .kept .0 ∙ well-size _ (c .before .before .before .before .before .before .before .before .before .before .before .before .before .before .before .before .before .before .before .before .before .pre .0 .connection-good)
 
 finish-requires-2 : tie.Need-finish-requires-2
-finish-requires-2 c κs =
-    let s = c .before .before .before .before .before .before .before .before .before .before .before .before .before .before .before .before .before .before .before .before .before .before .before .before in
-    let a = s .args in
-    let k : List ℕ = a .connection .now in
-    let chunk : List ℕ = a .chunk .now in
-    let g = c .before .before .before .before .before .before .before .before .before .before .before .before .before .before .before .before .before .before .gather in
-    let size : ℕ = c .before .before .before .before .before .before .before .before .before .before .before .before .before .before .frame2 .given .0 .0 in
-    let w = frame-whole _ size (sym (g .ensures .frame) ∙ c .before .before .before .before .before .before .before .before .before .before .before .before .before .before .frame2 .given .1) in
-    let few = whole-fits k (a .registry .now) (a .c) chunk (a .out .now) (a .held) (s .pre .0) (s .pre .1) (g .last .0) (g .result) (g .ensures) size w (g .kept .0 ∙ well-size k (s .pre .0 .connection-good)) in
-    (s .pre .0 .counters-good, used-few k (a .registry .now) (a .c) chunk (a .out .now) (a .held) (s .pre .0) (s .pre .1) (g .last .0) (g .result) (g .ensures), omega arith, c .before .before .before .before .before .before .before .before .answer-whole .ensures .asker)
+finish-requires-2 c κs = search needs
 
 same-length : tie.Need-same-length
 same-length c = search needs
@@ -231,9 +217,10 @@ returns c =
     let chunk : List ℕ = a .chunk .now in
     let g = c .before .before .before .before .before .gather in
     let begun = frame-unfinished _ (sym (g .ensures .frame) ∙ c .before .enum-told .given .1) in
-    serves-wait k (a .registry .now) (a .c) chunk (a .out .now) (g .result .used) (opened (heldIn (a .held) k ++ take (g .result .used) chunk)) (g .last .0) (a .out .now) (c .wait .result)
-    (after-unfinished judgement (stateWith (connectionOf k) (a .registry .now) (a .c)) (heldIn (a .held) k) chunk (held-is k (a .registry .now) (a .c) chunk (a .out .now) (a .held) (s .pre .0) (s .pre .1)) (holds k (a .registry .now) (a .c) chunk (a .out .now) (a .held) (s .pre .0) (s .pre .1) .begun) (g .result .used) (g .ensures .used) begun (g .ensures .all begun))
-    (c .wait .ensures) (g .ensures .memory-is) refl
+    λ counters.
+    serves-wait k (a .registry .now) counters chunk (a .out .now) (g .result .used) (opened (heldIn (a .held) k ++ take (g .result .used) chunk)) (g .last .0) (a .out .now) (c .wait .result)
+    (after-unfinished judgement (stateWith (connectionOf k) (a .registry .now) counters) (heldIn (a .held) k) chunk (held-is k (a .registry .now) chunk (a .out .now) (a .held) (s .pre .0) (s .pre .1)) (holds k (a .registry .now) chunk (a .out .now) (a .held) (s .pre .0) (s .pre .1) .begun) (g .result .used) (g .ensures .used) begun (g .ensures .all begun))
+    (used-few k (a .registry .now) chunk (a .out .now) (a .held) (s .pre .0) (s .pre .1) (g .last .0) (g .result) (g .ensures)) (c .wait .ensures) (g .ensures .memory-is) refl
 
 same-length-2 : tie.Need-same-length-2
 same-length-2 c = search needs
@@ -250,11 +237,12 @@ returns-2 c =
     let g = c .before .before .before .before .before .before .before .before .before .before .before .before .before .gather in
     let bad = frame-bad _ (sym (g .ensures .frame) ∙ c .before .before .before .before .before .before .before .before .before .enum-told2 .given .1) in
     let answer = c .before .before .before .before .before .before .before .answer-bad-start in
-    serves-answer k (a .registry .now) (a .c) chunk (a .out .now) (λ x. judgement .onBadStart (a .registry .now) x) (g .result .used) 6 closed
+    λ counters.
+    serves-answer k (a .registry .now) counters chunk (a .out .now) (λ x. judgement .onBadStart (a .registry .now) x) (g .result .used) 6 closed
     (c .before .before .before .close .last .0) (a .registry .now) (answer .last .0) (answer .result) (c .finish .result)
     (bad-steady (a .registry .now))
-    (after-bad judgement (stateWith (connectionOf k) (a .registry .now) (a .c)) (heldIn (a .held) k) chunk (held-is k (a .registry .now) (a .c) chunk (a .out .now) (a .held) (s .pre .0) (s .pre .1)) (holds k (a .registry .now) (a .c) chunk (a .out .now) (a .held) (s .pre .0) (s .pre .1) .begun) (g .result .used) (g .ensures .used) bad (g .ensures .bad bad))
-    (answer .ensures (a .registry .now)) (c .finish .ensures) (c .before .before .before .close .ensures)
+    (after-bad judgement (stateWith (connectionOf k) (a .registry .now) counters) (heldIn (a .held) k) chunk (held-is k (a .registry .now) chunk (a .out .now) (a .held) (s .pre .0) (s .pre .1)) (holds k (a .registry .now) chunk (a .out .now) (a .held) (s .pre .0) (s .pre .1) .begun) (g .result .used) (g .ensures .used) bad (g .ensures .bad bad))
+    (answer .ensures (a .registry .now)) (used-few k (a .registry .now) chunk (a .out .now) (a .held) (s .pre .0) (s .pre .1) (g .last .0) (g .result) (g .ensures)) (lit< tt) (c .finish .ensures) (c .before .before .before .close .ensures)
 
 same-length-4 : tie.Need-same-length-4
 same-length-4 c = search needs
@@ -271,8 +259,9 @@ returns-3 c =
     let g = c .before .before .before .before .before .before .before .before .before .before .before .before .gather in
     let f = frame-skipped _ _ _ (sym (g .ensures .frame) ∙ c .before .before .before .before .before .before .before .before .frame .given .1) in
     let skip = c .before .before .before .before .skip in
-    answers-skip k (a .registry .now) (a .c) chunk (a .out .now) (a .held) (s .pre .0) (s .pre .1) (g .last .0) (g .result) (g .ensures) (f .header) _ (f .is)
-    (skip .last .0) (skip .last .1 .0) (skip .result) (skip .ensures (a .registry .now))
+    λ counters.
+    answers-skip k (a .registry .now) chunk (a .out .now) (a .held) (s .pre .0) (s .pre .1) (g .last .0) (g .result) (g .ensures) (f .header) _ (f .is) counters
+    (skip .last .0) (skip .last .1 .0) (skip .result) (skip .ensures (a .registry .now) counters)
 
 same-length-6 : tie.Need-same-length-6
 same-length-6 c = search needs
@@ -293,9 +282,10 @@ returns-4 c =
     let size : ℕ = c .before .before .before .before .before .before .before .before .before .before .before .before .before .before .before .frame2 .given .0 .0 in
     let w = frame-whole _ size (sym (g .ensures .frame) ∙ c .before .before .before .before .before .before .before .before .before .before .before .before .before .before .before .frame2 .given .1) in
     let answer = c .before .before .before .before .before .before .before .before .before .answer-whole in
-    answers-whole k (a .registry .now) (a .c) chunk (a .out .now) (a .held) (s .pre .0) (s .pre .1) (g .last .0) (g .result) (g .ensures) size w
+    λ counters.
+    answers-whole k (a .registry .now) chunk (a .out .now) (a .held) (s .pre .0) (s .pre .1) (g .last .0) (g .result) (g .ensures) size w counters
     (c .before .before .before .reset .last .0) (answer .last .1 .1 .0) (answer .last .0) (answer .result) (c .finish2 .result)
-    (answer .ensures) (c .finish2 .ensures) (c .before .before .before .reset .ensures)
+    (g .kept .0 ∙ well-size k (s .pre .0 .connection-good)) (answer .ensures) (c .finish2 .ensures) (c .before .before .before .reset .ensures)
 
 pub serve-held-spec : {M : Type 1} → statement M
 serve-held-spec =

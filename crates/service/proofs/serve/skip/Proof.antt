@@ -53,10 +53,10 @@ returns c =
     let a = s .args in
     let m : List ℕ = a .connection .now in
     let less : a .here < a .to-go = omega arith in
-    λ registry.
-    subst (λ (e : Effect (List ℕ) Counts (List ℕ)). Carried e (c .before .before .before .set-skipping .last .0) registry (a .out .now) (a .out .now) (c .wait .result))
-    (sym (skip-waits registry (a .c) (headerAt m) (a .used) (a .here) (a .to-go) less))
-    (carried-wait closed registry (a .c) (a .used + a .here) (skipping (headerAt m) (a .to-go - a .here)) _ _ _ _ (c .wait .ensures)
+    λ registry counters.
+    subst (λ (e : Effect (List ℕ) Counts (List ℕ)). Carried counters e (c .before .before .before .set-skipping .last .0) registry (a .out .now) (a .out .now) (c .wait .result))
+    (sym (skip-waits registry counters (headerAt m) (a .used) (a .here) (a .to-go) less))
+    (carried-wait closed registry counters (a .used + a .here) (skipping (headerAt m) (a .to-go - a .here)) _ _ _ _ (s .pre .used-good) (c .wait .ensures)
     (c .before .before .before .set-skipping .ensures (s .pre .kind) (s .pre .number) (headerAt m) (s .pre .laid)) refl)
 
 sub-request-length : tie.Need-sub-request-length
@@ -94,11 +94,7 @@ add-finish : tie.Need-add-finish
 add-finish c = search needs
 
 finish-requires : tie.Need-finish-requires
-finish-requires c κs =
-    let s = c .before .before .before .before .before .before .before .before .before .before .before .before .before .before .before .before in
-    let used = s .pre .used-good in
-    let fits : s .args .used + s .args .to-go ≤ chunkMost = omega arith in
-    (s .pre .counters-good, fits, c .before .before .before .before .before .before .before .before .before .before .request-length .ensures .1, c .before .before .before .before .before .before .answer-skipped .ensures [] .asker)
+finish-requires c κs = search needs
 
 same-length-2 : tie.Need-same-length-2
 same-length-2 c = search needs
@@ -129,12 +125,14 @@ returns-2 c =
     let more : a .to-go ≤ a .here = omega (arith, c .before .before .before .before .before .before .before .before .before .before .before .before) in
     let size : f .request-length .result ≡ requestLength (headerAt m) = f .request-length .ensures .0 ∙ same-size m (s .pre .long) in
     let w = c .before .before .before .before .before .before .before .answer-skipped in
-    λ registry.
-    subst (λ (e : Effect (List ℕ) Counts (List ℕ)). Carried e (c .before .before .before .reset .last .0) registry (a .out .now) (w .last .0) (c .finish .result))
-    (ap (λ (n : ℕ). answering (stateWith closed registry (a .c)) (a .used + a .to-go) n (judgement .onOversized registry (totalsOf (a .c) .counts) (headerAt m)) (opened [])) size
-    ∙ sym (skip-answers registry (a .c) (headerAt m) (a .used) (a .here) (a .to-go) more))
-    (carried-answer closed registry (a .c) (λ k. judgement .onOversized registry k (headerAt m)) (a .used + a .to-go) (f .request-length .result) (opened [])
-    (c .before .before .before .reset .last .0) registry (a .out .now) (w .last .0) (w .result) (c .finish .result)
+    let used = s .pre .used-good in
+    let few : a .used + a .to-go ≤ chunkMost = omega (arith, more, used) in
+    λ registry counters.
+    subst (λ (e : Effect (List ℕ) Counts (List ℕ)). Carried counters e (c .before .before .before .reset .last .0) registry (a .out .now) (w .last .0) (c .finish .result))
+    (ap (λ (n : ℕ). answering (stateWith closed registry counters) (a .used + a .to-go) n (judgement .onOversized registry (totalsOf counters .counts) (headerAt m)) (opened [])) size
+    ∙ sym (skip-answers registry counters (headerAt m) (a .used) (a .here) (a .to-go) more))
+    (carried-answer closed registry counters (λ k. judgement .onOversized registry k (headerAt m)) (a .used + a .to-go) (f .request-length .result) (opened [])
+    (c .before .before .before .reset .last .0) registry (a .out .now) (w .last .0) (w .result) (c .finish .result) few (f .request-length .ensures .1)
     (answered-header registry m (a .out .now) (w .last .0) (w .result) (w .ensures registry)) refl refl (c .finish .ensures) (c .before .before .before .reset .ensures))
 
 pub skip-spec : {M : Type 1} → statement M

@@ -1,4 +1,4 @@
--- `service::counting::count_served` meets its contract.
+-- `service::counting::with_served` meets its contract.
 use Prim.Native.Nat.{_<_}
 use mathlib.Core.Path.{subst}
 use native.Mathlib.Numerals.{add-one}
@@ -11,8 +11,8 @@ use Rattle.service.specs.Decided.{lineOf}
 use Rattle.service.specs.Answers.{AskerBelow}
 use Rattle.service.specs.Counted.{withCounts}
 use Rattle.service.proofs.CountingLaws.{none-above}
-use Rattle.service.proofs.counting.count_served.Statement.{statement}
-use Rattle.service.proofs.counting.count_served.Tie as tie
+use Rattle.service.proofs.counting.with_served.Statement.{statement}
+use Rattle.service.proofs.counting.with_served.Tie as tie
 
 enum-told : tie.Need-enum-told
 enum-told c = search needs
@@ -47,8 +47,8 @@ returns-2 : tie.Need-returns-2
 unfolding withCounts countersOf countServed lineOf totalsOf increment
 returns-2 c = rw (c .before .before .asker .given .1, add-one)
 
-pub count-served-spec : {M : Type 1} → statement M
-count-served-spec =
+pub with-served-spec : {M : Type 1} → statement M
+with-served-spec =
     tie.close
     (tie.spec
     enum-told

@@ -1,4 +1,4 @@
--- `service::counting::count_refused` meets its contract.
+-- `service::counting::with_refused` meets its contract.
 use native.Mathlib.Numerals.{add-one}
 use native.Mathlib.Omega.{arith}
 use borrow.Author.Needs.{needs}
@@ -6,8 +6,8 @@ use Rattle.service.specs.Counters.{totalsOf, countersOf, increment, coun
 use Rattle.service.specs.Call.{counterMost}
 use Rattle.service.specs.Counted.{withCounts}
 use Rattle.service.proofs.CountingLaws.{none-above, index-below}
-use Rattle.service.proofs.counting.count_refused.Statement.{statement}
-use Rattle.service.proofs.counting.count_refused.Tie as tie
+use Rattle.service.proofs.counting.with_refused.Statement.{statement}
+use Rattle.service.proofs.counting.with_refused.Tie as tie
 
 refused-index-requires : tie.Need-refused-index-requires
 refused-index-requires c κs = search needs
@@ -30,8 +30,8 @@ returns : tie.Need-returns
 unfolding withCounts countersOf countRefused totalsOf increment
 returns c = rw (c .before .refused-index .ensures, add-one)
 
-pub count-refused-spec : {M : Type 1} → statement M
-count-refused-spec =
+pub with-refused-spec : {M : Type 1} → statement M
+with-refused-spec =
     tie.close
     (tie.spec
     refused-index-requires
