@@ -16,7 +16,7 @@ ghost use mathlib.Core.Path.{_≡_};
 ghost use Prim.Native.Nat.{_+_};
 ghost use Rattle.registry.specs.Roster.{faultNumber, loadRoster};
 ghost use Rattle.connection.specs.Connection.{openConnection};
-ghost use Rattle.service.specs.Status.{refusalNumber};
+ghost use Rattle.service.specs.Refusals.{refusalNumber};
 ghost use Rattle.service.specs.Call.{callOutcome};
 ghost use Rattle.service.specs.Called.{lentMemory, callWith, codeNumber};
 ghost use Rattle.service.specs.Counted.{zeroCounters};

@@ -17,7 +17,7 @@ use Rattle.stream.proofs.CallsLaws.{took-taken, call-took, fresh-memory}
 use Rattle.stream.proofs.DeliveryLaws.{call-takes}
 use Rattle.connection.specs.Connection.{connectionSize, connectionBytes, Opening, openConnection}
 use Rattle.registry.specs.WellFormed.{wellFormedRegistry}
-use Rattle.service.specs.Judgement.{judgement}
+use Rattle.judgement.specs.Judgement.{judgement}
 use Rattle.service.specs.Call.{Memory, memoryOf, layout, bufferLeast, chunkMost, counterMost, refusalOf, callOutcome}
 use Rattle.service.specs.Called.{lentMemory, callWith}
 use Rattle.service.proofs.Demand3.{lawful, accepts}

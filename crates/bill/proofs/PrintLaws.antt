@@ -25,11 +25,11 @@ use Rattle.registry.specs.declared.RosterFault.{RosterFault}
 use Rattle.registry.specs.declared.roster.Loaded.{Loaded}
 use Rattle.registry.specs.declared.roster.Loaded.the-variants as loaded
 use Rattle.registry.proofs.RosterLaws.{roster-legal, registry-good}
+use Rattle.judgement.specs.Judgement.{judgement}
 use Rattle.service.specs.Counters.{largestCount}
-use Rattle.service.specs.Judgement.{judgement}
 use Rattle.service.specs.Call.{Memory, memoryOf}
 use Rattle.service.specs.Bill.{billFor, bill}
-use Rattle.service.proofs.JudgementLaws.{keeps}
+use Rattle.service.proofs.KeptLaws.{keeps}
 use Rattle.billing.specs.Outcome.{billMost, billIn, refusalTests, BillOutcome, outcomeOf, billOutcome}
 use Rattle.billing.specs.declared.Billed.{Billed}
 use Rattle.billing.specs.declared.Billed.the-variants.{Written, BufferTooSmall, ConnectionIllFormed, RegistryIllFormed}

@@ -6,7 +6,7 @@ use mathlib.Core.List.{List, [], _++_}
 use lib.ListN.{length}
 use Rattle.stream.specs.Rules.{rules}
 use Rattle.registry.specs.WellFormed.{wellFormedRegistry}
-use Rattle.service.specs.Judgement.{judgement}
+use Rattle.judgement.specs.Judgement.{judgement}
 use Rattle.service.specs.Call.{Memory, memoryOf, counterMost}
 use Rattle.bill.specs.declared.files.Input.{Input}
 use Rattle.bill.specs.declared.files.Input.the-variants.{Bytes, End, Failed}

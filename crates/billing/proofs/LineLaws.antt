@@ -21,10 +21,10 @@ use Rattle.registry.specs.Check.{blockNames}
 use Rattle.registry.proofs.NameLaws.{legal-short}
 use Rattle.registry.proofs.WellFormedLaws.{good-of}
 use Rattle.registry.proofs.BlockNameLaws.{blockAt, fits, length-names, names-cons, name-at, name-length}
+use Rattle.judgement.specs.Status.{statusNumber, refusedStatuses}
+use Rattle.judgement.specs.declared.Status.the-variants.{Success}
 use Rattle.service.specs.Text.{ascii}
-use Rattle.service.specs.Status.{statusNumber, refusedStatuses}
 use Rattle.service.specs.Bill.{decimal, textLine, applicationLines, refusedLines}
-use Rattle.service.specs.declared.Status.the-variants.{Success}
 use Rattle.billing.specs.Text.{usedNames, refusedNumber, refusedLine}
 
 -- ---- the applications

@@ -16,7 +16,7 @@ use Rattle.registry.specs.Registry.{lineCount, applicationNameMost, namesIn, re
 use Rattle.registry.specs.Roster.{applications, rosterOf}
 use Rattle.registry.proofs.NameLaws.{legal-some}
 use Rattle.registry.proofs.RosterLaws.{isLegal, LegalNames, roster-legal, registry-names, registry-good}
-use Rattle.service.specs.Judgement.{judgement}
+use Rattle.judgement.specs.Judgement.{judgement}
 use Rattle.service.specs.Call.{memoryOf, layout, fresh}
 use Rattle.service.specs.Bill.{billOf, billFor}
 use Rattle.service.proofs.Demand3.{lawful}

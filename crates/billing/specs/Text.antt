@@ -6,10 +6,10 @@ use lib.ListN.{length, getD}
 use lib.Dec.{eqb}
 use Rattle.wire.specs.Choice.{if_then_else_}
 use Rattle.wire.specs.Lists.{put}
+use Rattle.judgement.specs.Status.{statusNumber, refusedStatuses}
+use Rattle.judgement.specs.declared.Status.the-variants.{Success}
 use Rattle.service.specs.Text.{ascii}
-use Rattle.service.specs.Status.{statusNumber, refusedStatuses}
 use Rattle.service.specs.Bill.{decimal, textLine}
-use Rattle.service.specs.declared.Status.the-variants.{Success}
 
 -- text was written into d from `at` on, which is now e; it ends at r
 pub record Placed (text d e : List ℕ) (at r : ℕ) : Type 0 where

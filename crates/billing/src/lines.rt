@@ -12,8 +12,8 @@ ghost use Prim.Native.Nat.{_+_, _≤_, _<_};
 ghost use lib.ListN.{length};
 ghost use Rattle.registry.specs.Registry.{namesIn};
 ghost use Rattle.registry.specs.WellFormed.{wellFormedRegistry};
+ghost use Rattle.judgement.specs.Status.{refusedStatuses};
 ghost use Rattle.service.specs.Text.{ascii};
-ghost use Rattle.service.specs.Status.{refusedStatuses};
 ghost use Rattle.service.specs.Bill.{decimal, textLine, applicationLines, refusedLines};
 ghost use Rattle.billing.specs.Text.{Placed, refusedNumber, refusedLine, usedNames};
 

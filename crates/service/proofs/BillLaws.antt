@@ -14,9 +14,10 @@ use Rattle.registry.specs.Registry.{namesIn}
 use Rattle.registry.specs.WellFormed.{wellFormedRegistry}
 use Rattle.registry.specs.declared.Line.{Line}
 use Rattle.registry.proofs.WellFormedLaws.{Allowed, change-names}
-use Rattle.service.specs.Counters.{Counts}
-use Rattle.service.specs.Judgement.{applicationOf, askersSlots, resultOf, changedBy, verdictOf, refusedEarly, judgement}
-use Rattle.service.proofs.JudgementLaws.{asks, result-allowed, keeps}
+use Rattle.judgement.specs.Counts.{Counts}
+use Rattle.judgement.specs.Judgement.{applicationOf, askersSlots, resultOf, changedBy, verdictOf, refusedEarly, judgement}
+use Rattle.judgement.proofs.JudgementLaws.{asks, result-allowed}
+use Rattle.service.proofs.KeptLaws.{keeps}
 
 request-names : (r : List ℕ) (q : Request) → wellFormedRegistry r ≡ true
     → namesIn (changedBy r (applicationOf r q) (resultOf r q)) ≡ namesIn r

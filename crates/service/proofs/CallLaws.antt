@@ -19,13 +19,14 @@ use Rattle.stream.proofs.CallLaws.{call-responds, call-goes-on}
 use Rattle.connection.specs.Connection.{wellFormedConnection}
 use Rattle.connection.proofs.ConnectionLaws.{store-load}
 use Rattle.registry.specs.WellFormed.{wellFormedRegistry}
-use Rattle.service.specs.Counters.{Counts, totalsOf, countersOf, largestCounter}
-use Rattle.service.specs.Judgement.{refusedEarly, judgement}
+use Rattle.judgement.specs.Counts.{Counts}
+use Rattle.judgement.specs.Judgement.{refusedEarly, judgement}
+use Rattle.judgement.proofs.ResponseLaws.{responseMost, bad-short, oversized-short, judge-short}
+use Rattle.service.specs.Counters.{totalsOf, countersOf, largestCounter}
 use Rattle.service.specs.Call.{Memory, stateIn, memoryOf, layout, bufferLeast, counterMost, refusalTests, codeOf, refusalOf, callOutcome}
 use Rattle.service.specs.Served.{Ready}
 use Rattle.service.specs.declared.Refusal.{Refusal}
-use Rattle.service.proofs.JudgementLaws.{keeps}
-use Rattle.service.proofs.ResponseLaws.{responseMost, bad-short, oversized-short, judge-short}
+use Rattle.service.proofs.KeptLaws.{keeps}
 
 abbrev Kept : Type 0
 Kept = State (List ℕ) Counts

@@ -9,7 +9,7 @@ use denote.Enum.Declared.{tagOf}
 use types.Run.{OneOf}
 use Rattle.wire.specs.Choice.{firstOf}
 use Rattle.stream.specs.Calls.{Answer, Call, CallOutcome, refused, took}
-use Rattle.service.specs.Status.{refusalNumber}
+use Rattle.service.specs.Refusals.{refusalNumber}
 use Rattle.service.specs.Call.{Memory, memoryOf, refusalTests, codeOf, refusalOf, callOutcome}
 use Rattle.service.specs.Counters.{totalsOf, countersOf}
 use Rattle.service.specs.Called.{lentMemory, callWith, codeFor, codeNumber, answerOf, refusedWith, outcomeOf, outcomeWith, CallContract}

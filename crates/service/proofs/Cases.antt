@@ -21,10 +21,10 @@ use Rattle.registry.specs.Registry.{applicationNamed, slotsOf, slotNamed, chang
 use Rattle.registry.specs.Roster.{faultNumber, recordFaults, Roster, applications, faulty, recordTurn, rosterOf}
 use Rattle.stream.specs.Frame.{legalStart, oversized, next}
 use Rattle.stream.specs.Rules.{Outcome, heldBytes, answer, finish, judge, rulesWithin, rulesFrom, start, rules}
-use Rattle.service.specs.Status.{statusNumber}
-use Rattle.service.specs.Operations.{opcodesOf, readBody, operationOf, success, refuse, importBits, importable, performImport, performDestroy, exportOf, performExport, performListOpcodes, perform}
-use Rattle.service.specs.Counters.{Counts, noCounts, increment, indexOf, countRefused, countServed, count}
-use Rattle.service.specs.Judgement.{applicationOf, refusals, askersSlots, operate, resultOf, changedBy, verdictOf, refusedEarly, oversizedStatus, judgement}
+use Rattle.judgement.specs.Status.{statusNumber}
+use Rattle.judgement.specs.Operations.{opcodesOf, readBody, operationOf, success, refuse, importBits, importable, performImport, performDestroy, exportOf, performExport, performListOpcodes, perform}
+use Rattle.judgement.specs.Counts.{Counts, noCounts, increment, indexOf, countRefused, countServed, count}
+use Rattle.judgement.specs.Judgement.{applicationOf, refusals, askersSlots, operate, resultOf, changedBy, verdictOf, refusedEarly, oversizedStatus, judgement}
 use Rattle.service.specs.Text.{ascii}
 use Rattle.service.specs.Bill.{digitsBefore, decimal, textLine, applicationLines, refusedLines, billOf, billFor, bill}
 

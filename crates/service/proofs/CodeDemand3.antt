@@ -10,7 +10,7 @@ use lib.ListN.{length, drop}
 use Rattle.stream.specs.Calls.{Call, Answer, CallOutcome, CallsOutcome, callsOn, leaving, handOver}
 use Rattle.stream.proofs.DeliveryLaws.{within}
 use Rattle.registry.specs.WellFormed.{wellFormedRegistry}
-use Rattle.service.specs.Judgement.{judgement}
+use Rattle.judgement.specs.Judgement.{judgement}
 use Rattle.service.specs.Call.{Memory, layout, fresh, bufferLeast, chunkMost, counterMost, refusalOf, callOutcome, callsOutcome}
 use Rattle.service.specs.Called.{lentMemory, callWith, codeNumber, CallContract}
 use Rattle.service.specs.declared.Counters.{Counters}

@@ -2,16 +2,17 @@
 use Prim.Native.Nat.{_≤_, _<_, _^_}
 use mathlib.Core.Path.{_≡_, sym, ap, subst}
 use native.Mathlib.Omega.{arith}
-use Rattle.service.specs.Counters.{count, totalsOf, countersOf, largestCounter}
+use Rattle.judgement.specs.Counts.{count}
+use Rattle.judgement.specs.Decided.{lineOf}
+use Rattle.judgement.specs.Answers.{AskerBelow}
+use Rattle.judgement.specs.declared.Status.{Status}
+use Rattle.judgement.specs.declared.Asker.{Asker}
+use Rattle.service.specs.Counters.{totalsOf, countersOf, largestCounter}
 use Rattle.service.specs.Call.{counterMost}
-use Rattle.service.specs.Decided.{lineOf}
-use Rattle.service.specs.Answers.{AskerBelow}
 use Rattle.service.specs.Served.{EventBelow, Modest}
 use Rattle.service.specs.Counted.{withCounts, countEvent, countRequest, countTaken, countAnswered, EventFits, RequestFits, TakenFits, AnsweredFits, DroppedFits, Fits}
 use Rattle.service.specs.Called.{refusedWith}
-use Rattle.service.specs.declared.Status.{Status}
 use Rattle.service.specs.declared.Code.{Code}
-use Rattle.service.specs.declared.Asker.{Asker}
 use Rattle.service.specs.declared.Counters.{Counters}
 use Rattle.service.specs.declared.Event.{Event}
 use Rattle.service.specs.declared.Event.the-variants.{NoRequest, Request}

@@ -9,11 +9,12 @@ use lib.ListN.{length, getD, drop, drop-of-length-le}
 use lib.Seq.{drop-cons}
 use lib.Dec.{ltb, lit<}
 use Rattle.wire.proofs.TestLaws.{both}
-use Rattle.service.specs.Status.{statusNumber, refusedStatuses}
-use Rattle.service.specs.Counters.{indexOf, totalsOf, maximum, largestCount, largestCounter}
+use Rattle.judgement.specs.Status.{statusNumber, refusedStatuses}
+use Rattle.judgement.specs.Counts.{indexOf}
+use Rattle.judgement.specs.declared.Status.{Status}
+use Rattle.judgement.specs.declared.Status.the-variants.{Success, WrongProviderId, ContentTypeNotSupported, AcceptTypeNotSupported, WireProtocolVersionNotSupported, ProviderDoesNotExist, DeserializingBodyFailed, OpcodeDoesNotExist, AuthenticationError, AuthenticatorDoesNotExist, InvalidHeader, NotAuthenticated, BodySizeExceedsLimit, PsaErrorNotPermitted, PsaErrorInvalidArgument, PsaErrorAlreadyExists, PsaErrorDoesNotExist, PsaErrorInsufficientStorage}
+use Rattle.service.specs.Counters.{totalsOf, maximum, largestCount, largestCounter}
 use Rattle.service.specs.declared.Counters.{Counters}
-use Rattle.service.specs.declared.Status.{Status}
-use Rattle.service.specs.declared.Status.the-variants.{Success, WrongProviderId, ContentTypeNotSupported, AcceptTypeNotSupported, WireProtocolVersionNotSupported, ProviderDoesNotExist, DeserializingBodyFailed, OpcodeDoesNotExist, AuthenticationError, AuthenticatorDoesNotExist, InvalidHeader, NotAuthenticated, BodySizeExceedsLimit, PsaErrorNotPermitted, PsaErrorInvalidArgument, PsaErrorAlreadyExists, PsaErrorDoesNotExist, PsaErrorInsufficientStorage}
 
 -- ---- the largest of a list
 

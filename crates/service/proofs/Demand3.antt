@@ -16,10 +16,11 @@ use Rattle.stream.proofs.DeliveryLaws.{within, noneRefused, delivered}
 use Rattle.connection.specs.Connection.{connectionOf}
 use Rattle.connection.proofs.ConnectionLaws.{load-store, stored-good}
 use Rattle.registry.specs.WellFormed.{wellFormedRegistry}
-use Rattle.service.specs.Counters.{Counts, totalsOf, countersOf, largestCount, largestCounter}
-use Rattle.service.specs.Judgement.{judgement}
+use Rattle.judgement.specs.Counts.{Counts}
+use Rattle.judgement.specs.Judgement.{judgement}
+use Rattle.service.specs.Counters.{totalsOf, countersOf, largestCount, largestCounter}
 use Rattle.service.specs.Call.{Memory, stateIn, memoryOf, layout, fresh, bufferLeast, chunkMost, counterMost, refusalTests, codeOf, refusalOf, callsOutcome}
-use Rattle.service.proofs.JudgementLaws.{keeps}
+use Rattle.service.proofs.KeptLaws.{keeps}
 
 -- ---- memory
 

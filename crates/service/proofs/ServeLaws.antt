@@ -16,15 +16,16 @@ use Rattle.stream.specs.Call.{Effect, callRule}
 use Rattle.stream.proofs.ChunkLaws.{call-closed}
 use Rattle.connection.specs.Connection.{laidOut, connectionBytes, connectionOf}
 use Rattle.connection.proofs.StateLaws.{WholeHeader, header-there, header-long, header-size}
-use Rattle.service.specs.Counters.{Counts, noCounts, totalsOf, countersOf}
-use Rattle.service.specs.Judgement.{judgement, refusedEarly, verdictOf}
+use Rattle.judgement.specs.Counts.{Counts, noCounts}
+use Rattle.judgement.specs.Judgement.{judgement, refusedEarly, verdictOf}
+use Rattle.judgement.specs.Answers.{AskerBelow, AnsweredBy}
+use Rattle.judgement.specs.declared.Answered.{Answered}
+use Rattle.service.specs.Counters.{totalsOf, countersOf}
 use Rattle.service.specs.Call.{bufferLeast, chunkMost, stateIn}
 use Rattle.service.specs.Called.{lentMemory}
-use Rattle.service.specs.Answers.{AskerBelow, AnsweredBy}
 use Rattle.service.specs.Counted.{countEvent, withCounts, countRequest, countTaken, countAnswered, countDropped, counted}
 use Rattle.service.specs.Served.{Modest, waited, finished, droppedAll, Carried, SkipReady, effectOf, skipEffect}
 use Rattle.service.specs.declared.Counters.{Counters}
-use Rattle.service.specs.declared.Answered.{Answered}
 use Rattle.service.specs.declared.Handled.{Handled}
 
 pub zero-right : (n : ℕ) → n + 0 ≡ n

@@ -8,11 +8,11 @@ use Rattle.wire.specs.Choice.{if_then_else_}
 use Rattle.stream.specs.Rules.{heldBytes, State, rules}
 use Rattle.registry.specs.Registry.{registryOf}
 use Rattle.registry.specs.Roster.{faultNumber, Roster, applications, faulty, rosterOf}
+use Rattle.judgement.specs.Status.{statusNumber, refusedStatuses}
+use Rattle.judgement.specs.Counts.{Counts}
+use Rattle.judgement.specs.Judgement.{judgement}
+use Rattle.judgement.specs.declared.Status.{Status}
 use Rattle.service.specs.Text.{ascii}
-use Rattle.service.specs.Status.{statusNumber, refusedStatuses}
-use Rattle.service.specs.Counters.{Counts}
-use Rattle.service.specs.Judgement.{judgement}
-use Rattle.service.specs.declared.Status.{Status}
 
 -- ---- words and numbers
 

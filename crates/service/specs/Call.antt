@@ -11,9 +11,10 @@ use Rattle.stream.specs.Call as stream
 use Rattle.stream.specs.Calls.{Call, Layout, CallOutcome, CallsOutcome, callOn, callsOn}
 use Rattle.connection.specs.Connection.{connectionBytes, connectionOf, wellFormedConnection}
 use Rattle.registry.specs.WellFormed.{wellFormedRegistry}
-use Rattle.service.specs.Status.{refusalNumber}
-use Rattle.service.specs.Counters.{Counts, totalsOf, countersOf, largestCounter}
-use Rattle.service.specs.Judgement.{judgement}
+use Rattle.judgement.specs.Counts.{Counts}
+use Rattle.judgement.specs.Judgement.{judgement}
+use Rattle.service.specs.Refusals.{refusalNumber}
+use Rattle.service.specs.Counters.{totalsOf, countersOf, largestCounter}
 use Rattle.service.specs.declared.Counters.{Counters}
 use Rattle.service.specs.declared.Refusal.{Refusal}
 use Rattle.service.specs.declared.Refusal.the-variants.{ResponseBufferTooSmall, ChunkTooLong, ConnectionIllFormed, RegistryIllFormed, CounterTooHigh}

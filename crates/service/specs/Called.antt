@@ -4,7 +4,7 @@ use mathlib.Core.Path.{_≡_}
 use mathlib.Core.Option.{Option, none, some}
 use mathlib.Core.List.{List}
 use Rattle.stream.specs.Calls.{Call, CallOutcome}
-use Rattle.service.specs.Status.{refusalNumber}
+use Rattle.service.specs.Refusals.{refusalNumber}
 use Rattle.service.specs.Call.{Memory, callOutcome}
 use Rattle.service.specs.declared.Counters.{Counters}
 use Rattle.service.specs.declared.Refusal.{Refusal}

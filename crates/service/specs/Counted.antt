@@ -1,9 +1,10 @@
 -- The counters after a call, in the reading copy's terms. No part of the reading copy.
 use Prim.Native.Nat.{ℕ, _+_, _≤_, _<_, _^_}
-use Rattle.service.specs.Counters.{Counts, noCounts, count, totalsOf, countersOf, largestCounter}
+use Rattle.judgement.specs.Counts.{Counts, noCounts, count}
+use Rattle.judgement.specs.Decided.{lineOf}
+use Rattle.judgement.specs.Answers.{AskerBelow}
+use Rattle.service.specs.Counters.{totalsOf, countersOf, largestCounter}
 use Rattle.service.specs.Call.{counterMost}
-use Rattle.service.specs.Decided.{lineOf}
-use Rattle.service.specs.Answers.{AskerBelow}
 use Rattle.service.specs.declared.Counters.{Counters}
 use Rattle.service.specs.declared.Event.{Event}
 use Rattle.service.specs.declared.Event.the-variants.{NoRequest, Request}

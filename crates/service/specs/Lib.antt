@@ -1,12 +1,8 @@
-pub mod Status
-pub mod Operations
+pub mod Refusals
 pub mod Counters
-pub mod Judgement
 pub mod Call
 pub mod Text
 pub mod Bill
-pub mod Decided
-pub mod Answers
 pub mod Counted
 pub mod Called
 pub mod Served

@@ -14,13 +14,14 @@ use Rattle.stream.specs.Effects.{waiting, answering}
 use Rattle.stream.specs.Call.{Effect, callRule}
 use Rattle.connection.specs.Connection.{connectionSize, laidOut, connectionBytes, wellFormedConnection}
 use Rattle.registry.specs.WellFormed.{wellFormedRegistry}
-use Rattle.service.specs.Counters.{Counts, totalsOf, countersOf}
-use Rattle.service.specs.Judgement.{judgement}
+use Rattle.judgement.specs.Counts.{Counts}
+use Rattle.judgement.specs.Judgement.{judgement}
+use Rattle.judgement.specs.Answers.{AskerBelow}
+use Rattle.judgement.specs.declared.Answered.{Answered}
+use Rattle.service.specs.Counters.{totalsOf, countersOf}
 use Rattle.service.specs.Call.{Memory, stateIn, bufferLeast, chunkMost}
-use Rattle.service.specs.Answers.{AskerBelow}
 use Rattle.service.specs.Counted.{counted}
 use Rattle.service.specs.declared.Counters.{Counters}
-use Rattle.service.specs.declared.Answered.{Answered}
 use Rattle.service.specs.declared.Code.the-variants.{Taken}
 use Rattle.service.specs.declared.Event.{Event}
 use Rattle.service.specs.declared.Event.the-variants.{NoRequest, Request}

@@ -1,19 +1,20 @@
 // What a call adds to the counters.
-use crate::Asker;
 use crate::Counters;
 use crate::Event;
 use crate::Handled;
-use crate::Status;
-use crate::statuses::refused_index;
-use crate::statuses::status_number;
+use judgement::Asker;
+use judgement::Status;
+use judgement::statuses::refused_index;
+use judgement::statuses::status_number;
 ghost use mathlib.Core.Path.{_≡_};
 ghost use Prim.Native.Nat.{_≤_, _<_};
 ghost use lib.Dec.{ltb};
-ghost use Rattle.service.specs.Status.{statusNumber};
-ghost use Rattle.service.specs.Counters.{totalsOf, countServed, countRefused, count, largestCounter, maximum};
+ghost use Rattle.judgement.specs.Status.{statusNumber};
+ghost use Rattle.judgement.specs.Counts.{countServed, countRefused, count};
+ghost use Rattle.judgement.specs.Decided.{lineOf};
+ghost use Rattle.judgement.specs.Answers.{AskerBelow};
+ghost use Rattle.service.specs.Counters.{totalsOf, largestCounter, maximum};
 ghost use Rattle.service.specs.Call.{counterMost};
-ghost use Rattle.service.specs.Decided.{lineOf};
-ghost use Rattle.service.specs.Answers.{AskerBelow};
 ghost use Rattle.service.specs.Counted.{zeroCounters, withCounts, countRequest, countTaken, countAnswered, countDropped, counted, RequestFits, TakenFits, AnsweredFits, DroppedFits, Fits};
 
 // Nothing is counted yet.

@@ -1,39 +1,12 @@
-// The service: order of judgement, the six operations, counters and the call.
-use protobuf::message::Values;
-use registry::Line;
-use registry::Slot;
+// The call: refused by C1 to C5 or served, and what it counts.
+use judgement::Asker;
+use judgement::Status;
 
-pub mod answer;
 pub mod call;
 pub mod counting;
 pub mod in_place;
-pub mod operations;
-pub mod order;
 pub mod refusals;
 pub mod serve;
-pub mod statuses;
-
-// A response's status: document 01's table, ascending by number.
-pub enum Status {
-    Success,
-    WrongProviderId,
-    ContentTypeNotSupported,
-    AcceptTypeNotSupported,
-    WireProtocolVersionNotSupported,
-    ProviderDoesNotExist,
-    DeserializingBodyFailed,
-    OpcodeDoesNotExist,
-    AuthenticationError,
-    AuthenticatorDoesNotExist,
-    InvalidHeader,
-    NotAuthenticated,
-    BodySizeExceedsLimit,
-    PsaErrorNotPermitted,
-    PsaErrorInvalidArgument,
-    PsaErrorAlreadyExists,
-    PsaErrorDoesNotExist,
-    PsaErrorInsufficientStorage,
-}
 
 // Why a call is not taken: C1 to C5.
 pub enum Refusal {
@@ -60,55 +33,6 @@ pub struct Counters {
     pub served: [u64; 8],
     pub unauthenticated: u64,
     pub refused: [u64; 17],
-}
-
-// What the tests of a header find.
-pub enum Checked {
-    Passed,
-    Refused(Status),
-}
-
-// Who sent a request: nobody that is named (auth type 0), or an application.
-pub enum Asker {
-    Nobody,
-    Named(Line),
-}
-
-// What the tests of the auth bytes find.
-pub enum Auth {
-    Refused,
-    Accepted(Asker),
-}
-
-// What a response's body is.
-pub enum Output {
-    Nothing,
-    Version,
-    Providers,
-    Opcodes(u32),
-    Data(Slot),
-}
-
-// What becomes of the asker's slots.
-pub enum Edit {
-    Stays,
-    Fills(Slot),
-    Clears(Slot),
-}
-
-// What an operation comes to; `values` are the fields of its body.
-pub struct Decision {
-    pub status: Status,
-    pub output: Output,
-    pub edit: Edit,
-    pub values: Values,
-}
-
-// A request that was answered: for whom it counts, and how many bytes of response were written.
-pub struct Answered {
-    pub status: Status,
-    pub asker: Asker,
-    pub written: usize,
 }
 
 // The request that a call answered, as it is counted: for whom, and with which status.

@@ -1,5 +1,5 @@
 -- `abi::refusal_number` meets its contract.
-use Rattle.service.specs.Status.{refusalNumber}
+use Rattle.service.specs.Refusals.{refusalNumber}
 use borrow.Author.Needs.{needs}
 use Rattle.abi.proofs.refusal_number.Statement.{statement}
 use Rattle.abi.proofs.refusal_number.Tie as tie

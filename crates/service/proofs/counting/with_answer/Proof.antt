@@ -1,7 +1,7 @@
 -- `service::counting::with_answer` meets its contract.
 use borrow.Author.Tests.{eq-eqb, ne-eqb}
 use borrow.Author.Needs.{needs}
-use Rattle.service.specs.Counters.{count}
+use Rattle.judgement.specs.Counts.{count}
 use Rattle.service.proofs.counting.with_answer.Statement.{statement}
 use Rattle.service.proofs.counting.with_answer.Tie as tie
 

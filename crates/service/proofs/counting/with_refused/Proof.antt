@@ -2,7 +2,8 @@
 use native.Mathlib.Numerals.{add-one}
 use native.Mathlib.Omega.{arith}
 use borrow.Author.Needs.{needs}
-use Rattle.service.specs.Counters.{totalsOf, countersOf, increment, countRefused}
+use Rattle.judgement.specs.Counts.{increment, countRefused}
+use Rattle.service.specs.Counters.{totalsOf, countersOf}
 use Rattle.service.specs.Call.{counterMost}
 use Rattle.service.specs.Counted.{withCounts}
 use Rattle.service.proofs.CountingLaws.{none-above, index-below}

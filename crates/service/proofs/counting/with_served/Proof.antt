@@ -5,10 +5,11 @@ use native.Mathlib.Numerals.{add-one}
 use native.Mathlib.Omega.{arith}
 use borrow.Author.Needs.{needs}
 use Rattle.registry.specs.Registry.{lineCount}
-use Rattle.service.specs.Counters.{totalsOf, countersOf, increment, countServed}
+use Rattle.judgement.specs.Counts.{increment, countServed}
+use Rattle.judgement.specs.Decided.{lineOf}
+use Rattle.judgement.specs.Answers.{AskerBelow}
+use Rattle.service.specs.Counters.{totalsOf, countersOf}
 use Rattle.service.specs.Call.{counterMost}
-use Rattle.service.specs.Decided.{lineOf}
-use Rattle.service.specs.Answers.{AskerBelow}
 use Rattle.service.specs.Counted.{withCounts}
 use Rattle.service.proofs.CountingLaws.{none-above}
 use Rattle.service.proofs.counting.with_served.Statement.{statement}

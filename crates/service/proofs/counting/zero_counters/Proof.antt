@@ -1,6 +1,7 @@
 -- `service::counting::zero_counters` meets its contract.
 use mathlib.Core.Path.{refl}
-use Rattle.service.specs.Counters.{noCounts, countersOf}
+use Rattle.judgement.specs.Counts.{noCounts}
+use Rattle.service.specs.Counters.{countersOf}
 use Rattle.service.specs.Counted.{zeroCounters}
 use Rattle.service.proofs.counting.zero_counters.Statement.{statement}
 use Rattle.service.proofs.counting.zero_counters.Tie as tie

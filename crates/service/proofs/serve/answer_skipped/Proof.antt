@@ -6,8 +6,8 @@ use native.Mathlib.Omega.{arith}
 use lib.ListN.{length, take}
 use lib.Seq.{length-take-le}
 use Rattle.wire.specs.Request.{headerSize, headerLength}
-use Rattle.service.specs.Judgement.{judgement}
-use Rattle.service.specs.Answers.{AnsweredBy}
+use Rattle.judgement.specs.Judgement.{judgement}
+use Rattle.judgement.specs.Answers.{AnsweredBy}
 use borrow.Author.Needs.{needs}
 use Rattle.service.proofs.serve.answer_skipped.Statement.{statement}
 use Rattle.service.proofs.serve.answer_skipped.Tie as tie

@@ -15,8 +15,9 @@ use Rattle.connection.specs.State.{stateOf}
 use Rattle.connection.specs.declared.check.State.the-variants.{Open, Skipping}
 use Rattle.connection.proofs.ConnectionLaws.{memory-good}
 use Rattle.connection.proofs.StateLaws.{state-open, state-skipping, state-closed, memory-is, skipping-whole, header-there}
-use Rattle.service.specs.Counters.{Counts, totalsOf}
-use Rattle.service.specs.Judgement.{judgement}
+use Rattle.judgement.specs.Counts.{Counts}
+use Rattle.judgement.specs.Judgement.{judgement}
+use Rattle.service.specs.Counters.{totalsOf}
 use Rattle.service.specs.Call.{chunkMost}
 use Rattle.service.specs.Called.{lentMemory}
 use Rattle.service.specs.Served.{Ready, SkipReady, Carried, headerAt, skipEffect, effectOf}

@@ -18,8 +18,9 @@ use Rattle.connection.proofs.ConnectionLaws.{legal-most, size-there}
 use Rattle.connection.proofs.CheckLaws.{well-size}
 use Rattle.connection.proofs.GatherLaws.{begun-few}
 use Rattle.connection.proofs.StateLaws.{memory-is}
-use Rattle.service.specs.Counters.{Counts, totalsOf}
-use Rattle.service.specs.Judgement.{judgement}
+use Rattle.judgement.specs.Counts.{Counts}
+use Rattle.judgement.specs.Judgement.{judgement}
+use Rattle.service.specs.Counters.{totalsOf}
 use Rattle.service.specs.Call.{chunkMost}
 use Rattle.service.specs.declared.Counters.{Counters}
 use Rattle.service.proofs.ServeLaws.{stateWith, bad-steady, judge-steady, serves-wait, serves-answer}

@@ -22,13 +22,13 @@ use Rattle.connection.specs.declared.gather.Gathered.{Gathered}
 use Rattle.connection.proofs.CheckLaws.{well-size}
 use Rattle.connection.proofs.GatherLaws.{held-back}
 use Rattle.connection.proofs.StateLaws.{state-open, open-holds, open-held, WholeHeader, header-whole, header-there, held-fits}
-use Rattle.service.specs.Counters.{Counts}
-use Rattle.service.specs.Judgement.{judgement}
+use Rattle.judgement.specs.Counts.{Counts}
+use Rattle.judgement.specs.Judgement.{judgement}
+use Rattle.judgement.specs.Answers.{AnsweredBy}
+use Rattle.judgement.specs.declared.Answered.{Answered}
 use Rattle.service.specs.Call.{chunkMost}
 use Rattle.service.specs.Called.{lentMemory}
 use Rattle.service.specs.Served.{Ready, SkipReady, Carried, finished, headerAt, skipEffect, effectOf}
-use Rattle.service.specs.Answers.{AnsweredBy}
-use Rattle.service.specs.declared.Answered.{Answered}
 use Rattle.service.specs.declared.Counters.{Counters}
 use Rattle.service.specs.declared.Handled.{Handled}
 use Rattle.service.proofs.ServeLaws.{stateWith, bad-steady, judge-steady, skip-ready, serves-wait, serves-answer, serves-skip}

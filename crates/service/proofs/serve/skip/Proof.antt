@@ -10,10 +10,11 @@ use Rattle.stream.specs.Rules.{opened, skipping, closed}
 use Rattle.stream.specs.Effects.{answering}
 use Rattle.stream.proofs.FrameLaws.{requestLength-append}
 use Rattle.stream.specs.Call.{Effect}
-use Rattle.service.specs.Counters.{Counts, totalsOf}
-use Rattle.service.specs.Judgement.{judgement, refusedEarly}
-use Rattle.service.specs.Answers.{AnsweredBy}
-use Rattle.service.specs.declared.Answered.{Answered}
+use Rattle.judgement.specs.Counts.{Counts}
+use Rattle.judgement.specs.Judgement.{judgement, refusedEarly}
+use Rattle.judgement.specs.Answers.{AnsweredBy}
+use Rattle.judgement.specs.declared.Answered.{Answered}
+use Rattle.service.specs.Counters.{totalsOf}
 use Rattle.service.specs.Served.{headerAt, Carried}
 use Rattle.service.proofs.ServeLaws.{stateWith, carried-wait, carried-answer, skip-waits, skip-answers}
 use Rattle.service.specs.Call.{chunkMost}

@@ -1,0 +1,212 @@
+-- Laws of decisions: for each way an operation can end, what the rules make of it, from the facts that the code has there.
+use mathlib.Core.Path.{_≡_, sym, _∙_, subst}
+use mathlib.Core.Bool.{true, false, false≢true}
+use mathlib.Core.Option.{none, some}
+use mathlib.Core.List.{List, [], _∷_}
+use Prim.Native.Nat.{ℕ, _+_, _%_, _≤_, _<_}
+use native.Mathlib.Omega.{arith}
+use borrow.Author.Tests.{leb-true, lt-ltb, le-ltb, lt-leb, le-leb}
+use lib.ListN.{length, take, drop, getD, length-take, length-drop}
+use lib.Dec.{leb, eqb}
+use Rattle.wire.proofs.TestLaws.{and-true, every-at}
+use Rattle.protobuf.specs.Body.{bodyOf}
+use Rattle.protobuf.specs.Message.{allAbsent}
+use Rattle.protobuf.specs.Written.{bytesField}
+use Rattle.protobuf.specs.declared.message.Schema.{Schema}
+use Rattle.protobuf.specs.declared.message.Values.{Values}
+use Rattle.protobuf.specs.declared.body.Body.the-variants.{Message, Unreadable}
+use Rattle.protobuf.proofs.StepLaws.{ValuesIn as AllIn}
+use Rattle.protobuf.proofs.BodyLaws.{BodyIn, body-in}
+use Rattle.registry.specs.Names.{legalName}
+use Rattle.registry.specs.Slots.{Key, Entry, free, held, nameOf, keyNameMost, dataMost, legalData, legalBits}
+use Rattle.registry.specs.Registry.{slotCount, slotsOf, slotNamed, unchanged, fill, clear}
+use Rattle.registry.specs.Check.{bytesIn, exportIn}
+use Rattle.registry.specs.declared.Line.{Line}
+use Rattle.registry.specs.declared.Slot.{Slot}
+use Rattle.registry.specs.declared.Found.the-variants.{At, Nothing as Missing}
+use Rattle.registry.proofs.NameLaws.{legal-some, legal-short}
+use Rattle.registry.proofs.SlotLaws.{Legal, legal-data}
+use Rattle.registry.proofs.RegistryLaws.{length-slots, found-below, found-name}
+use Rattle.judgement.specs.Operations.{readBody, keyOf, Operation, operationOf, Result, success, refuse, importBits, importable, performImport, performDestroy, exportOf, performExport, performListOpcodes, perform}
+use Rattle.judgement.specs.Decided.{operated, outputBytes, changeOf, resultIn, refusedWith, ValuesIn, KeyParts, SafeOutput, Decided}
+use Rattle.judgement.specs.declared.Status.{Status}
+use Rattle.judgement.specs.declared.Status.the-variants.{Success, ProviderDoesNotExist, DeserializingBodyFailed, PsaErrorNotPermitted, PsaErrorInvalidArgument, PsaErrorAlreadyExists, PsaErrorDoesNotExist, PsaErrorInsufficientStorage}
+use Rattle.judgement.specs.declared.Output.{Output}
+use Rattle.judgement.specs.declared.Output.the-variants.{Nothing, Opcodes, Data}
+use Rattle.judgement.specs.declared.Edit.the-variants.{Stays, Fills, Clears}
+use Rattle.judgement.specs.declared.Decision.{Decision}
+use Rattle.judgement.proofs.JudgementLaws.{importable-legal}
+
+-- ---- what a decision comes to
+
+-- served, with this body in the response
+abbrev pub servedWith : Output → Decision
+servedWith output = record { status = Success; output = output; edit = Stays; values = allAbsent }
+
+module _ (slots : List Entry) (body : List ℕ) {x : Result} where
+  pub refusal : (status : Status) → x ≡ refuse status → Decided slots body x (refusedWith status)
+  unfolding refuse resultIn outputBytes changeOf
+  refusal status e = record { result = sym e; output = tt; edit = tt }
+
+  pub listing : (output : Output) → SafeOutput output → x ≡ success (outputBytes slots output) unchanged
+      → Decided slots body x (servedWith output)
+  unfolding success resultIn changeOf
+  listing output safe e = record { result = sym e; output = safe; edit = tt }
+
+-- a slot that was found is one of the application's
+pub slot-below : (registry : List ℕ) (line : Line) (name : List ℕ) (slot : Slot) → slotNamed name (slotsOf registry line) ≡ At slot → slot .0 < slotCount
+slot-below registry line name slot e = omega (arith, length-slots registry line, found-below name (slotsOf registry line) slot e)
+
+module _ (slots : List Entry) (body : List ℕ) {x : Result} (v : Values) (slot : Slot) (below : slot .0 < slotCount) where
+  pub filling : KeyParts (length body) v → x ≡ success [] (fill slot (keyOf body v))
+      → Decided slots body x (record { status = Success; output = Nothing; edit = Fills slot; values = v })
+  unfolding success resultIn outputBytes changeOf
+  filling parts e = record { result = sym e; output = tt; edit = (below, parts) }
+
+  pub clearing : x ≡ success [] (clear slot) → Decided slots body x (record { status = Success; output = Nothing; edit = Clears slot; values = v })
+  unfolding success resultIn outputBytes changeOf
+  clearing e = record { result = sym e; output = tt; edit = below }
+
+-- ---- the body of a request
+
+-- a value's bytes are as many as it says
+pub length-part : (s : List ℕ) (a n : ℕ) → a + n ≤ length s → length (take n (drop a s)) ≡ n
+length-part s a n h = simp (length-take, length-drop) (omega arith)
+
+pub values-in : (k : Schema) (body : List ℕ) (v : Values) → bodyOf k body ≡ Message v → ValuesIn (length body) v
+values-in k body v e =
+    let inside : AllIn (length body) v = subst (BodyIn (length body)) e (body-in k body) in
+    record { name = inside .in1; bytes = inside .in2 }
+
+module _ (slots : List Entry) (body : List ℕ) (opcode : ℕ) (fields : Schema) (f : Values → Operation)
+    (reads : operationOf opcode body ≡ readBody fields body f) where
+  pub unreadable : (at : ℕ) → bodyOf fields body ≡ Unreadable at
+      → Decided slots body (operated opcode body slots) (refusedWith DeserializingBodyFailed)
+  unfolding operated readBody
+  unreadable at e =
+      let asks-none : operationOf opcode body ≡ none = reads ∙ (let r : readBody fields body f ≡ none = rw (e, readBody) in r) in
+      refusal slots body DeserializingBodyFailed (rw (asks-none, operated))
+
+  pub readable : (v : Values) → bodyOf fields body ≡ Message v → operated opcode body slots ≡ perform (f v) slots
+  unfolding operated readBody
+  readable v e =
+      let asks : operationOf opcode body ≡ some (f v) = reads ∙ (let r : readBody fields body f ≡ some (f v) = rw (e, readBody) in r) in
+      rw (asks, operated)
+
+-- ---- the core operations
+
+pub opcodes-refused : (provider : ℕ) → 1 < provider → performListOpcodes provider ≡ refuse ProviderDoesNotExist
+unfolding performListOpcodes
+opcodes-refused provider h = rw (lt-ltb 1 provider h)
+
+pub opcodes-listed : (slots : List Entry) (provider : ℕ) → provider ≤ 1
+    → performListOpcodes provider ≡ success (outputBytes slots (Opcodes provider)) unchanged
+unfolding performListOpcodes outputBytes
+opcodes-listed slots provider h = rw (le-ltb 1 provider h)
+
+-- ---- Import
+
+-- what of a key is left to be judged, behind each test that passed
+module _ (key : Key) where
+  pub bad-name : legalName keyNameMost (key .name) ≡ false → importable key ≡ false
+  unfolding importable
+  bad-name n = rw n
+
+  module _ (n : legalName keyNameMost (key .name) ≡ true) where
+    pub no-data : length (key .bytes) ≡ 0 → importable key ≡ false
+    unfolding importable legalData
+    no-data h = rw (n, lt-leb 1 (length (key .bytes)) (omega arith))
+
+    pub long-data : dataMost < length (key .bytes) → importable key ≡ false
+    unfolding importable legalData
+    long-data h = rw (n, le-leb 1 (length (key .bytes)) (omega arith), lt-leb (length (key .bytes)) dataMost h)
+
+    pub bits-left : 1 ≤ length (key .bytes) → length (key .bytes) ≤ dataMost → importable key ≡ legalBits (key .bits)
+    unfolding importable legalData importBits
+    bits-left l h = rw (n, le-leb 1 (length (key .bytes)) l, le-leb (length (key .bytes)) dataMost h) (and-true _)
+
+module _ (slots : List Entry) (key : Key) where
+  pub bad-key : importable key ≡ false → performImport key slots ≡ refuse PsaErrorInvalidArgument
+  unfolding performImport
+  bad-key t = rw t
+
+  module _ (t : importable key ≡ true) where
+    pub name-held : (slot : Slot) → slotNamed (key .name) slots ≡ At slot → performImport key slots ≡ refuse PsaErrorAlreadyExists
+    unfolding performImport
+    name-held slot e = rw (t, e)
+
+    module _ (new : slotNamed (key .name) slots ≡ Missing) where
+      pub no-slot : slotNamed [] slots ≡ Missing → performImport key slots ≡ refuse PsaErrorInsufficientStorage
+      unfolding performImport
+      no-slot e = rw (t, new, e)
+
+      pub imported : (slot : Slot) → slotNamed [] slots ≡ At slot → performImport key slots ≡ success [] (fill slot key)
+      unfolding performImport
+      imported slot e = rw (t, new, e)
+
+legal-bits : (bits : ℕ) → legalBits bits ≡ true → bits ≤ 4096
+unfolding legalBits
+legal-bits bits e = leb-true _ _ (every-at (leb 1024 bits ∷ leb bits 4096 ∷ eqb (bits % 8) 0 ∷ []) 1 e)
+
+-- the parts of a key that Import allows
+pub key-parts : (body : List ℕ) (v : Values) → ValuesIn (length body) v → importable (keyOf body v) ≡ true → KeyParts (length body) v
+key-parts body v inside t =
+    let legal : Legal (keyOf body v) = importable-legal (keyOf body v) t in
+    let n = length-part body (v .f1 .start) (v .f1 .len) (inside .name) in
+    let b = length-part body (v .f2 .start) (v .f2 .len) (inside .bytes) in
+    record {
+      within = inside;
+      name = omega (arith, legal-short keyNameMost _ (legal .name));
+      bytes = omega (arith, legal-data _ (legal .bytes));
+      bits = legal-bits _ (legal .bits);
+    }
+
+-- ---- Destroy and Export
+
+may-export : (entry : Entry) → exportIn entry ≡ true → exportOf entry ≡ success (bytesField 1 (bytesIn entry)) unchanged
+unfolding exportIn exportOf bytesIn
+may-export free a = absurd (false≢true a)
+may-export (held key) a = rw a
+
+may-not-export : (entry : Entry) → 1 ≤ length (nameOf entry) → exportIn entry ≡ false → exportOf entry ≡ refuse PsaErrorNotPermitted
+unfolding exportIn exportOf
+may-not-export free h a = absurd (let z : ⊥ = omega arith in z)
+may-not-export (held key) h a = rw a
+
+module _ (slots : List Entry) (name : List ℕ) where
+  pub bad-destroyed : legalName keyNameMost name ≡ false → performDestroy name slots ≡ refuse PsaErrorInvalidArgument
+  unfolding performDestroy
+  bad-destroyed t = rw t
+
+  pub bad-exported : legalName keyNameMost name ≡ false → performExport name slots ≡ refuse PsaErrorInvalidArgument
+  unfolding performExport
+  bad-exported t = rw t
+
+  module _ (t : legalName keyNameMost name ≡ true) where
+    pub none-destroyed : slotNamed name slots ≡ Missing → performDestroy name slots ≡ refuse PsaErrorDoesNotExist
+    unfolding performDestroy
+    none-destroyed e = rw (t, e)
+
+    pub none-exported : slotNamed name slots ≡ Missing → performExport name slots ≡ refuse PsaErrorDoesNotExist
+    unfolding performExport
+    none-exported e = rw (t, e)
+
+    module _ (slot : Slot) (e : slotNamed name slots ≡ At slot) where
+      pub destroyed : performDestroy name slots ≡ success [] (clear slot)
+      unfolding performDestroy
+      destroyed = rw (t, e)
+
+      abbrev entry : Entry
+      entry = getD slots (slot .0) free
+
+      exports : performExport name slots ≡ exportOf entry
+      unfolding performExport
+      exports = rw (t, e)
+
+      pub exported : exportIn entry ≡ true → performExport name slots ≡ success (outputBytes slots (Data slot)) unchanged
+      unfolding outputBytes
+      exported a = exports ∙ may-export entry a
+
+      -- the slot holds a key, since its name is not empty
+      pub not-exported : exportIn entry ≡ false → performExport name slots ≡ refuse PsaErrorNotPermitted
+      not-exported a = exports ∙ may-not-export entry (rw (found-name name slots slot e) (legal-some keyNameMost name t)) a

@@ -1,0 +1,101 @@
+-- What the judgement keeps: a well-formed registry stays well formed, and a status other than 0 leaves it alone.
+use mathlib.Core.Path.{_≡_, refl, sym, ap}
+use mathlib.Core.Bool.{Bool, true, false}
+use mathlib.Core.Option.{Option, none, some}
+use mathlib.Core.List.{List, [], _∷_}
+use Prim.Native.Nat.{ℕ}
+use lib.Dec.{eqb}
+use Rattle.wire.specs.Choice.{if_then_else_}
+use Rattle.wire.specs.Request.{Request, requestOf}
+use Rattle.wire.proofs.TestLaws.{some≢none, every-at, either}
+use Rattle.stream.specs.Frame.{oversized}
+use Rattle.stream.specs.Rules.{Verdict, judge}
+use Rattle.registry.specs.Names.{legalName}
+use Rattle.registry.specs.Slots.{Key, keyNameMost, legalData, legalBits}
+use Rattle.registry.specs.Registry.{applicationNamed, unchanged, changed}
+use Rattle.registry.specs.WellFormed.{wellFormedRegistry}
+use Rattle.registry.specs.declared.Line.{Line}
+use Rattle.registry.proofs.SlotLaws.{Legal}
+use Rattle.registry.proofs.RegistryLaws.{Used, named-used}
+use Rattle.registry.proofs.WellFormedLaws.{Allowed, stays, fills, clears, change-good}
+use Rattle.judgement.specs.Status.{statusNumber}
+use Rattle.judgement.specs.Operations.{Result, success, refuse, importBits, importable}
+use Rattle.judgement.specs.Counts.{Counts}
+use Rattle.judgement.specs.Judgement.{applicationOf, askersSlots, resultOf, changedBy, verdictOf, refusedEarly, judgement}
+use Rattle.judgement.proofs.Results.{by-result}
+
+-- ---- the application that asks
+
+pub asks : (r : List ℕ) (q : Request) (line : Line) → applicationOf r q ≡ some line → Used r line
+unfolding applicationOf
+asks r q line e = go (eqb (q .authType) 0) e
+  where
+    go : (t : Bool) → (let a : Option Line = if t then none else applicationNamed r (q .auth) in a) ≡ some line → Used r line
+    go true w = absurd (some≢none line (sym w))
+    go false w = named-used r (q .auth) line w
+
+-- ---- the registry after a request
+
+pub importable-legal : (key : Key) → importable key ≡ true → Legal key
+unfolding importable importBits
+importable-legal key e =
+    let tests : List Bool = legalName keyNameMost (key .name) ∷ legalData (key .bytes) ∷ legalBits (key .bits) ∷ [] in
+    record { name = every-at tests 0 e; bytes = every-at tests 1 e; bits = every-at tests 2 e }
+
+pub result-allowed : (r : List ℕ) (q : Request) → Allowed (askersSlots r (applicationOf r q)) (resultOf r q .change)
+unfolding refuse success
+result-allowed r q = by-result r q (λ x. Allowed (askersSlots r (applicationOf r q)) (x .change)) (record {
+  refused = λ status. stays;
+  listed = λ output h. stays;
+  imported = λ slot key v n e. fills (importable-legal key v) n e;
+  destroyed = λ slot name e. clears name e;
+  exported = λ slot key e. stays;
+})
+
+request-good : (r : List ℕ) (q : Request) → wellFormedRegistry r ≡ true
+    → wellFormedRegistry (changedBy r (applicationOf r q) (resultOf r q)) ≡ true
+unfolding changedBy askersSlots
+request-good r q w = go (applicationOf r q) refl (result-allowed r q)
+  where
+    go : (o : Option Line) → applicationOf r q ≡ o → Allowed (askersSlots r o) (resultOf r q .change)
+        → wellFormedRegistry (changedBy r o (resultOf r q)) ≡ true
+    go none e ok = w
+    go (some line) e ok = change-good r w line (asks r q line e) (resultOf r q .change) ok
+
+pub judge-good : (r : List ℕ) (c : Counts) (request : List ℕ) → wellFormedRegistry r ≡ true → wellFormedRegistry (judge judgement r c request .registry) ≡ true
+unfolding judge judgement refusedEarly verdictOf
+judge-good r c request w = either (λ (v : Verdict (List ℕ) Counts (List ℕ)). wellFormedRegistry (v .registry) ≡ true) (oversized request) (λ _. w) (λ _. request-good r (requestOf request) w)
+
+-- ---- any status but 0 leaves the registry alone
+
+KeptUnlessServed : Result → Type 0
+KeptUnlessServed x = (statusNumber (x .status) ≡ 0 → ⊥) → x .change ≡ unchanged
+
+result-kept : (r : List ℕ) (q : Request) → KeptUnlessServed (resultOf r q)
+unfolding KeptUnlessServed refuse success statusNumber
+result-kept r q = by-result r q KeptUnlessServed (record {
+  refused = λ status h. refl;
+  listed = λ output h n. refl;
+  imported = λ slot key v n e h. absurd (h refl);
+  destroyed = λ slot name e h. absurd (h refl);
+  exported = λ slot key e h. refl;
+})
+
+-- a request that is judged at its last byte
+pub refused-keeps : (r : List ℕ) (c : Counts) (request : List ℕ)
+    → (statusNumber (resultOf r (requestOf request) .status) ≡ 0 → ⊥) → judgement .onRequest r c request .registry ≡ r
+unfolding judgement verdictOf changedBy changed KeptUnlessServed
+refused-keeps r c request h = go (applicationOf r (requestOf request))
+  where
+    x : Result
+    x = resultOf r (requestOf request)
+
+    go : (o : Option Line) → changedBy r o x ≡ r
+    go none = refl
+    go (some line) = ap (changed r line) (result-kept r (requestOf request) h)
+
+-- and one that is answered before
+pub early-keeps : (r : List ℕ) (c : Counts) (header : List ℕ)
+    → (judgement .onBadStart r c .registry ≡ r) × (judgement .onOversized r c header .registry ≡ r)
+unfolding judgement refusedEarly
+early-keeps r c header = (refl, refl)

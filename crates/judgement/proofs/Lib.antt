@@ -1,0 +1,7 @@
+pub mod Results
+pub mod JudgementLaws
+pub mod ResponseLaws
+pub mod AnswerLaws
+pub mod DecidedLaws
+pub mod OrderLaws
+pub mod OutputLaws

@@ -1,0 +1,118 @@
+-- Laws of the order's tests: one of the listed numbers, one test of a header after another, and who asks.
+use mathlib.Core.Path.{_≡_, refl, sym}
+use mathlib.Core.Bool.{Bool, true, false, false≢true, _||_}
+use mathlib.Core.Logic.{_⊎_, inl, inr, ⊎-elim}
+use mathlib.Core.Option.{Option, none, some}
+use mathlib.Core.List.{List, [], _∷_, _++_}
+use Prim.Native.Nat.{ℕ, zero, suc}
+use native.Mathlib.Omega.{arith}
+use borrow.Author.Tests.{eqb-true, eqb-false, ne-eqb}
+use lib.ListN.{getD}
+use lib.Dec.{eqb}
+use Rattle.wire.specs.Choice.{firstOf}
+use Rattle.wire.specs.Lists.{oneOf}
+use Rattle.wire.proofs.TestLaws.{or-left, or-right, some≢none, none-first}
+use Rattle.registry.specs.Check.{applicationFound}
+use Rattle.registry.specs.declared.Line.{Line}
+use Rattle.registry.specs.declared.Application.the-variants.{Named, Unknown}
+use Rattle.judgement.specs.Decided.{checkedOf}
+use Rattle.judgement.specs.declared.Status.{Status}
+use Rattle.judgement.specs.declared.Checked.the-variants.{Passed, Refused}
+
+-- ---- one of the listed numbers
+
+-- the number is none of these
+abbrev pub NoneOf : List ℕ → ℕ → Type 0
+NoneOf [] n = Unit {0}
+NoneOf (x ∷ xs) n = (n ≡ x → ⊥) × NoneOf xs n
+
+pub unlisted : (xs : List ℕ) (n : ℕ) → NoneOf xs n → oneOf xs n ≡ false
+unfolding oneOf
+unlisted [] n h = refl
+unlisted (x ∷ xs) n h = rw (ne-eqb n x (h .0)) (unlisted xs n (h .1))
+
+none-of : (xs : List ℕ) (n : ℕ) → oneOf xs n ≡ false → NoneOf xs n
+unfolding oneOf
+none-of [] n e = tt
+none-of (x ∷ xs) n e = (eqb-false n x (or-left (eqb n x) _ e), none-of xs n (or-right (eqb n x) _ e))
+
+pub is-listed : (xs : List ℕ) (n : ℕ) → (NoneOf xs n → ⊥) → oneOf xs n ≡ true
+is-listed xs n h = go (oneOf xs n) refl
+  where
+    go : (t : Bool) → oneOf xs n ≡ t → oneOf xs n ≡ true
+    go true e = e
+    go false e = absurd (h (none-of xs n e))
+
+listed-first : (x : ℕ) (xs : List ℕ) (n : ℕ) → oneOf (x ∷ xs) n ≡ true → (n ≡ x) ⊎ (oneOf xs n ≡ true)
+unfolding oneOf
+listed-first x xs n e = go (eqb n x) refl e
+  where
+    go : (t : Bool) → eqb n x ≡ t → t || oneOf xs n ≡ true → (n ≡ x) ⊎ (oneOf xs n ≡ true)
+    go true q w = inl (eqb-true n x q)
+    go false q w = inr w
+
+-- the opcodes of each provider are three
+pub one-of-three : (x y z n : ℕ) → oneOf (x ∷ y ∷ z ∷ []) n ≡ true → (n ≡ x) ⊎ ((n ≡ y) ⊎ (n ≡ z))
+unfolding oneOf
+one-of-three x y z n e = ⊎-elim inl (λ w. inr (second w)) (listed-first x (y ∷ z ∷ []) n e)
+  where
+    third : oneOf (z ∷ []) n ≡ true → n ≡ z
+    third w = ⊎-elim (λ q. q) (λ q. absurd (false≢true q)) (listed-first z [] n w)
+
+    second : oneOf (y ∷ z ∷ []) n ≡ true → (n ≡ y) ⊎ (n ≡ z)
+    second w = ⊎-elim inl (λ q. inr (third q)) (listed-first y (z ∷ []) n w)
+
+-- ---- the first test that applies, one test after another
+
+module _ (t : Bool) (status : Status) (tests : List (Bool × Status)) where
+  pub stops : t ≡ true → checkedOf (firstOf ((t, status) ∷ tests)) ≡ Refused status
+  unfolding firstOf checkedOf
+  stops e = rw e
+
+  pub passes : t ≡ false → checkedOf (firstOf ((t, status) ∷ tests)) ≡ checkedOf (firstOf tests)
+  unfolding firstOf
+  passes e = rw e
+
+module _ {A : Type 0} where
+  -- of tests and then others
+  pub first-before : (ts us : List (Bool × A)) (a : A) → firstOf ts ≡ some a → firstOf (ts ++ us) ≡ some a
+  unfolding firstOf
+  first-before [] us a e = absurd (some≢none a (sym e))
+  first-before ((true, b) ∷ ts) us a e = e
+  first-before ((false, b) ∷ ts) us a e = first-before ts us a e
+
+  pub first-behind : (ts us : List (Bool × A)) → firstOf ts ≡ none → firstOf (ts ++ us) ≡ firstOf us
+  unfolding firstOf
+  first-behind [] us e = refl
+  first-behind ((true, b) ∷ ts) us e = absurd (some≢none b e)
+  first-behind ((false, b) ∷ ts) us e = first-behind ts us e
+
+  -- no case applies, so the test number k does not hold
+  pub none-at : (ts : List (Bool × A)) (k : ℕ) (a : A) → firstOf ts ≡ none → getD ts k (false, a) .0 ≡ false
+  none-at [] k a e = refl
+  none-at (t ∷ ts) zero a e = none-first (t .0) (t .1) ts e .0
+  none-at (t ∷ ts) (suc k) a e = none-at ts k a (none-first (t .0) (t .1) ts e .1)
+
+-- ---- a header that was checked
+
+pub passed-none : (o : Option Status) → checkedOf o ≡ Passed → o ≡ none
+unfolding checkedOf
+passed-none none e = refl
+passed-none (some status) e = let z : _≡_ {A = ℕ} 0 1 = cc in absurd (let w : ⊥ = omega arith in w)
+
+pub refused-some : (o : Option Status) (status : Status) → checkedOf o ≡ Refused status → o ≡ some status
+unfolding checkedOf
+refused-some none status e = let z : _≡_ {A = ℕ} 0 1 = cc in absurd (let w : ⊥ = omega arith in w)
+refused-some (some s) status e = cc
+
+-- ---- the application that was found
+
+pub found-line : (o : Option Line) (line : Line) → applicationFound o ≡ Named line → o ≡ some line
+unfolding applicationFound
+found-line none line e = let z : _≡_ {A = ℕ} 0 1 = cc in absurd (let w : ⊥ = omega arith in w)
+found-line (some l) line e = cc
+
+pub found-none : (o : Option Line) → applicationFound o ≡ Unknown → o ≡ none
+unfolding applicationFound
+found-none none e = refl
+found-none (some l) e = let z : _≡_ {A = ℕ} 0 1 = cc in absurd (let w : ⊥ = omega arith in w)

@@ -1,0 +1,131 @@
+-- Every response has at most 629 bytes, where the registry is well formed.
+use mathlib.Core.Path.{_≡_, subst}
+use mathlib.Core.Bool.{true}
+use mathlib.Core.Option.{Option, none, some}
+use mathlib.Core.List.{List, [], _∷_, _++_}
+use Prim.Native.Nat.{ℕ, _+_, _*_, _/_, _≤_, _<_}
+use native.Mathlib.Omega.{arith}
+use borrow.Author.Tests.{lt-ltb}
+use lib.ListN.{length, take, getD, length-append}
+use lib.Dec.{ltb}
+use Rattle.wire.specs.Lists.{all}
+use Rattle.wire.specs.Numbers.{littleEndianOf}
+use Rattle.wire.specs.Request.{Request, requestOf}
+use Rattle.wire.specs.Response.{responseHeader, responseBytes}
+use Rattle.wire.proofs.TestLaws.{either}
+use Rattle.stream.specs.Frame.{oversized}
+use Rattle.stream.specs.Rules.{Verdict, judge, Outcome, Progress, answer, finish, rulesFrom, start, rules}
+use Rattle.stream.proofs.AccountingLaws.{by-requests}
+use Rattle.protobuf.specs.Written.{varintWithin, varint, bytesField}
+use Rattle.registry.specs.Slots.{free, dataMost}
+use Rattle.registry.specs.WellFormed.{wellFormedRegistry}
+use Rattle.registry.specs.declared.Line.{Line}
+use Rattle.registry.proofs.SlotLaws.{ShortEntry}
+use Rattle.registry.proofs.WellFormedLaws.{slots-short}
+use Rattle.judgement.specs.Status.{statusNumber}
+use Rattle.judgement.specs.Operations.{success, refuse}
+use Rattle.judgement.specs.Counts.{Counts}
+use Rattle.judgement.specs.Judgement.{applicationOf, askersSlots, resultOf, verdictOf, refusedEarly, judgement}
+use Rattle.judgement.specs.declared.Status.{Status}
+use Rattle.judgement.proofs.Results.{by-result}
+use Rattle.judgement.proofs.JudgementLaws.{asks, judge-good}
+
+-- the longest response
+abbrev pub responseMost : ℕ
+responseMost = 629
+
+abbrev bodyMost : ℕ
+bodyMost = 3 + dataMost
+
+response-length : (provider session opcode status : ℕ) (body : List ℕ) → length (responseBytes provider session opcode status body) ≡ 26 + length body
+unfolding responseBytes responseHeader littleEndianOf
+response-length provider session opcode status body = omega arith
+
+-- ---- the output of an operation
+
+slots-of-asker : (r : List ℕ) → wellFormedRegistry r ≡ true → (q : Request) (i : ℕ) → ShortEntry (getD (askersSlots r (applicationOf r q)) i free)
+unfolding askersSlots
+slots-of-asker r w q i = go (applicationOf r q) mathlib.Core.Path.refl
+  where
+    go : (o : Option Line) → applicationOf r q ≡ o → ShortEntry (getD (askersSlots r o) i free)
+    go none e = tt
+    go (some line) e = slots-short r w line (asks r q line e .there) i
+
+varint-short : (n : ℕ) → n ≤ dataMost → length (varint n) ≤ 2
+unfolding varint varintWithin
+varint-short n h = either (λ (l : List ℕ). length l ≤ 2) (ltb n 128)
+    (λ _. omega arith)
+    (λ _. rw (lt-ltb (n / 128) 128 (let x : n / 128 < 128 = omega arith in x)) (omega arith))
+
+bytes-short : (bytes : List ℕ) → length bytes ≤ dataMost → length (bytesField 1 bytes) ≤ bodyMost
+unfolding bytesField
+bytes-short [] h = omega arith
+bytes-short (b ∷ bytes) h =
+    let v = varint-short (length (b ∷ bytes)) h in
+    let l = length-append (varint (length (b ∷ bytes))) (b ∷ bytes) in
+    let t : length (varint (8 * 1 + 2)) ≤ 1 = tag in
+    let all = length-append (varint (8 * 1 + 2)) (varint (length (b ∷ bytes)) ++ (b ∷ bytes)) in
+    omega arith
+  where
+    tag : length (varint (8 * 1 + 2)) ≤ 1
+    tag = unfold varint varintWithin in omega arith
+
+output-short : (r : List ℕ) → wellFormedRegistry r ≡ true → (q : Request) → length (resultOf r q .output) ≤ bodyMost
+unfolding refuse success
+output-short r w q = by-result r q (λ x. length (x .output) ≤ bodyMost) (record {
+  refused = λ status. omega arith;
+  listed = λ output h. omega arith;
+  imported = λ slot key v n e. omega arith;
+  destroyed = λ slot name e. omega arith;
+  exported = λ slot key e. bytes-short (key .bytes) (subst ShortEntry e (slots-of-asker r w q (slot .0)));
+})
+
+-- ---- one response
+
+early-short : (r : List ℕ) (c : Counts) (p s o : ℕ) (status : Status) → length (refusedEarly r c p s o status .response) ≤ responseMost
+unfolding refusedEarly
+early-short r c p s o status = omega (arith, response-length p s o (statusNumber status) [])
+
+pub bad-short : (r : List ℕ) (c : Counts) → length (judgement .onBadStart r c .response) ≤ responseMost
+unfolding judgement
+bad-short r c = early-short r c 0 0 0 _
+
+pub oversized-short : (r : List ℕ) (c : Counts) (header : List ℕ) → length (judgement .onOversized r c header .response) ≤ responseMost
+unfolding judgement
+oversized-short r c header = early-short r c _ _ _ _
+
+pub judge-short : (r : List ℕ) (c : Counts) (request : List ℕ) → wellFormedRegistry r ≡ true → length (judge judgement r c request .response) ≤ responseMost
+unfolding judge judgement verdictOf
+judge-short r c request w =
+    let q : Request = requestOf request in
+    let l = response-length (q .provider) (q .session) (q .opcode) (statusNumber (resultOf r q .status)) (resultOf r q .output) in
+    let s = output-short r w q in
+    either (λ (v : Verdict (List ℕ) Counts (List ℕ)). length (v .response) ≤ responseMost) (oversized request)
+    (λ _. early-short r c _ _ _ _) (λ _. omega arith)
+
+-- ---- all responses that the rules give
+
+abbrev pub AllShort : List (List ℕ) → Type 0
+AllShort [] = Unit {0}
+AllShort (x ∷ xs) = (length x ≤ responseMost) × AllShort xs
+
+short-join : (xs : List (List ℕ)) (x : List ℕ) → AllShort xs → length x ≤ responseMost → AllShort (xs ++ (x ∷ []))
+short-join [] x a h = (h, tt)
+short-join (y ∷ xs) x a h = (a .0, short-join xs x (a .1) h)
+
+abbrev Step : ℕ → Progress (List ℕ) Counts (List ℕ) → List ℕ → Outcome (List ℕ) Counts (List ℕ) → Type 0
+Step taken p s o = wellFormedRegistry (p .registry) ≡ true → AllShort (p .responses) → AllShort (o .responses)
+
+short-from : (taken : ℕ) (p : Progress (List ℕ) Counts (List ℕ)) (s : List ℕ) → Step taken p s (rulesFrom judgement taken p s)
+unfolding finish answer
+short-from = by-requests judgement Step
+    (λ taken p s u w a. a)
+    (λ taken p s h w a. short-join (p .responses) _ a (bad-short (p .registry) (p .counts)))
+    (λ taken p s k w a. a)
+    (λ taken p s n o h k rest w a.
+    rest (judge-good (p .registry) (p .counts) (take n s) w)
+    (short-join (p .responses) _ a (judge-short (p .registry) (p .counts) (take n s) w)))
+
+pub responses-short : (registry : List ℕ) → wellFormedRegistry registry ≡ true → (stream : List ℕ) → AllShort (rules judgement registry stream .responses)
+unfolding rules start
+responses-short registry w stream = short-from (length stream) (start judgement registry) stream w tt

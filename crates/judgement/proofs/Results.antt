@@ -1,0 +1,118 @@
+-- What is true of every way in which a request can end is true of its result.
+use mathlib.Core.Path.{_≡_, refl}
+use mathlib.Core.Bool.{Bool, true, false}
+use mathlib.Core.Option.{Option, none, some}
+use mathlib.Core.List.{List, [], flatMap}
+use Prim.Native.Nat.{ℕ, _≤_}
+use native.Mathlib.Omega.{arith}
+use lib.ListN.{length, getD}
+use lib.Dec.{ltb, eqb}
+use Rattle.wire.specs.Choice.{firstOf}
+use Rattle.wire.specs.Request.{Request}
+use Rattle.protobuf.specs.Written.{varintWithin, varint, numberField, bytesField, packedField}
+use Rattle.registry.specs.Names.{legalName}
+use Rattle.registry.specs.Slots.{Key, Entry, free, held, keyNameMost}
+use Rattle.registry.specs.Registry.{slotNamed, unchanged, fill, clear}
+use Rattle.registry.specs.declared.Slot.{Slot}
+use Rattle.registry.specs.declared.Found.{Found}
+use Rattle.registry.specs.declared.Found.the-variants.{At, Nothing}
+use Rattle.judgement.specs.Operations.{opcodesOf, Operation, ping, listProviders, listOpcodes, importKey, destroyKey, exportPublicKey, operationOf, Result, success, refuse, importable, performImport, performDestroy, exportOf, performExport, performListOpcodes, perform}
+use Rattle.judgement.specs.Judgement.{applicationOf, refusals, askersSlots, operate, resultOf}
+use Rattle.judgement.specs.declared.Status.{Status}
+
+-- the ways to end, on these slots
+pub record Ends (slots : List Entry) (P : Result → Type 0) : Type 0 where
+  pub refused : (status : Status) → P (refuse status)
+  pub listed : (output : List ℕ) → length output ≤ 5 → P (success output unchanged)
+  pub imported : (slot : Slot) (key : Key) → importable key ≡ true → slotNamed (key .name) slots ≡ Nothing → slotNamed [] slots ≡ At slot
+      → P (success [] (fill slot key))
+  pub destroyed : (slot : Slot) (name : List ℕ) → slotNamed name slots ≡ At slot → P (success [] (clear slot))
+  pub exported : (slot : Slot) (key : Key) → getD slots (slot .0) free ≡ held key → P (success (bytesField 1 (key .bytes)) unchanged)
+
+module _ (slots : List Entry) (P : Result → Type 0) (ends : Ends slots P) where
+  by-import : (key : Key) → P (performImport key slots)
+  unfolding performImport
+  by-import key = go (importable key) refl
+    where
+      third : importable key ≡ true → slotNamed (key .name) slots ≡ Nothing → (f : Found) → slotNamed [] slots ≡ f → P (performImport key slots)
+      third v n Nothing e = rw (v, n, e, performImport) (ends .refused _)
+      third v n (At slot) e = rw (v, n, e, performImport) (ends .imported slot key v n e)
+
+      second : importable key ≡ true → (f : Found) → slotNamed (key .name) slots ≡ f → P (performImport key slots)
+      second v (At slot) e = rw (v, e, performImport) (ends .refused _)
+      second v Nothing e = third v e (slotNamed [] slots) refl
+
+      go : (t : Bool) → importable key ≡ t → P (performImport key slots)
+      go false e = rw (e, performImport) (ends .refused _)
+      go true e = second e (slotNamed (key .name) slots) refl
+
+  by-destroy : (name : List ℕ) → P (performDestroy name slots)
+  unfolding performDestroy
+  by-destroy name = go (legalName keyNameMost name) refl
+    where
+      second : legalName keyNameMost name ≡ true → (f : Found) → slotNamed name slots ≡ f → P (performDestroy name slots)
+      second v Nothing e = rw (v, e, performDestroy) (ends .refused _)
+      second v (At slot) e = rw (v, e, performDestroy) (ends .destroyed slot name e)
+
+      go : (t : Bool) → legalName keyNameMost name ≡ t → P (performDestroy name slots)
+      go false e = rw (e, performDestroy) (ends .refused _)
+      go true e = second e (slotNamed name slots) refl
+
+  by-entry : (slot : Slot) (entry : Entry) → getD slots (slot .0) free ≡ entry → P (exportOf entry)
+  unfolding exportOf
+  by-entry slot free q = ends .refused _
+  by-entry slot (held key) q = go (key .exportAllowed) refl
+    where
+      go : (t : Bool) → key .exportAllowed ≡ t → P (exportOf (held key))
+      go false e = rw (e, exportOf) (ends .refused _)
+      go true e = rw (e, exportOf) (ends .exported slot key q)
+
+  by-export : (name : List ℕ) → P (performExport name slots)
+  unfolding performExport
+  by-export name = go (legalName keyNameMost name) refl
+    where
+      second : legalName keyNameMost name ≡ true → (f : Found) → slotNamed name slots ≡ f → P (performExport name slots)
+      second v Nothing e = rw (v, e, performExport) (ends .refused _)
+      second v (At slot) e = rw (v, e, performExport) (by-entry slot (getD slots (slot .0) free) refl)
+
+      go : (t : Bool) → legalName keyNameMost name ≡ t → P (performExport name slots)
+      go false e = rw (e, performExport) (ends .refused _)
+      go true e = second e (slotNamed name slots) refl
+
+  by-opcodes : (provider : ℕ) → P (performListOpcodes provider)
+  unfolding performListOpcodes
+  by-opcodes provider = go (ltb 1 provider) refl
+    where
+      five : (t : Bool) → eqb provider 0 ≡ t → length (packedField 1 (opcodesOf provider)) ≤ 5
+      five true e = unfold packedField flatMap varint varintWithin bytesField opcodesOf in rw e (omega arith)
+      five false e = unfold packedField flatMap varint varintWithin bytesField opcodesOf in rw e (omega arith)
+
+      go : (t : Bool) → ltb 1 provider ≡ t → P (performListOpcodes provider)
+      go true e = rw (e, performListOpcodes) (ends .refused _)
+      go false e = rw (e, performListOpcodes) (ends .listed _ (five (eqb provider 0) refl))
+
+  by-operation : (operation : Operation) → P (perform operation slots)
+  unfolding perform
+  by-operation ping = ends .listed _ (unfold numberField varint varintWithin in omega arith)
+  by-operation listProviders = ends .listed _ (unfold packedField flatMap varint varintWithin bytesField in omega arith)
+  by-operation (listOpcodes provider) = by-opcodes provider
+  by-operation (importKey key) = by-import key
+  by-operation (destroyKey name) = by-destroy name
+  by-operation (exportPublicKey name) = by-export name
+
+module _ (r : List ℕ) (q : Request) (P : Result → Type 0) (ends : Ends (askersSlots r (applicationOf r q)) P) where
+  by-operate : P (operate r q)
+  unfolding operate
+  by-operate = go (operationOf (q .opcode) (q .body)) refl
+    where
+      go : (o : Option Operation) → operationOf (q .opcode) (q .body) ≡ o → P (operate r q)
+      go none e = rw (e, operate) (ends .refused _)
+      go (some operation) e = rw (e, operate) (by-operation (askersSlots r (applicationOf r q)) P ends operation)
+
+  pub by-result : P (resultOf r q)
+  unfolding resultOf
+  by-result = go (firstOf (refusals r q)) refl
+    where
+      go : (o : Option Status) → firstOf (refusals r q) ≡ o → P (resultOf r q)
+      go (some status) e = rw (e, resultOf) (ends .refused status)
+      go none e = rw (e, resultOf) by-operate

@@ -1,0 +1,137 @@
+-- What the code decides of a request, in the reading copy's terms. No part of the reading copy.
+use Prim.Native.Nat.{ℕ, _+_, _≤_, _<_}
+use mathlib.Core.Path.{_≡_}
+use mathlib.Core.Logic.{_⊎_}
+use mathlib.Core.Bool.{Bool, _&&_, not}
+use mathlib.Core.Option.{Option, none, some}
+use mathlib.Core.List.{List, [], _∷_, _++_}
+use lib.ListN.{length, take, getD}
+use lib.Dec.{ltb, eqb}
+use Rattle.wire.specs.Choice.{if_then_else_}
+use Rattle.wire.specs.Lists.{oneOf}
+use Rattle.wire.specs.declared.header.Header.{Header}
+use Rattle.protobuf.specs.Message.{allAbsent}
+use Rattle.protobuf.specs.Written.{numberField, bytesField, packedField}
+use Rattle.protobuf.specs.declared.message.Value.{Value}
+use Rattle.protobuf.specs.declared.message.Values.{Values}
+use Rattle.registry.specs.Slots.{Entry, free, keyNameMost, dataMost}
+use Rattle.registry.specs.Registry.{slotCount, Change, unchanged, fill, clear}
+use Rattle.registry.specs.Check.{bytesIn}
+use Rattle.registry.specs.declared.Line.{Line}
+use Rattle.registry.specs.declared.Slot.{Slot}
+use Rattle.judgement.specs.Operations.{coreOpcodes, keystoreOpcodes, opcodesOf, keyOf, operationOf, Result, refuse, perform}
+use Rattle.judgement.specs.declared.Status.{Status}
+use Rattle.judgement.specs.declared.Status.the-variants.{WrongProviderId, ContentTypeNotSupported, AcceptTypeNotSupported, WireProtocolVersionNotSupported, ProviderDoesNotExist, DeserializingBodyFailed, OpcodeDoesNotExist, AuthenticatorDoesNotExist}
+use Rattle.judgement.specs.declared.Checked.{Checked}
+use Rattle.judgement.specs.declared.Checked.the-variants.{Passed, Refused}
+use Rattle.judgement.specs.declared.Asker.{Asker}
+use Rattle.judgement.specs.declared.Asker.the-variants.{Nobody, Named}
+use Rattle.judgement.specs.declared.Auth.{Auth}
+use Rattle.judgement.specs.declared.Auth.the-variants.{Refused as AuthRefused, Accepted}
+use Rattle.judgement.specs.declared.Output.{Output}
+use Rattle.judgement.specs.declared.Output.the-variants.{Nothing, Version, Providers, Opcodes, Data}
+use Rattle.judgement.specs.declared.Edit.{Edit}
+use Rattle.judgement.specs.declared.Edit.the-variants.{Stays, Fills, Clears}
+use Rattle.judgement.specs.declared.Decision.{Decision}
+
+-- ---- the order's tests of the header alone, and of the auth bytes
+
+unfoldable pub headerTests : Header → List (Bool × Status)
+headerTests h =
+    (not (eqb (h .major) 1 && eqb (h .minor) 0), WireProtocolVersionNotSupported)
+    ∷ (not (eqb (h .«content_type») 1), ContentTypeNotSupported)
+    ∷ (not (eqb (h .«accept_type») 1), AcceptTypeNotSupported)
+    ∷ (not (oneOf (coreOpcodes ++ keystoreOpcodes) (h .opcode)), OpcodeDoesNotExist)
+    ∷ (ltb 1 (h .provider), ProviderDoesNotExist)
+    ∷ (not (oneOf (opcodesOf (h .provider)) (h .opcode)), WrongProviderId)
+    ∷ (ltb 1 (h .«auth_type»), AuthenticatorDoesNotExist)
+    ∷ []
+
+unfoldable pub checkedOf : Option Status → Checked
+checkedOf none = Passed
+checkedOf (some status) = Refused status
+
+unfoldable pub namedOr : Option Line → Auth
+namedOr none = AuthRefused
+namedOr (some line) = Accepted (Named line)
+
+-- by the application that the auth bytes name
+unfoldable pub authOf : (authType : ℕ) (auth : List ℕ) → Option Line → Auth
+authOf authType auth named =
+    if eqb authType 0 then (if ltb 0 (length auth) then AuthRefused else Accepted Nobody) else namedOr named
+
+unfoldable pub lineOf : Asker → Option Line
+lineOf Nobody = none
+lineOf (Named line) = some line
+
+-- ---- what an operation comes to
+
+-- body not readable: 7; then the operation's own
+unfoldable pub operated : (opcode : ℕ) (body : List ℕ) (slots : List Entry) → Result
+operated opcode body slots = elim (operationOf opcode body) [
+  | none ↦ refuse DeserializingBodyFailed
+  | some operation ↦ perform operation slots
+]
+
+unfoldable pub outputBytes : (slots : List Entry) → Output → List ℕ
+outputBytes slots Nothing = []
+outputBytes slots Version = numberField 1 1 ++ numberField 2 0
+outputBytes slots Providers = packedField 1 (0 ∷ 1 ∷ [])
+outputBytes slots (Opcodes provider) = packedField 1 (opcodesOf provider)
+outputBytes slots (Data slot) = bytesField 1 (bytesIn (getD slots (slot .0) free))
+
+unfoldable pub changeOf : (body : List ℕ) → Values → Edit → Change
+changeOf body v Stays = unchanged
+changeOf body v (Fills slot) = fill slot (keyOf body v)
+changeOf body v (Clears slot) = clear slot
+
+unfoldable pub resultIn : (slots : List Entry) (body : List ℕ) → Decision → Result
+resultIn slots body d = record { status = d .status; output = outputBytes slots (d .output); change = changeOf body (d .values) (d .edit) }
+
+abbrev pub refusedWith : Status → Decision
+refusedWith status = record { status = status; output = Nothing; edit = Stays; values = allAbsent }
+
+-- ---- what whoever carries a decision out may rely on
+
+-- a value's bytes lie within n bytes
+abbrev pub Within : (n : ℕ) → Value → Type 0
+Within n v = v .start + v .len ≤ n
+
+pub record ValuesIn (n : ℕ) (v : Values) : Type 0 where
+  pub name : Within n (v .f1)
+  pub bytes : Within n (v .f2)
+
+-- the parts of a key that is filled in
+pub record KeyParts (n : ℕ) (v : Values) : Type 0 where
+  pub within : ValuesIn n v
+  pub name : v .f1 .len ≤ keyNameMost
+  pub bytes : v .f2 .len ≤ dataMost
+  pub bits : v .f3 .number ≤ 4096
+
+abbrev pub SafeOutput : Output → Type 0
+SafeOutput Nothing = Unit {0}
+SafeOutput Version = Unit {0}
+SafeOutput Providers = Unit {0}
+SafeOutput (Opcodes provider) = provider ≤ 1
+SafeOutput (Data slot) = slot .0 < slotCount
+
+abbrev pub SafeEdit : (n : ℕ) → Values → Edit → Type 0
+SafeEdit n v Stays = Unit {0}
+SafeEdit n v (Fills slot) = (slot .0 < slotCount) × KeyParts n v
+SafeEdit n v (Clears slot) = slot .0 < slotCount
+
+-- d is what x says, on these slots and this body
+pub record Decided (slots : List Entry) (body : List ℕ) (x : Result) (d : Decision) : Type 0 where
+  pub result : resultIn slots body d ≡ x
+  pub output : SafeOutput (d .output)
+  pub edit : SafeEdit (length body) (d .values) (d .edit)
+
+-- whatever the slots are
+abbrev pub DecidedAnywhere : (body : List ℕ) (x : List Entry → Result) → Decision → Type 0
+DecidedAnywhere body x d = (slots : List Entry) → Decided slots body (x slots) d
+
+abbrev pub oneOfCore : (opcode : ℕ) → Type 0
+oneOfCore opcode = (opcode ≡ 1) ⊎ ((opcode ≡ 8) ⊎ (opcode ≡ 9))
+
+abbrev pub oneOfKeystore : (opcode : ℕ) → Type 0
+oneOfKeystore opcode = (opcode ≡ 3) ⊎ ((opcode ≡ 6) ⊎ (opcode ≡ 7))

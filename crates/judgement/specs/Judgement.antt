@@ -1,0 +1,96 @@
+-- "Order of judgement on one request".
+use Prim.Native.Nat.{ℕ}
+use mathlib.Core.Bool.{Bool, _&&_, not}
+use mathlib.Core.Option.{Option, none, some}
+use mathlib.Core.List.{List, [], _∷_, _++_}
+use lib.ListN.{length}
+use lib.Dec.{ltb, eqb}
+use Rattle.wire.specs.Choice.{if_then_else_, firstOf, isSome}
+use Rattle.wire.specs.Lists.{oneOf}
+use Rattle.wire.specs.Request.{contentLength, Request, requestOf}
+use Rattle.wire.specs.Response.{responseBytes}
+use Rattle.stream.specs.Frame.{contentMost}
+use Rattle.stream.specs.Rules.{Verdict, Judgement}
+use Rattle.registry.specs.Slots.{Entry}
+use Rattle.registry.specs.Registry.{applicationNamed, slotsOf, changed}
+use Rattle.registry.specs.declared.Line.{Line}
+use Rattle.judgement.specs.Status.{statusNumber}
+use Rattle.judgement.specs.Operations.{coreOpcodes, keystoreOpcodes, opcodesOf, operationOf, Result, refuse, perform}
+use Rattle.judgement.specs.Counts.{Counts, noCounts, countRefused, count}
+use Rattle.judgement.specs.declared.Status.{Status}
+use Rattle.judgement.specs.declared.Status.the-variants.{WrongProviderId, ContentTypeNotSupported, AcceptTypeNotSupported, WireProtocolVersionNotSupported, ProviderDoesNotExist, DeserializingBodyFailed, OpcodeDoesNotExist, AuthenticationError, AuthenticatorDoesNotExist, InvalidHeader, NotAuthenticated, BodySizeExceedsLimit}
+
+-- ---- the order's third step: at the last byte, first that applies
+
+-- the application that the auth bytes name; with auth type 0 there is none
+unfoldable pub applicationOf : (registry : List ℕ) → Request → Option Line
+applicationOf registry q = if eqb (q .authType) 0 then none else applicationNamed registry (q .auth)
+
+unfoldable pub refusals : (registry : List ℕ) → Request → List (Bool × Status)
+refusals registry q =
+    (not (eqb (q .major) 1 && eqb (q .minor) 0), WireProtocolVersionNotSupported)
+    ∷ (not (eqb (q .contentType) 1), ContentTypeNotSupported)
+    ∷ (not (eqb (q .acceptType) 1), AcceptTypeNotSupported)
+    ∷ (not (oneOf (coreOpcodes ++ keystoreOpcodes) (q .opcode)), OpcodeDoesNotExist)
+    ∷ (ltb 1 (q .provider), ProviderDoesNotExist)
+    ∷ (not (oneOf (opcodesOf (q .provider)) (q .opcode)), WrongProviderId)
+    ∷ (ltb 1 (q .authType), AuthenticatorDoesNotExist)
+    ∷ (eqb (q .authType) 0 && ltb 0 (length (q .auth)), AuthenticationError)
+    ∷ (eqb (q .authType) 1 && not (isSome (applicationOf registry q)), AuthenticationError)
+    ∷ (eqb (q .provider) 1 && eqb (q .authType) 0, NotAuthenticated)
+    ∷ []
+
+-- the slots of the application that asks, if there is one
+unfoldable pub askersSlots : (registry : List ℕ) → Option Line → List Entry
+askersSlots registry none = []
+askersSlots registry (some line) = slotsOf registry line
+
+-- body not readable: 7; then the operation's own
+unfoldable pub operate : (registry : List ℕ) → Request → Result
+operate registry q = elim (operationOf (q .opcode) (q .body)) [
+  | none ↦ refuse DeserializingBodyFailed
+  | some operation ↦ perform operation (askersSlots registry (applicationOf registry q))
+]
+
+unfoldable pub resultOf : (registry : List ℕ) → Request → Result
+resultOf registry q = elim (firstOf (refusals registry q)) [
+  | some status ↦ refuse status
+  | none ↦ operate registry q
+]
+
+-- ---- the judgement: a response, the registry and the counts after a request
+
+unfoldable pub changedBy : (registry : List ℕ) → Option Line → Result → List ℕ
+changedBy registry none r = registry
+changedBy registry (some line) r = changed registry line (r .change)
+
+unfoldable pub verdictOf : (registry : List ℕ) → Counts → Request → Result → Verdict (List ℕ) Counts (List ℕ)
+verdictOf registry counts q r = record {
+  response = responseBytes (q .provider) (q .session) (q .opcode) (statusNumber (r .status)) (r .output);
+  registry = changedBy registry (applicationOf registry q) r;
+  counts = count counts (applicationOf registry q) (r .status);
+}
+
+-- steps 1 and 2 of the order: an empty body, and the registry stays
+unfoldable pub refusedEarly : (registry : List ℕ) → Counts → (provider session opcode : ℕ) → Status → Verdict (List ℕ) Counts (List ℕ)
+refusedEarly registry counts provider session opcode status = record {
+  response = responseBytes provider session opcode (statusNumber status) [];
+  registry = registry;
+  counts = countRefused counts status;
+}
+
+-- 20 if C is too large, else 11
+unfoldable pub oversizedStatus : (header : List ℕ) → Status
+oversizedStatus header = if ltb contentMost (contentLength header) then BodySizeExceedsLimit else AuthenticationError
+
+unfoldable pub judgement : Judgement (List ℕ) Counts (List ℕ)
+judgement = record {
+  noCounts = noCounts;
+  onBadStart = λ registry counts. refusedEarly registry counts 0 0 0 InvalidHeader;
+  onOversized = λ registry counts header.
+      let q = requestOf header in
+      refusedEarly registry counts (q .provider) (q .session) (q .opcode) (oversizedStatus header);
+  onRequest = λ registry counts request.
+      let q = requestOf request in
+      verdictOf registry counts q (resultOf registry q);
+}

@@ -1,0 +1,6 @@
+pub mod Status
+pub mod Operations
+pub mod Counts
+pub mod Judgement
+pub mod Decided
+pub mod Answers

@@ -1,0 +1,33 @@
+-- The number of each status, from document 01's table.
+use Prim.Native.Nat.{ℕ}
+use mathlib.Core.List.{List, [], _∷_}
+use Rattle.judgement.specs.declared.Status.{Status}
+use Rattle.judgement.specs.declared.Status.the-variants.{Success, WrongProviderId, ContentTypeNotSupported, AcceptTypeNotSupported, WireProtocolVersionNotSupported, ProviderDoesNotExist, DeserializingBodyFailed, OpcodeDoesNotExist, AuthenticationError, AuthenticatorDoesNotExist, InvalidHeader, NotAuthenticated, BodySizeExceedsLimit, PsaErrorNotPermitted, PsaErrorInvalidArgument, PsaErrorAlreadyExists, PsaErrorDoesNotExist, PsaErrorInsufficientStorage}
+
+unfoldable pub statusNumber : Status → ℕ
+statusNumber Success = 0
+statusNumber WrongProviderId = 1
+statusNumber ContentTypeNotSupported = 2
+statusNumber AcceptTypeNotSupported = 3
+statusNumber WireProtocolVersionNotSupported = 4
+statusNumber ProviderDoesNotExist = 6
+statusNumber DeserializingBodyFailed = 7
+statusNumber OpcodeDoesNotExist = 9
+statusNumber AuthenticationError = 11
+statusNumber AuthenticatorDoesNotExist = 12
+statusNumber InvalidHeader = 17
+statusNumber NotAuthenticated = 19
+statusNumber BodySizeExceedsLimit = 20
+statusNumber PsaErrorNotPermitted = 1133
+statusNumber PsaErrorInvalidArgument = 1135
+statusNumber PsaErrorAlreadyExists = 1139
+statusNumber PsaErrorDoesNotExist = 1140
+statusNumber PsaErrorInsufficientStorage = 1142
+
+-- all but Success, ascending: the order of the counters of refused requests
+abbrev pub refusedStatuses : List Status
+refusedStatuses =
+    WrongProviderId ∷ ContentTypeNotSupported ∷ AcceptTypeNotSupported ∷ WireProtocolVersionNotSupported
+    ∷ ProviderDoesNotExist ∷ DeserializingBodyFailed ∷ OpcodeDoesNotExist ∷ AuthenticationError
+    ∷ AuthenticatorDoesNotExist ∷ InvalidHeader ∷ NotAuthenticated ∷ BodySizeExceedsLimit ∷ PsaErrorNotPermitted
+    ∷ PsaErrorInvalidArgument ∷ PsaErrorAlreadyExists ∷ PsaErrorDoesNotExist ∷ PsaErrorInsufficientStorage ∷ []

@@ -1,0 +1,276 @@
+// A request answered: its response written, and what it changes carried out.
+use crate::Answered;
+use crate::Asker;
+use crate::Auth;
+use crate::Checked;
+use crate::Decision;
+use crate::Edit;
+use crate::Output;
+use crate::Status;
+use crate::operations::perform_core;
+use crate::operations::perform_keystore;
+use crate::order::authenticate;
+use crate::order::check_header;
+use crate::statuses::status_number;
+use protobuf::write::bytes_field_size;
+use protobuf::write::write_bytes_field;
+use protobuf::write::write_number_field;
+use registry::Line;
+use registry::change::clear_slot;
+use registry::change::fill_slot;
+use registry::key::key_data;
+use stream::frame::CONTENT_MOST;
+use stream::frame::is_oversized;
+use wire::bytes::copy_into;
+use wire::header::Header;
+use wire::header::read_header;
+use wire::response::response_header;
+ghost use mathlib.Core.Bool.{true, false};
+ghost use mathlib.Core.List.{List, []};
+ghost use mathlib.Core.Path.{_≡_};
+ghost use Prim.Native.Nat.{ℕ, _≤_, _<_};
+ghost use lib.ListN.{length};
+ghost use Rattle.wire.specs.Request.{requestLength};
+ghost use Rattle.wire.specs.Response.{responseBytes};
+ghost use Rattle.wire.specs.Wrote.{Wrote};
+ghost use Rattle.stream.specs.Frame.{legalStart, oversized};
+ghost use Rattle.stream.specs.Rules.{judge};
+ghost use Rattle.registry.specs.Registry.{lineCount, registrySize, slotsOf, changed};
+ghost use Rattle.registry.specs.WellFormed.{wellFormedRegistry};
+ghost use Rattle.judgement.specs.Status.{statusNumber};
+ghost use Rattle.judgement.specs.Judgement.{judgement};
+ghost use Rattle.judgement.specs.Decided.{SafeOutput, SafeEdit, outputBytes, changeOf, Decided};
+ghost use Rattle.judgement.specs.Answers.{AnsweredBy, PassedHeader, resultForNamed, resultForNobody, ResultAnswered};
+
+// How long a response's body is.
+fn output_size(registry: &[u8], line: Line, output: Output) -> usize
+    requires { ⌜ (wellFormedRegistry (now registry) ≡ true) × (line .0 < lineCount) × SafeOutput output ⌝ }
+    ensures { λ r. ⌜ (r ≡ length (outputBytes (slotsOf (now (registry .entry)) line) output)) × (r ≤ 620) ⌝ }
+{
+    match output {
+        Output::Nothing => 0,
+        Output::Version => 2,
+        Output::Providers => 4,
+        Output::Opcodes(_) => 5,
+        Output::Data(slot) => {
+            let data = key_data(registry, line, slot);
+            bytes_field_size(1, data.len())
+        }
+    }
+}
+
+// A response's body, written straight to its place.
+fn write_output(out: &mut [u8], registry: &[u8], line: Line, output: Output) -> usize
+    requires { ⌜ (wellFormedRegistry (now registry) ≡ true) × (line .0 < lineCount) × SafeOutput output × (620 ≤ length (now out)) ⌝ }
+    ensures { λ r. ⌜ Wrote (outputBytes (slotsOf (now (registry .entry)) line) output) (now (out .entry)) (now (out .exit)) r ⌝ }
+{
+    match output {
+        Output::Nothing => 0,
+        Output::Version => write_number_field(out, 1, 1),
+        Output::Providers => {
+            let providers = [0u8, 1];
+            write_bytes_field(out, 1, &providers)
+        }
+        Output::Opcodes(provider) => {
+            if provider == 0 {
+                let core = [1u8, 8, 9];
+                return write_bytes_field(out, 1, &core);
+            }
+            let keystore = [3u8, 6, 7];
+            write_bytes_field(out, 1, &keystore)
+        }
+        Output::Data(slot) => {
+            let data = key_data(registry, line, slot);
+            write_bytes_field(out, 1, data)
+        }
+    }
+}
+
+// A response: the header, and behind its 26 bytes the body.
+fn write_response(
+    out: &mut [u8],
+    h: Header,
+    status: Status,
+    registry: &[u8],
+    line: Line,
+    output: Output,
+) -> usize
+    requires { ⌜ (wellFormedRegistry (now registry) ≡ true) × (line .0 < lineCount) × SafeOutput output × (1024 ≤ length (now out)) ⌝ }
+    ensures { λ r. ⌜ Wrote (responseBytes (h .provider) (h .session) (h .opcode) (statusNumber status) (outputBytes (slotsOf (now (registry .entry)) line) output)) (now (out .entry)) (now (out .exit)) r ⌝ }
+{
+    let size = output_size(registry, line, output);
+    let head = response_header(
+        h.provider,
+        h.session,
+        size as u32,
+        h.opcode,
+        status_number(status),
+    );
+    let k = copy_into(out, &head);
+    let m = write_output(&mut out[26..], registry, line, output);
+    k + m
+}
+
+// The response to a request that is refused: an empty body.
+fn write_refused(out: &mut [u8], provider: u8, session: u64, opcode: u16, status: Status) -> usize
+    requires { ⌜ 1024 ≤ length (now out) ⌝ }
+    ensures { λ r. ⌜ Wrote (responseBytes provider session opcode (statusNumber status) []) (now (out .entry)) (now (out .exit)) r ⌝ }
+{
+    let head = response_header(provider, session, 0, opcode, status_number(status));
+    copy_into(out, &head)
+}
+
+// Carries out what an operation changes.
+fn make_edit(registry: &mut [u8], line: Line, body: &[u8], d: Decision)
+    requires { ⌜ (length (now registry) ≡ registrySize) × (line .0 < lineCount) × SafeEdit (length (now body)) (d .values) (d .edit) ⌝ }
+    ensures { λ _. ⌜ now (registry .exit) ≡ changed (now (registry .entry)) line (changeOf (now (body .entry)) (d .values) (d .edit)) ⌝ }
+{
+    let edit = d.edit;
+    match edit {
+        Edit::Stays => {}
+        Edit::Fills(slot) => {
+            let v = d.values;
+            let name = v.f1;
+            let bytes = v.f2;
+            let bits = v.f3;
+            let exported = v.f4;
+            let verified = v.f5;
+            let a = name.start;
+            let b = a + name.len;
+            let e = bytes.start;
+            let f = e + bytes.len;
+            fill_slot(
+                registry,
+                line,
+                slot,
+                &body[a..b],
+                &body[e..f],
+                bits.number as u16,
+                exported.number != 0,
+                verified.number != 0,
+            );
+        }
+        Edit::Clears(slot) => {
+            clear_slot(registry, line, slot);
+        }
+    }
+}
+
+// A refused request is nobody's: it counts by its status alone.
+fn refuse(out: &mut [u8], h: Header, status: Status) -> Answered
+    requires { ⌜ 1024 ≤ length (now out) ⌝ }
+    ensures { λ r. ⌜ (r .status ≡ status) × (r .asker ≡ Asker.Nobody) × Wrote (responseBytes (h .provider) (h .session) (h .opcode) (statusNumber status) []) (now (out .entry)) (now (out .exit)) (r .written) ⌝ }
+{
+    let written = write_refused(out, h.provider, h.session, h.opcode, status);
+    Answered {
+        status,
+        asker: Asker::Nobody,
+        written,
+    }
+}
+
+// What the operation comes to for an application: core for provider 0, keystore for provider 1.
+fn decide(h: Header, body: &[u8], registry: &[u8], line: Line) -> Decision
+    requires { ⌜ PassedHeader h × (wellFormedRegistry (now registry) ≡ true) × (line .0 < lineCount) ⌝ }
+    ensures { λ r. ⌜ Decided (slotsOf (now (registry .entry)) line) (now (body .entry)) (resultForNamed h (now (body .entry)) (now (registry .entry)) line) r ⌝ }
+{
+    if h.provider == 0 {
+        return perform_core(h.opcode, body);
+    }
+    perform_keystore(h.opcode, body, registry, line)
+}
+
+// A request whose header and auth bytes have passed, answered for an application.
+fn answer_named(out: &mut [u8], h: Header, body: &[u8], registry: &mut [u8], line: Line) -> Answered
+    requires { ⌜ PassedHeader h × (wellFormedRegistry (now registry) ≡ true) × (line .0 < lineCount) × (1024 ≤ length (now out)) ⌝ }
+    ensures { λ r. ⌜ ResultAnswered h (resultForNamed h (now (body .entry)) (now (registry .entry)) line) (Asker.Named line) (now (out .entry)) (now (out .exit)) r ⌝ }
+    ensures { λ _. ⌜ now (registry .exit) ≡ changed (now (registry .entry)) line (resultForNamed h (now (body .entry)) (now (registry .entry)) line .change) ⌝ }
+{
+    let d = decide(h, body, registry, line);
+    let status = d.status;
+    let output = d.output;
+    let written = write_response(out, h, status, registry, line, output);
+    make_edit(registry, line, body, d);
+    Answered {
+        status,
+        asker: Asker::Named(line),
+        written,
+    }
+}
+
+// The same for nobody that is named: the keystore is not for them.
+fn answer_nobody(out: &mut [u8], h: Header, body: &[u8], registry: &[u8]) -> Answered
+    requires { ⌜ PassedHeader h × (wellFormedRegistry (now registry) ≡ true) × (1024 ≤ length (now out)) ⌝ }
+    ensures { λ r. ⌜ ResultAnswered h (resultForNobody h (now (body .entry))) Asker.Nobody (now (out .entry)) (now (out .exit)) r ⌝ }
+{
+    if h.provider == 1 {
+        return refuse(out, h, Status::NotAuthenticated);
+    }
+    let d = perform_core(h.opcode, body);
+    let status = d.status;
+    let output = d.output;
+    let written = write_response(out, h, status, registry, Line(0), output);
+    Answered {
+        status,
+        asker: Asker::Nobody,
+        written,
+    }
+}
+
+// A whole request that is not oversized.
+pub fn answer_request(out: &mut [u8], request: &[u8], registry: &mut [u8]) -> Answered
+    requires { ⌜ (legalStart (now request) ≡ true) × (length (now request) ≡ requestLength (now request)) × (oversized (now request) ≡ false) × (wellFormedRegistry (now registry) ≡ true) × (1024 ≤ length (now out)) ⌝ }
+    ensures { λ r. ⌜ AnsweredBy (λ c. judgement .onRequest (now (registry .entry)) c (now (request .entry))) (now (registry .exit)) (now (out .entry)) (now (out .exit)) r ⌝ }
+{
+    let h = read_header(request);
+    if let Checked::Refused(status) = check_header(h) {
+        return refuse(out, h, status);
+    }
+    let start = 6 + h.size as usize;
+    let end = start + h.content_length as usize;
+    match authenticate(registry, h.auth_type, &request[end..]) {
+        Auth::Refused => refuse(out, h, Status::AuthenticationError),
+        Auth::Accepted(asker) => match asker {
+            Asker::Nobody => answer_nobody(out, h, &request[start..end], registry),
+            Asker::Named(line) => answer_named(out, h, &request[start..end], registry, line),
+        },
+    }
+}
+
+// An oversized request, from its header: 20 if C is too large, else 11.
+pub fn answer_oversized(out: &mut [u8], header: &[u8]) -> Answered
+    requires { ⌜ (28 ≤ length (now header)) × (1024 ≤ length (now out)) ⌝ }
+    ensures { λ r. ⌜ ((registry : List ℕ) → AnsweredBy (λ c. judgement .onOversized registry c (now (header .entry))) registry (now (out .entry)) (now (out .exit)) r) ⌝ }
+{
+    let h = read_header(header);
+    if CONTENT_MOST < h.content_length {
+        return refuse(out, h, Status::BodySizeExceedsLimit);
+    }
+    refuse(out, h, Status::AuthenticationError)
+}
+
+// A wrong magic or H: provider, session and opcode are zero.
+pub fn answer_bad_start(out: &mut [u8]) -> Answered
+    requires { ⌜ 1024 ≤ length (now out) ⌝ }
+    ensures { λ r. ⌜ ((registry : List ℕ) → AnsweredBy (λ c. judgement .onBadStart registry c) registry (now (out .entry)) (now (out .exit)) r) ⌝ }
+{
+    let written = write_refused(out, 0, 0, 0, Status::InvalidHeader);
+    Answered {
+        status: Status::InvalidHeader,
+        asker: Asker::Nobody,
+        written,
+    }
+}
+
+// A whole request, oversized or not.
+pub fn answer_whole(out: &mut [u8], request: &[u8], registry: &mut [u8]) -> Answered
+    requires { ⌜ (legalStart (now request) ≡ true) × (length (now request) ≡ requestLength (now request)) × (wellFormedRegistry (now registry) ≡ true) × (1024 ≤ length (now out)) ⌝ }
+    ensures { λ r. ⌜ AnsweredBy (λ c. judge judgement (now (registry .entry)) c (now (request .entry))) (now (registry .exit)) (now (out .entry)) (now (out .exit)) r ⌝ }
+{
+    if is_oversized(request) {
+        let h = read_header(request);
+        let n = 6 + h.size as usize;
+        return answer_oversized(out, &request[..n]);
+    }
+    answer_request(out, request, registry)
+}

@@ -1,0 +1,80 @@
+// How one request is judged and answered: the order of tests, the six operations, the response.
+use protobuf::message::Values;
+use registry::Line;
+use registry::Slot;
+
+pub mod answer;
+pub mod operations;
+pub mod order;
+pub mod statuses;
+
+// A response's status: document 01's table, ascending by number.
+pub enum Status {
+    Success,
+    WrongProviderId,
+    ContentTypeNotSupported,
+    AcceptTypeNotSupported,
+    WireProtocolVersionNotSupported,
+    ProviderDoesNotExist,
+    DeserializingBodyFailed,
+    OpcodeDoesNotExist,
+    AuthenticationError,
+    AuthenticatorDoesNotExist,
+    InvalidHeader,
+    NotAuthenticated,
+    BodySizeExceedsLimit,
+    PsaErrorNotPermitted,
+    PsaErrorInvalidArgument,
+    PsaErrorAlreadyExists,
+    PsaErrorDoesNotExist,
+    PsaErrorInsufficientStorage,
+}
+
+// What the tests of a header find.
+pub enum Checked {
+    Passed,
+    Refused(Status),
+}
+
+// Who sent a request: nobody that is named (auth type 0), or an application.
+pub enum Asker {
+    Nobody,
+    Named(Line),
+}
+
+// What the tests of the auth bytes find.
+pub enum Auth {
+    Refused,
+    Accepted(Asker),
+}
+
+// What a response's body is.
+pub enum Output {
+    Nothing,
+    Version,
+    Providers,
+    Opcodes(u32),
+    Data(Slot),
+}
+
+// What becomes of the asker's slots.
+pub enum Edit {
+    Stays,
+    Fills(Slot),
+    Clears(Slot),
+}
+
+// What an operation comes to; `values` are the fields of its body.
+pub struct Decision {
+    pub status: Status,
+    pub output: Output,
+    pub edit: Edit,
+    pub values: Values,
+}
+
+// A request that was answered: for whom it counts, and how many bytes of response were written.
+pub struct Answered {
+    pub status: Status,
+    pub asker: Asker,
+    pub written: usize,
+}

@@ -1,0 +1,259 @@
+// The six operations: what each comes to. Nothing is changed or written here.
+use crate::Decision;
+use crate::Edit;
+use crate::Output;
+use crate::Status;
+use protobuf::body::Body;
+use protobuf::body::read_body;
+use protobuf::message::Kind;
+use protobuf::message::Schema;
+use protobuf::message::Values;
+use protobuf::message::all_absent;
+use registry::Found;
+use registry::Line;
+use registry::Slot;
+use registry::find::find_slot;
+use registry::key::is_exportable;
+use registry::names::is_legal;
+use registry::slots::are_legal_bits;
+ghost use mathlib.Core.Bool.{true};
+ghost use mathlib.Core.List.{List};
+ghost use mathlib.Core.Path.{_≡_};
+ghost use Prim.Native.Nat.{ℕ, _<_};
+ghost use lib.ListN.{length};
+ghost use Rattle.protobuf.specs.Message as message;
+ghost use Rattle.registry.specs.Registry.{lineCount, registrySize, slotsOf};
+ghost use Rattle.registry.specs.WellFormed.{wellFormedRegistry};
+ghost use Rattle.judgement.specs.Operations.{noFields, opcodesFields, importFields, nameFields, performImport, performDestroy, performExport, keyOf, importable};
+ghost use Rattle.judgement.specs.Decided.{refusedWith, Decided, DecidedAnywhere, operated, ValuesIn, oneOfCore, oneOfKeystore};
+
+// A request that is refused: no output, and nothing changes.
+pub fn refused(status: Status) -> Decision
+    ensures { λ r. ⌜ r ≡ refusedWith status ⌝ }
+{
+    Decision {
+        status,
+        output: Output::Nothing,
+        edit: Edit::Stays,
+        values: all_absent(),
+    }
+}
+
+fn no_fields() -> Schema
+    ensures { λ r. ⌜ r ≡ noFields ⌝ }
+{
+    Schema {
+        k1: Kind::Unlisted,
+        k2: Kind::Unlisted,
+        k3: Kind::Unlisted,
+        k4: Kind::Unlisted,
+        k5: Kind::Unlisted,
+    }
+}
+
+fn opcodes_fields() -> Schema
+    ensures { λ r. ⌜ r ≡ opcodesFields ⌝ }
+{
+    Schema {
+        k1: Kind::Uint32,
+        k2: Kind::Unlisted,
+        k3: Kind::Unlisted,
+        k4: Kind::Unlisted,
+        k5: Kind::Unlisted,
+    }
+}
+
+fn import_fields() -> Schema
+    ensures { λ r. ⌜ r ≡ importFields ⌝ }
+{
+    Schema {
+        k1: Kind::Bytes,
+        k2: Kind::Bytes,
+        k3: Kind::Uint32,
+        k4: Kind::Boolean,
+        k5: Kind::Boolean,
+    }
+}
+
+fn name_fields() -> Schema
+    ensures { λ r. ⌜ r ≡ nameFields ⌝ }
+{
+    Schema {
+        k1: Kind::Bytes,
+        k2: Kind::Unlisted,
+        k3: Kind::Unlisted,
+        k4: Kind::Unlisted,
+        k5: Kind::Unlisted,
+    }
+}
+
+// A request that is served with this body in its response, and changes nothing.
+fn listed(output: Output) -> Decision
+    ensures { λ r. ⌜ r ≡ record { status = Status.Success; output = output; edit = Edit.Stays; values = message.allAbsent } ⌝ }
+{
+    Decision {
+        status: Status::Success,
+        output,
+        edit: Edit::Stays,
+        values: all_absent(),
+    }
+}
+
+fn ping(body: &[u8]) -> Decision
+    ensures { λ r. ⌜ DecidedAnywhere (now (body .entry)) (operated 1 (now (body .entry))) r ⌝ }
+{
+    match read_body(body, no_fields()) {
+        Body::Message(_) => listed(Output::Version),
+        Body::Unreadable(_) => refused(Status::DeserializingBodyFailed),
+    }
+}
+
+fn list_providers(body: &[u8]) -> Decision
+    ensures { λ r. ⌜ DecidedAnywhere (now (body .entry)) (operated 8 (now (body .entry))) r ⌝ }
+{
+    match read_body(body, no_fields()) {
+        Body::Message(_) => listed(Output::Providers),
+        Body::Unreadable(_) => refused(Status::DeserializingBodyFailed),
+    }
+}
+
+fn list_opcodes(body: &[u8]) -> Decision
+    ensures { λ r. ⌜ DecidedAnywhere (now (body .entry)) (operated 9 (now (body .entry))) r ⌝ }
+{
+    match read_body(body, opcodes_fields()) {
+        Body::Message(v) => {
+            let f1 = v.f1;
+            let provider = f1.number;
+            if 1 < provider {
+                return refused(Status::ProviderDoesNotExist);
+            }
+            listed(Output::Opcodes(provider))
+        }
+        Body::Unreadable(_) => refused(Status::DeserializingBodyFailed),
+    }
+}
+
+// The core operations: opcodes 1, 8 and 9.
+pub fn perform_core(opcode: u16, body: &[u8]) -> Decision
+    requires { ⌜ oneOfCore opcode ⌝ }
+    ensures { λ r. ⌜ DecidedAnywhere (now (body .entry)) (operated opcode (now (body .entry))) r ⌝ }
+{
+    if opcode == 1 {
+        return ping(body);
+    }
+    if opcode == 8 {
+        return list_providers(body);
+    }
+    list_opcodes(body)
+}
+
+// Whether Import allows the key.
+fn is_importable(body: &[u8], v: Values) -> bool
+    requires { ⌜ ValuesIn (length (now body)) v ⌝ }
+    ensures { λ r. ⌜ r ≡ importable (keyOf (now (body .entry)) v) ⌝ }
+{
+    let name = v.f1;
+    let bytes = v.f2;
+    let bits = v.f3;
+    let start = name.start;
+    let end = start + name.len;
+    if !is_legal(&body[start..end], 32) {
+        return false;
+    }
+    if bytes.len == 0 {
+        return false;
+    }
+    if 600 < bytes.len {
+        return false;
+    }
+    are_legal_bits(bits.number as usize)
+}
+
+// Import, of the fields in its body.
+fn import(registry: &[u8], line: Line, body: &[u8], v: Values) -> Decision
+    requires { ⌜ (length (now registry) ≡ registrySize) × (line .0 < lineCount) × ValuesIn (length (now body)) v ⌝ }
+    ensures { λ r. ⌜ Decided (slotsOf (now (registry .entry)) line) (now (body .entry)) (performImport (keyOf (now (body .entry)) v) (slotsOf (now (registry .entry)) line)) r ⌝ }
+{
+    if !is_importable(body, v) {
+        return refused(Status::PsaErrorInvalidArgument);
+    }
+    let name = v.f1;
+    let start = name.start;
+    let end = start + name.len;
+    let same = find_slot(registry, line, &body[start..end]);
+    let Found::Nothing = same else {
+        return refused(Status::PsaErrorAlreadyExists);
+    };
+    let empty = find_slot(registry, line, &body[..0]);
+    let Found::At(slot) = empty else {
+        return refused(Status::PsaErrorInsufficientStorage);
+    };
+    Decision {
+        status: Status::Success,
+        output: Output::Nothing,
+        edit: Edit::Fills(slot),
+        values: v,
+    }
+}
+
+// Destroy, of a name in its body.
+fn destroy(registry: &[u8], line: Line, name: &[u8]) -> Decision
+    requires { ⌜ (length (now registry) ≡ registrySize) × (line .0 < lineCount) ⌝ }
+    ensures { λ r. ⌜ ((body : List ℕ) → Decided (slotsOf (now (registry .entry)) line) body (performDestroy (now (name .entry)) (slotsOf (now (registry .entry)) line)) r) ⌝ }
+{
+    if !is_legal(name, 32) {
+        return refused(Status::PsaErrorInvalidArgument);
+    }
+    match find_slot(registry, line, name) {
+        Found::At(slot) => Decision {
+            status: Status::Success,
+            output: Output::Nothing,
+            edit: Edit::Clears(slot),
+            values: all_absent(),
+        },
+        Found::Nothing => refused(Status::PsaErrorDoesNotExist),
+    }
+}
+
+// Export, of a name in its body.
+fn export(registry: &[u8], line: Line, name: &[u8]) -> Decision
+    requires { ⌜ (wellFormedRegistry (now registry) ≡ true) × (line .0 < lineCount) ⌝ }
+    ensures { λ r. ⌜ ((body : List ℕ) → Decided (slotsOf (now (registry .entry)) line) body (performExport (now (name .entry)) (slotsOf (now (registry .entry)) line)) r) ⌝ }
+{
+    if !is_legal(name, 32) {
+        return refused(Status::PsaErrorInvalidArgument);
+    }
+    let found = find_slot(registry, line, name);
+    let Found::At(slot) = found else {
+        return refused(Status::PsaErrorDoesNotExist);
+    };
+    if !is_exportable(registry, line, slot) {
+        return refused(Status::PsaErrorNotPermitted);
+    }
+    listed(Output::Data(slot))
+}
+
+// The keystore operations: opcodes 3, 6 and 7, for the application of a line.
+pub fn perform_keystore(opcode: u16, body: &[u8], registry: &[u8], line: Line) -> Decision
+    requires { ⌜ oneOfKeystore opcode × (wellFormedRegistry (now registry) ≡ true) × (line .0 < lineCount) ⌝ }
+    ensures { λ r. ⌜ Decided (slotsOf (now (registry .entry)) line) (now (body .entry)) (operated opcode (now (body .entry)) (slotsOf (now (registry .entry)) line)) r ⌝ }
+{
+    if opcode == 6 {
+        return match read_body(body, import_fields()) {
+            Body::Message(v) => import(registry, line, body, v),
+            Body::Unreadable(_) => refused(Status::DeserializingBodyFailed),
+        };
+    }
+    match read_body(body, name_fields()) {
+        Body::Message(v) => {
+            let name = v.f1;
+            let start = name.start;
+            let end = start + name.len;
+            if opcode == 3 {
+                return destroy(registry, line, &body[start..end]);
+            }
+            export(registry, line, &body[start..end])
+        }
+        Body::Unreadable(_) => refused(Status::DeserializingBodyFailed),
+    }
+}

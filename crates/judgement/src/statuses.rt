@@ -1,0 +1,56 @@
+// The numbers of statuses.
+use crate::Status;
+ghost use mathlib.Core.Path.{_≡_};
+ghost use Rattle.judgement.specs.Status.{statusNumber, refusedStatuses};
+ghost use Rattle.judgement.specs.Counts.{indexOf};
+
+pub fn status_number(status: Status) -> u16
+    ensures { λ r. ⌜ r ≡ statusNumber status ⌝ }
+{
+    match status {
+        Status::Success => 0,
+        Status::WrongProviderId => 1,
+        Status::ContentTypeNotSupported => 2,
+        Status::AcceptTypeNotSupported => 3,
+        Status::WireProtocolVersionNotSupported => 4,
+        Status::ProviderDoesNotExist => 6,
+        Status::DeserializingBodyFailed => 7,
+        Status::OpcodeDoesNotExist => 9,
+        Status::AuthenticationError => 11,
+        Status::AuthenticatorDoesNotExist => 12,
+        Status::InvalidHeader => 17,
+        Status::NotAuthenticated => 19,
+        Status::BodySizeExceedsLimit => 20,
+        Status::PsaErrorNotPermitted => 1133,
+        Status::PsaErrorInvalidArgument => 1135,
+        Status::PsaErrorAlreadyExists => 1139,
+        Status::PsaErrorDoesNotExist => 1140,
+        Status::PsaErrorInsufficientStorage => 1142,
+    }
+}
+
+// Where a status stands among the counters of refused requests; Success stands behind them.
+pub fn refused_index(status: Status) -> usize
+    ensures { λ r. ⌜ r ≡ indexOf status refusedStatuses ⌝ }
+{
+    match status {
+        Status::Success => 17,
+        Status::WrongProviderId => 0,
+        Status::ContentTypeNotSupported => 1,
+        Status::AcceptTypeNotSupported => 2,
+        Status::WireProtocolVersionNotSupported => 3,
+        Status::ProviderDoesNotExist => 4,
+        Status::DeserializingBodyFailed => 5,
+        Status::OpcodeDoesNotExist => 6,
+        Status::AuthenticationError => 7,
+        Status::AuthenticatorDoesNotExist => 8,
+        Status::InvalidHeader => 9,
+        Status::NotAuthenticated => 10,
+        Status::BodySizeExceedsLimit => 11,
+        Status::PsaErrorNotPermitted => 12,
+        Status::PsaErrorInvalidArgument => 13,
+        Status::PsaErrorAlreadyExists => 14,
+        Status::PsaErrorDoesNotExist => 15,
+        Status::PsaErrorInsufficientStorage => 16,
+    }
+}

@@ -1,0 +1,11 @@
+-- The number of each refused call: document 01's C1 to C5.
+use Prim.Native.Nat.{ℕ}
+use Rattle.service.specs.declared.Refusal.{Refusal}
+use Rattle.service.specs.declared.Refusal.the-variants.{ResponseBufferTooSmall, ChunkTooLong, ConnectionIllFormed, RegistryIllFormed, CounterTooHigh}
+
+unfoldable pub refusalNumber : Refusal → ℕ
+refusalNumber ResponseBufferTooSmall = 1
+refusalNumber ChunkTooLong = 2
+refusalNumber ConnectionIllFormed = 3
+refusalNumber RegistryIllFormed = 4
+refusalNumber CounterTooHigh = 5
