@@ -6,16 +6,18 @@
  * Memory is handed over as a pointer and a length in bytes. Every function is defined for any bytes and any lengths:
  *
  *   - Short or long memory is answered: a registry or connection of a wrong size, a response buffer below
- *     RAZIDKOT_LEAST_RESPONSE_BUFFER, a chunk above RAZIDKOT_LONGEST_CHUNK.
+ *     RAZIDKOT_LEAST_RESPONSE_BUFFER, a chunk above RAZIDKOT_LONGEST_CHUNK, a buffer for the bill below
+ *     RAZIDKOT_LEAST_BILL_BUFFER.
  *   - NULL with length 0 is empty memory and is answered as such: an empty roster file or an empty chunk, which are
- *     good; a registry or connection of a wrong size; a response buffer that is too small.
- *   - Ill-formed memory of the right size is answered: RAZIDKOT_CONNECTION_ILL_FORMED, RAZIDKOT_REGISTRY_ILL_FORMED.
+ *     good; a registry or connection of a wrong size; a buffer for a response or for the bill that is too small.
+ *   - Ill-formed memory of the right size is answered: RAZIDKOT_CALL_CONNECTION_ILL_FORMED,
+ *     RAZIDKOT_CALL_REGISTRY_ILL_FORMED, RAZIDKOT_BILL_CONNECTION_ILL_FORMED, RAZIDKOT_BILL_REGISTRY_ILL_FORMED.
  *
  * What it can't tell, and what is undefined:
  *
  *   - NULL, or any other pointer that is not valid, with a length above 0.
  *   - A length above that of the memory behind the pointer.
- *   - Memory that overlaps other memory of the same call, read or written.
+ *   - Memory that the call writes and that overlaps other memory of the same call.
  *   - NULL, or a pointer that is not aligned for uint64_t, for the counters.
  *
  * Threads: the functions share no memory, so calls on different memory may run at the same time. Registry, connection,
@@ -74,7 +76,7 @@ enum razidkot_status {
     RAZIDKOT_PSA_ERROR_INSUFFICIENT_STORAGE = 1142
 };
 
-/* The counters, which a call changes in place. Each is at most RAZIDKOT_HIGHEST_COUNTER before a call. */
+/* The counters, which a call changes in place. A call with one above RAZIDKOT_HIGHEST_COUNTER is refused (C5). */
 typedef struct {
     /* Bytes taken. */
     uint64_t taken;

@@ -1,6 +1,6 @@
 //! The counters that the caller keeps: document 01's tally.
 
-use crate::{foreign, Status};
+use crate::{foreign, Status, LINES, REFUSED_STATUSES};
 
 /// What calls have come to. A call changes them in place; the fields may be set to anything, and a
 /// call with one above [`HIGHEST_COUNTER`](crate::HIGHEST_COUNTER) is refused.
@@ -16,11 +16,11 @@ pub struct Counters {
     /// Bytes dropped on a closed connection.
     pub dropped: u64,
     /// Requests served, for each roster line.
-    pub served: [u64; 8],
+    pub served: [u64; LINES],
     /// Requests served with auth type 0.
     pub unauthenticated: u64,
     /// Requests refused, for each status of [`Status::REFUSED`].
-    pub refused: [u64; 17],
+    pub refused: [u64; REFUSED_STATUSES],
 }
 
 impl Counters {

@@ -70,3 +70,7 @@ pub const LONGEST_RESPONSE: usize = 629;
 pub const LEAST_BILL_BUFFER: usize = 2_048;
 /// A call is refused if any counter is above it.
 pub const HIGHEST_COUNTER: u64 = 1 << 62;
+/// How many applications a roster may have.
+pub const LINES: usize = 8;
+/// How many statuses a request may be refused with.
+pub const REFUSED_STATUSES: usize = 17;

@@ -1,5 +1,7 @@
 //! The statuses that a response carries: document 01, "Order of judgement on one request".
 
+use crate::REFUSED_STATUSES;
+
 /// What a response says of its request; `number` gives document 01's number.
 #[derive(Clone, Copy, Debug, PartialEq, Eq, PartialOrd, Ord, Hash)]
 #[repr(u16)]
@@ -27,7 +29,7 @@ pub enum Status {
 
 impl Status {
     /// Every status but `Success`, ascending: the order of [`Counters::refused`](crate::Counters).
-    pub const REFUSED: [Status; 17] = [
+    pub const REFUSED: [Status; REFUSED_STATUSES] = [
         Status::WrongProviderID,
         Status::ContentTypeNotSupported,
         Status::AcceptTypeNotSupported,

@@ -2,14 +2,11 @@
 use Prim.Native.Nat.{ℕ, _+_}
 use mathlib.Core.Option.{Option, none, some}
 use mathlib.Core.List.{List}
-use Rattle.stream.specs.Calls.{CallOutcome}
 use Rattle.registry.specs.Roster.{faultNumber}
 use Rattle.registry.specs.declared.RosterFault.{RosterFault}
 use Rattle.connection.specs.declared.change.Opened.{Opened}
 use Rattle.connection.specs.declared.change.Opened.the-variants.{Fresh, WrongSize}
-use Rattle.service.specs.Call.{Memory}
-use Rattle.service.specs.Called.{lentMemory, codeNumber}
-use Rattle.service.specs.declared.Counters.{Counters}
+use Rattle.service.specs.Called.{codeNumber}
 use Rattle.service.specs.declared.CallAnswer.{CallAnswer}
 use Rattle.billing.specs.Outcome.{BillOutcome}
 use Rattle.billing.specs.declared.Billed.{Billed}
@@ -28,13 +25,6 @@ openedNumber WrongSize = 1
 
 abbrev pub numbered : CallAnswer → Answer
 numbered a = record { code = codeNumber (a .code); taken = a .taken; written = a .written }
-
--- all that a call says and leaves
-abbrev pub outcomeWith : Answer → (connection registry : List ℕ) → Counters → (buffer : List ℕ) → CallOutcome Memory
-outcomeWith a connection registry counters buffer = record {
-  answer = record { code = a .code; taken = a .taken; written = a .written; buffer = buffer };
-  memory = lentMemory connection registry counters;
-}
 
 unfoldable pub billedNumber : Billed → ℕ
 billedNumber (Written written) = 0

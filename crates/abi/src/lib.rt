@@ -3,8 +3,8 @@ use billing::Billed;
 use billing::whole::write_bill;
 use connection::change::Opened;
 use connection::change::open_connection;
-use registry::RosterFault;
 use registry::roster::Loaded;
+use registry::roster::fault_number;
 use registry::roster::load_roster;
 use service::CallAnswer;
 use service::Code;
@@ -13,15 +13,13 @@ use service::Refusal;
 use service::call::call;
 use service::counting::zero_counters;
 ghost use mathlib.Core.Path.{_≡_};
-ghost use Prim.Native.Nat.{_+_};
-ghost use Rattle.registry.specs.Roster.{faultNumber, loadRoster};
+ghost use Rattle.registry.specs.Roster.{loadRoster};
 ghost use Rattle.connection.specs.Connection.{openConnection};
 ghost use Rattle.service.specs.Refusals.{refusalNumber};
-ghost use Rattle.service.specs.Call.{callOutcome};
-ghost use Rattle.service.specs.Called.{lentMemory, callWith, codeNumber};
-ghost use Rattle.service.specs.Counted.{zeroCounters};
+ghost use Rattle.service.specs.Call.{zeroCounters, callOutcome};
+ghost use Rattle.service.specs.Called.{lentMemory, callWith, codeNumber, outcomeWith};
 ghost use Rattle.billing.specs.Outcome.{billOutcome};
-ghost use Rattle.abi.specs.Numbers.{loadedNumber, openedNumber, numbered, outcomeWith, billNumbered, billedWith};
+ghost use Rattle.abi.specs.Numbers.{loadedNumber, openedNumber, numbered, billNumbered, billedWith};
 
 // What a call says: 0 if it was taken, else the C number; how many bytes of the chunk it took, and how many it wrote.
 #[repr(C)]
@@ -38,19 +36,6 @@ pub struct Bill {
     pub written: usize,
 }
 
-fn fault_number(fault: RosterFault) -> u32
-    ensures { λ r. ⌜ r ≡ 1 + faultNumber fault ⌝ }
-{
-    match fault {
-        RosterFault::WrongMemorySize => 1,
-        RosterFault::CutRecord => 2,
-        RosterFault::UnknownTag => 3,
-        RosterFault::BadName => 4,
-        RosterFault::NinthName => 5,
-        RosterFault::RepeatedName => 6,
-    }
-}
-
 // 0 for a good roster file, else one more than the R number.
 #[no_mangle]
 pub extern "C" fn razidkot_load_roster(file: &[u8], registry: &mut [u8]) -> u32
@@ -58,7 +43,7 @@ pub extern "C" fn razidkot_load_roster(file: &[u8], registry: &mut [u8]) -> u32
 {
     match load_roster(file, registry) {
         Loaded::Good => 0,
-        Loaded::Faulty(fault) => fault_number(fault),
+        Loaded::Faulty(fault) => 1 + fault_number(fault),
     }
 }
 
@@ -120,7 +105,7 @@ pub extern "C" fn razidkot_call(
     counters: &mut Counters,
     response: &mut [u8],
 ) -> Answer
-    ensures { λ r. ⌜ outcomeWith r (now (connection .exit)) (now (registry .exit)) (now (counters .exit)) (now (response .exit)) ≡ callOutcome (lentMemory (now (connection .entry)) (now (registry .entry)) (now (counters .entry))) (callWith (now (chunk .entry)) (now (response .entry))) ⌝ }
+    ensures { λ r. ⌜ outcomeWith (r .code) (r .taken) (r .written) (lentMemory (now (connection .exit)) (now (registry .exit)) (now (counters .exit))) (now (response .exit)) ≡ callOutcome (lentMemory (now (connection .entry)) (now (registry .entry)) (now (counters .entry))) (callWith (now (chunk .entry)) (now (response .entry))) ⌝ }
 {
     number(call(chunk, connection, registry, counters, response))
 }

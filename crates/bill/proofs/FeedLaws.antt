@@ -2,7 +2,7 @@
 use mathlib.Core.Path.{_≡_, sym, ap, _∙_, subst}
 use mathlib.Core.Bool.{true}
 use mathlib.Core.List.{List, [], _∷_, _++_, append-assoc, append-nil}
-use Prim.Native.Nat.{ℕ, _+_, _-_, _≤_, _<_}
+use Prim.Native.Nat.{ℕ, _+_, _≤_, _<_}
 use native.Mathlib.Omega.{arith}
 use borrow.Author.Tests.{eq-eqb}
 use lib.ListN.{length, take, drop, length-append, length-take, length-drop}
@@ -18,12 +18,11 @@ use Rattle.stream.proofs.DeliveryLaws.{call-takes}
 use Rattle.connection.specs.Connection.{connectionSize, connectionBytes, Opening, openConnection}
 use Rattle.registry.specs.WellFormed.{wellFormedRegistry}
 use Rattle.judgement.specs.Judgement.{judgement}
-use Rattle.service.specs.Call.{Memory, memoryOf, layout, bufferLeast, chunkMost, counterMost, refusalOf, callOutcome}
+use Rattle.service.specs.Call.{Memory, memoryOf, layout, fresh, zeroCounters, bufferLeast, chunkMost, counterMost, refusalOf, callOutcome}
 use Rattle.service.specs.Called.{lentMemory, callWith}
 use Rattle.service.proofs.Demand3.{lawful, accepts}
 use Rattle.service.specs.declared.Counters.{Counters}
 use Rattle.connection.specs.declared.change.Opened.{Opened}
-use Rattle.service.specs.Counted.{zeroCounters}
 use Rattle.bill.specs.Stream.{ReadWithin, KeptWithin, leftBy, Follows, Takes, After}
 use Rattle.bill.specs.declared.files.Input.{Input}
 use Rattle.bill.specs.declared.files.Input.the-variants.{Bytes}
@@ -41,7 +40,7 @@ kept-bytes {most} w e = subst (KeptWithin most) e w
 -- ---- one call
 
 -- n bytes of a chunk were taken, one at least
-pub record Handed (registry seen chunk : List ℕ) (n : ℕ) (m : Memory) : Type 0 where
+record Handed (registry seen chunk : List ℕ) (n : ℕ) (m : Memory) : Type 0 where
   pub some : 1 ≤ n
   pub fits : n ≤ length chunk
   pub memory : m ≡ leftBy registry (seen ++ take n chunk)
@@ -118,14 +117,14 @@ module _ (chunk : List ℕ) (at : ℕ) (before after : Memory) (buffer : List �
 pub starts : (registry before connection : List ℕ) (opened : Opened) (counters : Counters) → length before ≡ connectionSize
     → record { answer = opened; memory = connection } ≡ openConnection before → counters ≡ zeroCounters
     → After registry 0 (lentMemory connection registry counters)
-unfolding openConnection layout memoryOf stream.fresh judgement zeroCounters
+unfolding openConnection layout memoryOf stream.fresh judgement fresh zeroCounters
 starts registry before connection opened counters size e zero =
     let made : openConnection before .memory ≡ connectionBytes (rulesOf.opened []) = rw (eq-eqb (length before) connectionSize size) in
-    let fresh : connection ≡ connectionBytes (rulesOf.opened []) = ap (λ (o : Opening). o .memory) e ∙ made in
+    let memory : connection ≡ connectionBytes (rulesOf.opened []) = ap (λ (o : Opening). o .memory) e ∙ made in
     record {
       stream = [];
       short = omega arith;
-      memory = (λ i. lentMemory (fresh i) registry (zero i)) ∙ sym (fresh-memory judgement layout lawful refusalOf registry);
+      memory = (λ i. lentMemory (memory i) registry (zero i)) ∙ sym (fresh-memory judgement layout lawful refusalOf registry);
     }
 
 module _ (registry : List ℕ) (good : wellFormedRegistry registry ≡ true) (most : ℕ) (m : Memory) (a : After registry most m) where

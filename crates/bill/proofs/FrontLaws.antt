@@ -1,60 +1,51 @@
--- Why the front of a roster file is enough: of a longer file the first faulty record lies whole within it. Eight good records have
--- at most 8 * 67 bytes, and the next one, which is faulty, at most 65,538.
+-- Why the front of a roster file is enough: of a longer file the first faulty record lies whole within it.
 use mathlib.Core.Path.{_≡_, refl, sym, ap, ap₂, _∙_}
-use mathlib.Core.Bool.{Bool, true, false, not, _||_}
+use mathlib.Core.Bool.{Bool, true, not, _||_}
 use mathlib.Core.Option.{Option, none, some}
 use mathlib.Core.List.{List, [], _∷_, _++_}
-use Prim.Native.Nat.{ℕ, zero, suc, _+_, _-_, _*_, _≤_, _<_}
+use Prim.Native.Nat.{ℕ, zero, suc, _+_, _*_, _≤_, _<_}
 use native.Mathlib.Omega.{arith}
-use borrow.Author.Tests.{le-ltb, ltb-true}
+use borrow.Author.Tests.{ltb-true, not-false}
 use lib.ListN.{length, take, drop, length-append, length-drop, take-append-drop}
 use lib.Seq.{take-append-seam, drop-append-le, length-take-le}
 use lib.Dec.{leb, ltb, eqb}
 use Rattle.wire.specs.Choice.{firstOf}
 use Rattle.wire.specs.Lists.{all}
 use Rattle.wire.specs.Numbers.{littleEndian, field}
-use Rattle.wire.proofs.TestLaws.{and-left, and-right, not-false, none-first}
+use Rattle.wire.proofs.TestLaws.{and-left, and-right, none-at}
 use Rattle.wire.proofs.ListLaws.{part-of-part, all-take, all-drop}
-use Rattle.wire.proofs.NumberLaws.{field-append}
-use Rattle.registry.specs.Names.{legalName, absent}
+use Rattle.wire.proofs.NumberLaws.{isByte, field-append}
+use Rattle.registry.specs.Names.{legalName, isNew}
 use Rattle.registry.specs.Registry.{applicationNameMost, lineCount}
 use Rattle.registry.specs.Roster.{recordLength, valueIn, recordFaults, rosterOf}
 use Rattle.registry.specs.declared.RosterFault.{RosterFault}
 use Rattle.registry.specs.declared.RosterFault.the-variants.{CutRecord, UnknownTag, BadName, NinthName, RepeatedName}
 use Rattle.registry.proofs.NameLaws.{legal-short}
-use Rattle.registry.proofs.LoadLaws.{whole-room, passed-whole, passed-room, rosterFrom, roster-fault, roster-on}
-
-abbrev pub frontMost : ℕ
-frontMost = 66074
-
-abbrev pub areBytes : List ℕ → Bool
-areBytes l = all (λ b. ltb b 256) l
+use Rattle.registry.proofs.LoadLaws.{whole-fit, whole-room, cut-test, passed-whole, passed-room, rosterFrom, roster-fault, roster-on}
+use Rattle.bill.specs.Front.{goodRecordMost, recordMost, frontMost}
 
 -- ---- a record's length
 
-two-bytes : (l : List ℕ) → areBytes l ≡ true → littleEndian (take 2 l) ≤ 65535
+two-bytes : (l : List ℕ) → all isByte l ≡ true → littleEndian (take 2 l) ≤ 65535
 unfolding littleEndian
 two-bytes [] e = omega arith
-two-bytes (b ∷ []) e = let x : b < 256 = ltb-true _ _ (and-left (ltb b 256) _ e) in omega arith
+two-bytes (b ∷ []) e = let x : b < 256 = ltb-true _ _ (and-left (isByte b) _ e) in omega arith
 two-bytes (b ∷ c ∷ l) e =
-    let x : b < 256 = ltb-true _ _ (and-left (ltb b 256) _ e) in
-    let y : c < 256 = ltb-true _ _ (and-left (ltb c 256) _ (and-right (ltb b 256) _ e)) in
+    let x : b < 256 = ltb-true _ _ (and-left (isByte b) _ e) in
+    let y : c < 256 = ltb-true _ _ (and-left (isByte c) _ (and-right (isByte b) _ e)) in
     omega arith
 
-record-most : (bytes : List ℕ) → areBytes bytes ≡ true → recordLength bytes ≤ 65538
+record-most : (bytes : List ℕ) → all isByte bytes ≡ true → recordLength bytes ≤ recordMost
 unfolding field
-record-most bytes e = omega (arith, two-bytes (drop 1 bytes) (all-drop (λ b. ltb b 256) 1 bytes e))
+record-most bytes e = omega (arith, two-bytes (drop 1 bytes) (all-drop isByte 1 bytes e))
 
 -- a good record is short
 module _ (names : List (List ℕ)) (bytes : List ℕ) (e : firstOf (recordFaults names bytes) ≡ none) where
   legal : legalName applicationNameMost (valueIn bytes) ≡ true
   unfolding recordFaults
-  legal =
-      let e₁ = none-first _ _ _ e .1 in
-      let e₂ = none-first _ _ _ e₁ .1 in
-      not-false _ (none-first _ _ _ e₂ .0)
+  legal = not-false _ (none-at (recordFaults names bytes) 2 BadName e)
 
-  good-most : recordLength bytes ≤ 67
+  good-most : recordLength bytes ≤ goodRecordMost
   good-most =
       let room = whole-room bytes (passed-whole names bytes e) in
       let short = legal-short applicationNameMost (valueIn bytes) legal in
@@ -70,14 +61,11 @@ faultsOf names cut tag value =
     ∷ (not (eqb tag 1), UnknownTag)
     ∷ (not (legalName applicationNameMost value), BadName)
     ∷ (leb lineCount (length names), NinthName)
-    ∷ (not (absent value names), RepeatedName)
+    ∷ (not (isNew value names), RepeatedName)
     ∷ []
 
 abbrev isCut : List ℕ → Bool
 isCut bytes = ltb (length bytes) 3 || ltb (length bytes) (recordLength bytes)
-
-uncut : (bytes : List ℕ) → recordLength bytes ≤ length bytes → isCut bytes ≡ false
-uncut bytes h = let three : 3 ≤ length bytes = omega arith in rw (le-ltb _ _ three, le-ltb _ _ h)
 
 module _ (x rest : List ℕ) (room : recordLength x ≤ length x) where
   same-size : field 1 2 (x ++ rest) ≡ field 1 2 x
@@ -93,18 +81,18 @@ module _ (x rest : List ℕ) (room : recordLength x ≤ length x) where
   unfolding recordFaults faultsOf
   same-faults names =
       let fits : recordLength (x ++ rest) ≤ length (x ++ rest) = omega (arith, same-size, length-append x rest) in
-      let cut : isCut (x ++ rest) ≡ isCut x = uncut (x ++ rest) fits ∙ sym (uncut x room) in
+      let cut : isCut (x ++ rest) ≡ isCut x = cut-test (x ++ rest) (whole-fit (x ++ rest) fits) ∙ sym (cut-test x (whole-fit x room)) in
       let tag : field 0 1 (x ++ rest) ≡ field 0 1 x = field-append 0 1 x rest (omega arith) in
       λ i. faultsOf names (cut i) (tag i) (same-value i)
 
 -- ---- record after record
 
-module _ (front rest : List ℕ) (bytes : areBytes front ≡ true) (long : frontMost ≤ length front) where
+module _ (front rest : List ℕ) (bytes : all isByte front ≡ true) (long : frontMost ≤ length front) where
   Same : (at : ℕ) (names : List (List ℕ)) → Type 0
   Same at names = rosterFrom front at names ≡ rosterFrom (front ++ rest) at names
 
   -- the record at `at`, behind good ones
-  module _ (at : ℕ) (names : List (List ℕ)) (few : length names ≤ lineCount) (near : at ≤ 67 * length names) where
+  module _ (at : ℕ) (names : List (List ℕ)) (few : length names ≤ lineCount) (near : at ≤ goodRecordMost * length names) where
     abbrev x : List ℕ
     x = drop at front
 
@@ -112,7 +100,7 @@ module _ (front rest : List ℕ) (bytes : areBytes front ≡ true) (long : front
     behind = drop-append-le at front rest (omega arith)
 
     room : recordLength x ≤ length x
-    room = omega (arith, record-most (drop at front) (all-drop (λ b. ltb b 256) at front bytes), length-drop at front)
+    room = omega (arith, record-most (drop at front) (all-drop isByte at front bytes), length-drop at front)
 
     there : at < length (front ++ rest)
     there = omega (arith, length-append front rest)
@@ -120,7 +108,7 @@ module _ (front rest : List ℕ) (bytes : areBytes front ≡ true) (long : front
     faults : firstOf (recordFaults names (drop at (front ++ rest))) ≡ firstOf (recordFaults names x)
     faults = ap (λ (b : List ℕ). firstOf (recordFaults names b)) behind ∙ ap firstOf (same-faults x rest room names)
 
-    step : (recordLength x ≤ 67 → length names < lineCount → Same (at + recordLength x) (names ++ (valueIn x ∷ []))) → Same at names
+    step : (recordLength x ≤ goodRecordMost → length names < lineCount → Same (at + recordLength x) (names ++ (valueIn x ∷ []))) → Same at names
     unfolding Same
     step next = go (firstOf (recordFaults names x)) refl
       where
@@ -134,7 +122,7 @@ module _ (front rest : List ℕ) (bytes : areBytes front ≡ true) (long : front
             ∙ sym (roster-on (front ++ rest) at names there (faults ∙ q))
 
   -- k names more have room
-  same : (k at : ℕ) (names : List (List ℕ)) → length names + k ≡ lineCount → at ≤ 67 * length names → Same at names
+  same : (k at : ℕ) (names : List (List ℕ)) → length names + k ≡ lineCount → at ≤ goodRecordMost * length names → Same at names
   same zero at names all near = step at names (omega arith) near (λ short room. absurd (omega arith))
   same (suc k) at names all near =
       step at names (omega arith) near
@@ -142,10 +130,10 @@ module _ (front rest : List ℕ) (bytes : areBytes front ≡ true) (long : front
       let n = length-append names (valueIn (drop at front) ∷ []) in
       same k (at + recordLength (drop at front)) (names ++ (valueIn (drop at front) ∷ [])) (omega arith) (omega arith))
 
-pub front-decides : (file : List ℕ) → areBytes file ≡ true → frontMost ≤ length file → rosterOf (take frontMost file) ≡ rosterOf file
+pub front-decides : (file : List ℕ) → all isByte file ≡ true → frontMost ≤ length file → rosterOf (take frontMost file) ≡ rosterOf file
 unfolding rosterOf Same
 front-decides file bytes long =
     let front : List ℕ = take frontMost file in
     let size : length front ≡ frontMost = length-take-le frontMost file long in
-    same front (drop frontMost file) (all-take (λ b. ltb b 256) frontMost file bytes) (omega arith) lineCount 0 [] refl (omega arith)
+    same front (drop frontMost file) (all-take isByte frontMost file bytes) (omega arith) lineCount 0 [] refl (omega arith)
     ∙ ap (λ (l : List ℕ). rosterFrom l 0 []) (take-append-drop frontMost file)

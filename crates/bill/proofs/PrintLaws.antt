@@ -1,9 +1,8 @@
 -- What is written is the bill of some two files.
-use mathlib.Core.Path.{_≡_, refl, sym, ap, _∙_, subst}
+use mathlib.Core.Path.{_≡_, refl, ap, _∙_, subst}
 use mathlib.Core.Bool.{Bool, true, false}
 use mathlib.Core.Option.{Option, none, some}
 use mathlib.Core.List.{List, [], _∷_}
-use Prim.{⊥}
 use Prim.Native.Nat.{ℕ, _≤_}
 use native.Mathlib.Omega.{arith}
 use borrow.Author.Tests.{le-ltb, eq-eqb}
@@ -28,21 +27,21 @@ use Rattle.registry.proofs.RosterLaws.{roster-legal, registry-good}
 use Rattle.judgement.specs.Judgement.{judgement}
 use Rattle.service.specs.Counters.{largestCount}
 use Rattle.service.specs.Call.{Memory, memoryOf}
-use Rattle.service.specs.Bill.{billFor, bill}
+use Rattle.service.specs.Bill.{noFile, billFor, bill}
 use Rattle.service.proofs.KeptLaws.{keeps}
 use Rattle.billing.specs.Outcome.{billMost, billIn, refusalTests, BillOutcome, outcomeOf, billOutcome}
 use Rattle.billing.specs.declared.Billed.{Billed}
-use Rattle.billing.specs.declared.Billed.the-variants.{Written, BufferTooSmall, ConnectionIllFormed, RegistryIllFormed}
+use Rattle.billing.specs.declared.Billed.the-variants.{Written}
 use Rattle.billing.proofs.Billed.{the-type}
 use Rattle.billing.proofs.RulesLaws.{bill-by-rules}
 use Rattle.bill.specs.Stream.{leftBy, After}
-use Rattle.bill.specs.Printed.{noFile, refusedRoster, faultyText, takenText, Started, Refused, SourceOf, Prints}
+use Rattle.bill.specs.Printed.{faultyText, takenText, Started, Refused, SourceOf, Prints}
 use Rattle.bill.specs.declared.text.Source.{Source}
 use Rattle.bill.specs.declared.text.Source.the-variants as source
 
 -- ---- text at the front of the buffer
 
-pub prints : (roster stream : Option (List ℕ)) {text d e : List ℕ} {r : ℕ} → Wrote text d e r → text ≡ bill roster stream → Prints e r
+prints : (roster stream : Option (List ℕ)) {text d e : List ℕ} {r : ℕ} → Wrote text d e r → text ≡ bill roster stream → Prints e r
 prints roster stream {text} {d} {e} {r} w same = record {
   roster = roster;
   stream = stream;
@@ -51,12 +50,12 @@ prints roster stream {text} {d} {e} {r} w same = record {
 }
 
 pub no-file-prints : {d e : List ℕ} {r : ℕ} → Wrote noFile d e r → Prints e r
-unfolding bill noFile
+unfolding bill
 no-file-prints w = prints none none w refl
 
 -- a refused roster file, and a stream that can be read or not
 pub faulty-prints : (fault : RosterFault) (isWhole : Bool) {d e : List ℕ} {r : ℕ} → Refused fault → Wrote (faultyText fault isWhole) d e r → Prints e r
-unfolding bill billFor refusedRoster faultyText
+unfolding bill billFor faultyText
 faulty-prints fault true f w = prints (some (f .file)) (some []) w (rw (f .first))
 faulty-prints fault false f w = no-file-prints w
 
@@ -84,12 +83,6 @@ source-of file memory after l size e kept = go (rosterOf file) refl
 
 -- ---- the bill of well-formed memory
 
-sizeOf : Billed → ℕ
-sizeOf (Written n) = n
-sizeOf BufferTooSmall = 0
-sizeOf ConnectionIllFormed = 0
-sizeOf RegistryIllFormed = 0
-
 module _ (d e : List ℕ) (answer : Billed) (m : Memory) (room : billMost ≤ length d) (connected : wellFormedConnection (m .connection) ≡ true)
     (registered : wellFormedRegistry (m .registry) ≡ true) (says : record { answer = answer; out = e } ≡ billOutcome d m) where
   written : BillOutcome
@@ -100,9 +93,9 @@ module _ (d e : List ℕ) (answer : Billed) (m : Memory) (room : billMost ≤ le
   outcome = says ∙ rw (le-ltb (length d) billMost room, connected, registered)
 
   pub bill-wrote : (n : ℕ) → answer ≡ Written n → Wrote (billIn m) d e n
-  unfolding written sizeOf
+  unfolding written
   bill-wrote n w = record {
-    count = sym (ap sizeOf w) ∙ ap (λ (o : BillOutcome). sizeOf (o .answer)) outcome;
+    count = let a : answer ≡ Written (length (billIn m)) = ap (λ (o : BillOutcome). o .answer) outcome in cc;
     bytes = ap (λ (o : BillOutcome). o .out) outcome;
   }
 

@@ -3,24 +3,17 @@
 use Prim.Native.Nat.{ℕ, _≤_}
 use mathlib.Core.Path.{_≡_}
 use mathlib.Core.Bool.{Bool, true, false}
-use mathlib.Core.Option.{Option, none, some}
-use mathlib.Core.List.{List, [], _++_}
+use mathlib.Core.Option.{Option}
+use mathlib.Core.List.{List}
 use lib.ListN.{length, take}
 use Rattle.registry.specs.Registry.{registryOf}
-use Rattle.registry.specs.Roster.{faultNumber, applications, faulty, rosterOf}
+use Rattle.registry.specs.Roster.{applications, faulty, rosterOf}
 use Rattle.registry.specs.declared.RosterFault.{RosterFault}
-use Rattle.service.specs.Text.{ascii}
 use Rattle.service.specs.Call.{Memory}
 use Rattle.billing.specs.Outcome.{billIn}
-use Rattle.service.specs.Bill.{decimal, textLine, bill}
+use Rattle.service.specs.Bill.{refusedRoster, noFile, bill}
 use Rattle.bill.specs.declared.text.Source.{Source}
 use Rattle.bill.specs.declared.text.Source.the-variants.{Good, Faulty, Unreadable}
-
-unfoldable pub noFile : List ℕ
-noFile = textLine (ascii "no file") []
-
-unfoldable pub refusedRoster : RosterFault → List ℕ
-refusedRoster fault = ascii "roster R" ++ textLine (decimal (faultNumber fault)) []
 
 -- what is printed for a refused roster file and for a good one, by whether the stream could be read to its end
 unfoldable pub faultyText : RosterFault → (isWhole : Bool) → List ℕ

@@ -1,13 +1,13 @@
 -- What the program keeps while it reads a stream. No part of the reading copy.
-use Prim.Native.Nat.{ℕ, _+_, _≤_}
+use Prim.Native.Nat.{ℕ, _+_, _/_, _≤_}
 use mathlib.Core.Path.{_≡_}
 use mathlib.Core.Bool.{true}
-use mathlib.Core.List.{List, [], _++_}
+use mathlib.Core.List.{List, _++_}
 use lib.ListN.{length}
 use Rattle.stream.specs.Rules.{rules}
 use Rattle.registry.specs.WellFormed.{wellFormedRegistry}
 use Rattle.judgement.specs.Judgement.{judgement}
-use Rattle.service.specs.Call.{Memory, memoryOf, counterMost}
+use Rattle.service.specs.Call.{Memory, memoryOf, chunkMost, counterMost}
 use Rattle.bill.specs.declared.files.Input.{Input}
 use Rattle.bill.specs.declared.files.Input.the-variants.{Bytes, End, Failed}
 
@@ -22,6 +22,10 @@ unfoldable pub KeptWithin : (most : ℕ) → Input → Type 0
 KeptWithin most (Bytes n) = n ≤ most
 KeptWithin most End = Unit {0}
 KeptWithin most Failed = Unit {0}
+
+-- so many chunks have at most as many bytes as a counter may count
+abbrev pub turnsMost : ℕ
+turnsMost = counterMost / chunkMost
 
 -- what the rules leave in memory after a stream
 abbrev pub leftBy : (registry stream : List ℕ) → Memory

@@ -9,8 +9,8 @@ pub enum Input {
     Failed,
 }
 
-// A number that no run counts down: nothing says that a file ends, and a proved loop has to. So many chunks have
-// 2^62 bytes at most, above which a call is refused.
+// A number that no run counts down: nothing says that a file ends, and a proved loop has to. It is counterMost divided by
+// chunkMost, the limits of C5 and C2: so many chunks have as many bytes at most as a counter may count.
 pub const TURNS: u64 = 70368744177664;
 
 // Opens the file that an argument names; below 0 where it can't be.

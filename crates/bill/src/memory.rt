@@ -1,6 +1,7 @@
 // The program's memory, all zero. Each contract gives the length alone, which lending an array as a slice needs.
 use billing::BILL_MOST;
 use connection::CONNECTION_SIZE;
+use registry::APPLICATION_NAME_MOST;
 use registry::LINES;
 use registry::REGISTRY_SIZE;
 ghost use mathlib.Core.Path.{_≡_};
@@ -8,14 +9,20 @@ ghost use lib.ListN.{length};
 ghost use Rattle.connection.specs.Connection.{connectionSize};
 ghost use Rattle.registry.specs.Registry.{registrySize};
 ghost use Rattle.billing.specs.Outcome.{billMost};
+ghost use Rattle.bill.specs.Front.{frontMost};
 
-// Room for all of a roster file that decides whether it is good, and how: at most eight good records of 3 + 64 bytes,
-// and then a ninth record, which is faulty and has at most 3 + 65,535 bytes. What is behind that of a longer file can't
-// matter: `front-decides` in proofs/FrontLaws.antt.
-pub const ROSTER_MOST: usize = LINES * 67 + 65538;
+// The longest good record of a roster file: tag, length and name.
+const GOOD_RECORD_MOST: usize = 3 + APPLICATION_NAME_MOST;
+
+// The longest record of all, by the 2 bytes of its length.
+const RECORD_MOST: usize = 3 + 65535;
+
+// Room for all of a roster file that decides whether it is good, and how: a good record for each line, and then one that is
+// faulty. What is behind that of a longer file can't matter: `front-decides` in proofs/FrontLaws.antt.
+pub const ROSTER_MOST: usize = LINES * GOOD_RECORD_MOST + RECORD_MOST;
 
 pub fn roster_front() -> [u8; ROSTER_MOST]
-    ensures { λ r. ⌜ 66074 ≡ length r ⌝ }
+    ensures { λ r. ⌜ frontMost ≡ length r ⌝ }
 {
     [0; ROSTER_MOST]
 }

@@ -13,6 +13,7 @@ use billing::text::write_word;
 use billing::whole::write_bill;
 use registry::RosterFault;
 use registry::roster::Loaded;
+use registry::roster::fault_number;
 use registry::roster::load_roster;
 ghost use mathlib.Core.Bool.{true};
 ghost use mathlib.Core.Path.{_≡_};
@@ -22,10 +23,10 @@ ghost use Rattle.wire.specs.Wrote.{Wrote};
 ghost use Rattle.connection.specs.Connection.{wellFormedConnection};
 ghost use Rattle.registry.specs.WellFormed.{wellFormedRegistry};
 ghost use Rattle.registry.specs.Registry.{registrySize};
-ghost use Rattle.registry.specs.Roster.{faultNumber};
 ghost use Rattle.service.specs.Called.{lentMemory};
+ghost use Rattle.service.specs.Bill.{noFile};
 ghost use Rattle.billing.specs.Outcome.{billMost};
-ghost use Rattle.bill.specs.Printed.{noFile, faultyText, takenText, Started, SourceOf, Prints};
+ghost use Rattle.bill.specs.Printed.{faultyText, takenText, Started, SourceOf, Prints};
 
 // What becomes of a roster file.
 enum Source {
@@ -41,19 +42,6 @@ fn write_no_file(out: &mut [u8]) -> usize
     write_word(out, 0, b"no file\n")
 }
 
-fn fault_number(fault: RosterFault) -> u64
-    ensures { λ r. ⌜ r ≡ faultNumber fault ⌝ }
-{
-    match fault {
-        RosterFault::WrongMemorySize => 0,
-        RosterFault::CutRecord => 1,
-        RosterFault::UnknownTag => 2,
-        RosterFault::BadName => 3,
-        RosterFault::NinthName => 4,
-        RosterFault::RepeatedName => 5,
-    }
-}
-
 // The line of a refused roster, as `roster R3`; a stream that can't be read comes before it.
 fn write_faulty(out: &mut [u8], fault: RosterFault, is_whole: bool) -> usize
     requires { ⌜ billMost ≤ length (now out) ⌝ }
@@ -63,7 +51,7 @@ fn write_faulty(out: &mut [u8], fault: RosterFault, is_whole: bool) -> usize
         return write_no_file(out);
     }
     let named = write_word(out, 0, b"roster R");
-    let numbered = write_decimal(out, named, fault_number(fault));
+    let numbered = write_decimal(out, named, fault_number(fault) as u64);
     write_word(out, numbered, b"\n")
 }
 

@@ -10,14 +10,15 @@ use lib.ListN.{length, take, drop, set, length-set, length-drop}
 use lib.Seq.{drop-cons, drop-length, drop-set-lt, getD-set-same, take-all}
 use lib.Dec.{ltb}
 use Rattle.service.specs.Bill.{digitsBefore, decimal}
+use Rattle.billing.specs.Text.{digitsMost}
 
 -- ---- the digits, by the last
 
-pub last-digit : (fuel n : ℕ) (tail : List ℕ) → n < 10 → digitsBefore (suc fuel) n tail ≡ (0x30 + n) ∷ tail
+last-digit : (fuel n : ℕ) (tail : List ℕ) → n < 10 → digitsBefore (suc fuel) n tail ≡ (0x30 + n) ∷ tail
 unfolding digitsBefore
 last-digit fuel n tail h = simp (lt-ltb n 10 h)
 
-pub more-digits : (fuel n : ℕ) (tail : List ℕ) → 10 ≤ n → digitsBefore (suc fuel) n tail ≡ digitsBefore fuel (n / 10) ((0x30 + n % 10) ∷ tail)
+more-digits : (fuel n : ℕ) (tail : List ℕ) → 10 ≤ n → digitsBefore (suc fuel) n tail ≡ digitsBefore fuel (n / 10) ((0x30 + n % 10) ∷ tail)
 unfolding digitsBefore
 more-digits fuel n tail h = simp (le-ltb n 10 h)
 
@@ -39,16 +40,16 @@ fuel-enough (suc f) (suc g) n tail h k = go (ltb n 10) refl (λ l. fuel-enough f
 
 -- ---- the digits of n stand in `digits` from `from` on, but those of `rest`
 pub record Found (n : ℕ) (digits : List ℕ) (from rest : ℕ) : Type 0 where
-  pub within : from ≤ 20
+  pub within : from ≤ digitsMost
   pub room : 1 ≤ from
   pub small : rest < 10 ^ from
-  pub long : length digits ≡ 20
+  pub long : length digits ≡ digitsMost
   pub whole : digitsBefore (suc rest) rest (drop from digits) ≡ decimal n
 
-pub found-none : (n : ℕ) (digits : List ℕ) → n < 2 ^ 64 → length digits ≡ 20 → Found n digits 20 n
+pub found-none : (n : ℕ) (digits : List ℕ) → n < 2 ^ 64 → length digits ≡ digitsMost → Found n digits digitsMost n
 unfolding decimal
 found-none n digits h l =
-    let none : drop 20 digits ≡ [] = ap (λ (k : ℕ). drop k digits) (sym l) ∙ drop-length digits in
+    let none : drop digitsMost digits ≡ [] = ap (λ (k : ℕ). drop k digits) (sym l) ∙ drop-length digits in
     record {
       within = omega arith;
       room = omega arith;
@@ -79,7 +80,7 @@ module _ {n : ℕ} {digits : List ℕ} {from rest : ℕ} (f : Found n digits fro
       go : (m : ℕ) → from ≡ suc m → rest < 10 * 10 ^ m
       go m e = let s : rest < 10 ^ suc m = rw e at (f .small) in omega (arith, pow-suc 10 m)
 
-  pub found-room : 10 ≤ rest → 2 ≤ from
+  found-room : 10 ≤ rest → 2 ≤ from
   found-room h = go (from - 1) refl
     where
       go : (m : ℕ) → from - 1 ≡ m → 2 ≤ from
@@ -102,15 +103,15 @@ module _ {n : ℕ} {digits : List ℕ} {from rest : ℕ} (f : Found n digits fro
       }
 
   -- the last digit found is the first; the digits as the part of the array that is lent
-  pub found-all : rest < 10 → take (20 - (from - 1)) (drop (from - 1) (set digits (from - 1) (0x30 + rest))) ≡ decimal n
+  pub found-all : rest < 10 → take (digitsMost - (from - 1)) (drop (from - 1) (set digits (from - 1) (0x30 + rest))) ≡ decimal n
   found-all h =
       let found : List ℕ = set digits (from - 1) (0x30 + rest) in
-      take-all (20 - (from - 1)) (drop (from - 1) found) (omega (arith, length-drop (from - 1) found, length-set digits (from - 1) (0x30 + rest), f .long))
+      take-all (digitsMost - (from - 1)) (drop (from - 1) found) (omega (arith, length-drop (from - 1) found, length-set digits (from - 1) (0x30 + rest), f .long))
       ∙ front (0x30 + rest)
       ∙ sym (last-digit rest rest (drop from digits) h)
       ∙ f .whole
 
-  pub found-short : rest < 10 → length (decimal n) ≤ 20
+  pub found-short : rest < 10 → length (decimal n) ≤ digitsMost
   found-short h =
       let e : length (decimal n) ≡ suc (length (drop from digits))
       = sym (ap length (f .whole)) ∙ ap length (last-digit rest rest (drop from digits) h) in

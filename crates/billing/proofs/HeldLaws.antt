@@ -1,23 +1,20 @@
 -- How many bytes of an unfinished request a well-formed connection has seen, as its memory says.
 use mathlib.Core.Path.{_≡_, refl, sym, ap, _∙_}
-use mathlib.Core.Bool.{true, _&&_}
+use mathlib.Core.Bool.{true}
 use mathlib.Core.List.{List, _++_}
 use Prim.Native.Nat.{ℕ, _+_, _-_, _≤_}
 use native.Mathlib.Omega.{arith}
-use borrow.Author.Tests.{leb-true}
 use lib.ListN.{length, drop, replicate, length-append}
-use lib.Dec.{leb, eqb}
 use Rattle.wire.specs.Lists.{padded}
-use Rattle.wire.specs.Request.{contentLength, authLength, headerLength, requestLength}
-use Rattle.wire.proofs.TestLaws.{and-left, and-right}
-use Rattle.stream.specs.Frame.{legalStart, oversized}
+use Rattle.wire.specs.Request.{requestLength}
 use Rattle.stream.specs.Rules.{Connection, opened, skipping, closed, heldBytes}
 use Rattle.stream.specs.Call.{wellFormed}
-use Rattle.stream.proofs.FrameLaws.{requestLength-append, legal-size}
+use Rattle.stream.proofs.FrameLaws.{requestLength-append}
+use Rattle.stream.proofs.ChunkLaws.{well-skipping}
 use Rattle.connection.specs.Connection.{heldMost, connectionBytes, connectionOf, wellFormedConnection}
 use Rattle.connection.specs.State.{stateOf}
 use Rattle.connection.specs.declared.check.State.the-variants.{Open, Skipping, Closed}
-use Rattle.connection.proofs.ConnectionLaws.{bytes-there, Header, header-facts, memory-good, store-load}
+use Rattle.connection.proofs.ConnectionLaws.{bytes-there, memory-good, store-load}
 
 pub held-open : (x : Connection) (n : ℕ) → stateOf x ≡ Open n → n ≡ heldBytes x
 unfolding heldBytes
@@ -41,12 +38,9 @@ pub record Skipped (bytes : List ℕ) (x : Connection) (toGo : ℕ) : Type 0 whe
 skipped-header : (header : List ℕ) (toGo : ℕ) → wellFormed (skipping header toGo) ≡ true → Skipped (padded heldMost header) (skipping header toGo) toGo
 unfolding wellFormed heldBytes
 skipped-header header toGo w =
-    let f : Header header = header-facts header toGo w in
-    let three = and-left _ _ (and-left _ _ (and-left _ _ w)) in
-    let legal : legalStart header ≡ true = and-right (leb 6 (length header)) _ (and-left _ _ three) in
-    let most : toGo ≤ contentLength header + authLength header
-    = leb-true _ _ (and-right (leb 6 (length header) && legalStart header && eqb (length header) (headerLength header) && oversized header && leb 1 toGo) _ w) in
-    let many : 28 ≤ length header = omega (arith, f .exact, legal-size header legal) in
+    let f = well-skipping header toGo w in
+    let many = f .many in
+    let most = f .most in
     let zeros : List ℕ = replicate (heldMost - length header) 0 in
     let same : requestLength (header ++ zeros) ≡ requestLength header = requestLength-append header zeros many in
     record {

@@ -7,7 +7,7 @@ use native.Mathlib.Nat.{zero-add}
 use native.Mathlib.Numerals.{add-one}
 use native.Mathlib.Omega.{arith}
 use borrow.Author.Tests.{eq-eqb, ne-eqb}
-use lib.ListN.{length, take, drop, getD, drop-of-length-le, List·getD-map}
+use lib.ListN.{length, take, drop, getD, drop-of-length-le}
 use lib.Seq.{drop-cons}
 use lib.Dec.{eqb}
 use Rattle.wire.specs.Choice.{if_then_else_}
@@ -15,7 +15,7 @@ use Rattle.wire.specs.Lists.{all}
 use Rattle.wire.proofs.TestLaws.{and-left}
 use Rattle.wire.proofs.ListLaws.{all-drop}
 use Rattle.registry.specs.Names.{nameIn}
-use Rattle.registry.specs.Registry.{lineCount, lineSize, namesIn}
+use Rattle.registry.specs.Registry.{lineCount, applicationNameMost, lineSize, namesIn}
 use Rattle.registry.specs.WellFormed.{legalIfUsed, wellFormedRegistry}
 use Rattle.registry.specs.Check.{blockNames}
 use Rattle.registry.proofs.NameLaws.{legal-short}
@@ -25,7 +25,7 @@ use Rattle.judgement.specs.Status.{statusNumber, refusedStatuses}
 use Rattle.judgement.specs.declared.Status.the-variants.{Success}
 use Rattle.service.specs.Text.{ascii}
 use Rattle.service.specs.Bill.{decimal, textLine, applicationLines, refusedLines}
-use Rattle.billing.specs.Text.{usedNames, refusedNumber, refusedLine}
+use Rattle.billing.specs.Text.{usedNames, refusedLine}
 
 -- ---- the applications
 
@@ -59,7 +59,7 @@ module _ (registry : List ℕ) (w : wellFormedRegistry registry ≡ true) (i : �
   name-is : nameIn (blockAt 0 lineSize registry i) ≡ nameAt
   name-is = ap (λ (k : ℕ). nameIn (take lineSize (drop k registry))) (zero-add (i * lineSize)) ∙ name-at lineSize registry (i * lineSize) (omega arith) b
 
-  pub name-long : length nameAt ≡ getD registry (i * lineSize) 0
+  name-long : length nameAt ≡ getD registry (i * lineSize) 0
   name-long =
       sym (ap length (name-at lineSize registry (i * lineSize) (omega arith) b))
       ∙ name-length lineSize registry (i * lineSize) (omega arith) (omega (arith, fits i lineCount lineSize h, good-of registry w .size)) b
@@ -78,12 +78,12 @@ module _ (registry : List ℕ) (w : wellFormedRegistry registry ≡ true) (i : �
   lines-next served n =
       rw (names-next, used-some nameAt (drop (i + 1) (namesIn registry)) (omega (arith, name-long)), ← add-one i)
 
-  pub name-short : (getD registry (i * lineSize) 0 ≡ 0 → ⊥) → length nameAt ≤ 64
+  pub name-short : (getD registry (i * lineSize) 0 ≡ 0 → ⊥) → length nameAt ≤ applicationNameMost
   name-short n =
       let named : length nameAt ≡ 0 → ⊥ = λ e. n (sym name-long ∙ e) in
       let legal : all legalIfUsed (nameAt ∷ drop (i + 1) (namesIn registry)) ≡ true
       = rw names-next at (all-drop legalIfUsed i (namesIn registry) (good-of registry w .lines .legal)) in
-      legal-short 64 nameAt (rw (ne-eqb (length nameAt) 0 named) at (and-left (legalIfUsed nameAt) _ legal))
+      legal-short applicationNameMost nameAt (rw (ne-eqb (length nameAt) 0 named) at (and-left (legalIfUsed nameAt) _ legal))
 
 -- ---- the statuses
 
@@ -96,8 +96,8 @@ choice-append true l m = refl
 choice-append false l m = refl
 
 pub refused-next : (refused : List ℕ) (i : ℕ) → i < length refusedStatuses → i < length refused
-    → refusedFrom refused i ≡ refusedLine (refusedNumber i) (getD refused i 0) ++ refusedFrom refused (i + 1)
-unfolding refusedLines refusedLine refusedNumber
+    → refusedFrom refused i ≡ refusedLine (statusNumber (getD refusedStatuses i Success)) (getD refused i 0) ++ refusedFrom refused (i + 1)
+unfolding refusedLines refusedLine
 refused-next refused i h k =
     rw (add-one i, drop-cons refusedStatuses i Success h, drop-cons refused i 0 k)
     (choice-append (eqb (getD refused i 0) 0)
@@ -115,8 +115,3 @@ refused-line-none number n e = rw (eq-eqb n 0 e)
 pub refused-line-some : (number n : ℕ) → (n ≡ 0 → ⊥) → refusedLine number n ≡ textLine (ascii "refused") (decimal number ∷ decimal n ∷ [])
 unfolding refusedLine
 refused-line-some number n e = rw (ne-eqb n 0 e)
-
-pub refused-numbers : (i : ℕ)
-    → getD (1 ∷ 2 ∷ 3 ∷ 4 ∷ 6 ∷ 7 ∷ 9 ∷ 11 ∷ 12 ∷ 17 ∷ 19 ∷ 20 ∷ 1133 ∷ 1135 ∷ 1139 ∷ 1140 ∷ 1142 ∷ []) i 0 ≡ refusedNumber i
-unfolding refusedNumber statusNumber
-refused-numbers i = List·getD-map statusNumber refusedStatuses i Success

@@ -15,10 +15,10 @@ use Rattle.billing.specs.Text.{Placed}
 
 -- ---- bytes put one behind the other
 
-pub put-none : (d : List ℕ) (at : ℕ) → put d at [] ≡ d
+put-none : (d : List ℕ) (at : ℕ) → put d at [] ≡ d
 put-none d at = rw (append-nil, add-zero) (take-append-drop at d)
 
-pub put-on : (a b d : List ℕ) (at : ℕ) → at + length a ≤ length d → put (put d at a) (at + length a) b ≡ put d at (a ++ b)
+put-on : (a b d : List ℕ) (at : ℕ) → at + length a ≤ length d → put (put d at a) (at + length a) b ≡ put d at (a ++ b)
 put-on a b d at h =
     let t : length (take at d) ≡ at = length-take-le at d (let x : at ≤ length d = omega arith in x) in
     let f : length (take at d ++ a) ≡ at + length a = length-append (take at d) a ∙ ap (λ (n : ℕ). n + length a) t in
@@ -32,7 +32,7 @@ put-on a b d at h =
 
 -- ---- text placed
 
-pub placed-long : {a d e : List ℕ} {at r : ℕ} → Placed a d e at r → length e ≡ length d
+placed-long : {a d e : List ℕ} {at r : ℕ} → Placed a d e at r → length e ≡ length d
 placed-long {a} {d} {e} {at} {r} p = ap length (p .bytes) ∙ length-put d at a (let x : at + length a ≤ length d = omega (arith, p .ends, p .fits) in x)
 
 pub placed-none : (d : List ℕ) (at : ℕ) → at ≤ length d → Placed [] d d at at

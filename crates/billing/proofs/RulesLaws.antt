@@ -17,11 +17,11 @@ use Rattle.registry.specs.Roster.{applications, rosterOf}
 use Rattle.registry.proofs.NameLaws.{legal-some}
 use Rattle.registry.proofs.RosterLaws.{isLegal, LegalNames, roster-legal, registry-names, registry-good}
 use Rattle.judgement.specs.Judgement.{judgement}
+use Rattle.judgement.proofs.NamesLaws.{rules-names}
 use Rattle.service.specs.Call.{memoryOf, layout, fresh}
 use Rattle.service.specs.Bill.{billOf, billFor}
 use Rattle.service.proofs.Demand3.{lawful}
 use Rattle.service.proofs.CodeDemand3.{Ran, Runs, answersIn, leftAfter, code-demand3}
-use Rattle.service.proofs.BillLaws.{rules-names}
 use Rattle.billing.specs.Text.{usedNames}
 use Rattle.billing.specs.Outcome.{billIn}
 
@@ -52,5 +52,5 @@ pub bill-of-calls : (file : List ℕ) (names : List (List ℕ)) → rosterOf fil
 bill-of-calls file names good calls runs p =
     let legal = roster-legal file names good in
     let stream : List ℕ = takenStream calls (answersIn runs) in
-    let follows = code-demand3 (registryOf names) (registry-good names legal) .follows calls runs p in
+    let follows = code-demand3 (registryOf names) .follows calls runs p in
     rw good (ap billIn (follows .memory) ∙ bill-by-rules names legal stream)

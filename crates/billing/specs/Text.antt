@@ -2,14 +2,37 @@
 use Prim.Native.Nat.{ℕ, _+_, _≤_}
 use mathlib.Core.Path.{_≡_}
 use mathlib.Core.List.{List, [], _∷_}
-use lib.ListN.{length, getD}
+use lib.ListN.{length}
 use lib.Dec.{eqb}
 use Rattle.wire.specs.Choice.{if_then_else_}
 use Rattle.wire.specs.Lists.{put}
-use Rattle.judgement.specs.Status.{statusNumber, refusedStatuses}
-use Rattle.judgement.specs.declared.Status.the-variants.{Success}
+use Rattle.registry.specs.Registry.{applicationNameMost}
 use Rattle.service.specs.Text.{ascii}
 use Rattle.service.specs.Bill.{decimal, textLine}
+
+-- ---- the longest texts
+
+-- a number of 64 bits has at most so many digits
+abbrev pub digitsMost : ℕ
+digitsMost = 20
+
+-- "dropped" and "refused"
+abbrev pub wordMost : ℕ
+wordMost = 7
+
+-- a word and a number
+abbrev pub countLineMost : ℕ
+countLineMost = wordMost + (1 + digitsMost) + 1
+
+-- "line", a number, a name and a number
+abbrev pub applicationLineMost : ℕ
+applicationLineMost = 4 + (1 + digitsMost) + (1 + applicationNameMost) + (1 + digitsMost) + 1
+
+-- "refused" and two numbers
+abbrev pub refusedLineMost : ℕ
+refusedLineMost = wordMost + (1 + digitsMost) + (1 + digitsMost) + 1
+
+-- ---- what is written
 
 -- text was written into d from `at` on, which is now e; it ends at r
 pub record Placed (text d e : List ℕ) (at r : ℕ) : Type 0 where
@@ -22,10 +45,6 @@ unfoldable pub usedNames : (names : List (List ℕ)) → List (List ℕ)
 usedNames [] = []
 usedNames ([] ∷ names) = []
 usedNames ((b ∷ name) ∷ names) = (b ∷ name) ∷ usedNames names
-
--- the number of the status that counter i of refused requests counts
-unfoldable pub refusedNumber : (i : ℕ) → ℕ
-refusedNumber i = statusNumber (getD refusedStatuses i Success)
 
 -- the line of a status with this number, where its count isn't 0
 unfoldable pub refusedLine : (number n : ℕ) → List ℕ

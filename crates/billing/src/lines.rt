@@ -1,6 +1,8 @@
 // The bill's lines, written into a lent buffer from `at` on; each writer says where its text ends.
 use crate::text::write_number;
 use crate::text::write_word;
+use judgement::REFUSED_STATUSES;
+use judgement::statuses::refused_number;
 use registry::LINE_SIZE;
 use registry::LINES;
 use registry::Line;
@@ -8,40 +10,19 @@ use registry::names::wide;
 ghost use mathlib.Core.Bool.{true};
 ghost use mathlib.Core.List.{[], _∷_};
 ghost use mathlib.Core.Path.{_≡_};
-ghost use Prim.Native.Nat.{_+_, _≤_, _<_};
+ghost use Prim.Native.Nat.{_+_, _*_, _≤_};
 ghost use lib.ListN.{length};
-ghost use Rattle.registry.specs.Registry.{namesIn};
+ghost use Rattle.registry.specs.Registry.{lineCount, applicationNameMost, namesIn};
 ghost use Rattle.registry.specs.WellFormed.{wellFormedRegistry};
-ghost use Rattle.judgement.specs.Status.{refusedStatuses};
+ghost use Rattle.judgement.specs.Status.{refusedStatuses, refusedCount};
 ghost use Rattle.service.specs.Text.{ascii};
 ghost use Rattle.service.specs.Bill.{decimal, textLine, applicationLines, refusedLines};
-ghost use Rattle.billing.specs.Text.{Placed, refusedNumber, refusedLine, usedNames};
-
-// The numbers of the statuses but Success, in the order of their counters.
-const REFUSED_NUMBERS: [u64; 17] = [
-    1,
-    2,
-    3,
-    4,
-    6,
-    7,
-    9,
-    11,
-    12,
-    17,
-    19,
-    20,
-    1133,
-    1135,
-    1139,
-    1140,
-    1142,
-];
+ghost use Rattle.billing.specs.Text.{wordMost, countLineMost, applicationLineMost, refusedLineMost, Placed, refusedLine, usedNames};
 
 // A line of a word and a number.
 pub fn write_count(out: &mut [u8], at: usize, word: &[u8], n: u64) -> usize
-    requires { ⌜ (length (now word) ≤ 7) × (at + 29 ≤ length (now out)) ⌝ }
-    ensures { λ r. ⌜ Placed (textLine (now (word .entry)) (decimal n ∷ [])) (now (out .entry)) (now (out .exit)) at r × (r ≤ at + 29) ⌝ }
+    requires { ⌜ (length (now word) ≤ wordMost) × (at + countLineMost ≤ length (now out)) ⌝ }
+    ensures { λ r. ⌜ Placed (textLine (now (word .entry)) (decimal n ∷ [])) (now (out .entry)) (now (out .exit)) at r × (r ≤ at + countLineMost) ⌝ }
 {
     let named = write_word(out, at, word);
     let counted = write_number(out, named, n);
@@ -50,8 +31,8 @@ pub fn write_count(out: &mut [u8], at: usize, word: &[u8], n: u64) -> usize
 
 // An application's line: its number, its name and how many requests were served.
 fn write_application(out: &mut [u8], at: usize, line: Line, name: &[u8], served: u64) -> usize
-    requires { ⌜ (length (now name) ≤ 64) × (at + 112 ≤ length (now out)) ⌝ }
-    ensures { λ r. ⌜ Placed (textLine (ascii "line") (decimal (line .0) ∷ now (name .entry) ∷ decimal served ∷ [])) (now (out .entry)) (now (out .exit)) at r × (r ≤ at + 112) ⌝ }
+    requires { ⌜ (length (now name) ≤ applicationNameMost) × (at + applicationLineMost ≤ length (now out)) ⌝ }
+    ensures { λ r. ⌜ Placed (textLine (ascii "line") (decimal (line .0) ∷ now (name .entry) ∷ decimal served ∷ [])) (now (out .entry)) (now (out .exit)) at r × (r ≤ at + applicationLineMost) ⌝ }
 {
     let begun = write_word(out, at, b"line");
     let numbered = write_number(out, begun, line.0 as u64);
@@ -63,8 +44,8 @@ fn write_application(out: &mut [u8], at: usize, line: Line, name: &[u8], served:
 
 // The lines of the applications: those before the first that has no name.
 pub fn write_applications(out: &mut [u8], at: usize, registry: &[u8], served: &[u64]) -> usize
-    requires { ⌜ (wellFormedRegistry (now registry) ≡ true) × (length (now served) ≡ 8) × (at + 896 ≤ length (now out)) ⌝ }
-    ensures { λ r. ⌜ Placed (applicationLines 0 (usedNames (namesIn (now (registry .entry)))) (now (served .entry))) (now (out .entry)) (now (out .exit)) at r × (r ≤ at + 896) ⌝ }
+    requires { ⌜ (wellFormedRegistry (now registry) ≡ true) × (length (now served) ≡ lineCount) × (at + lineCount * applicationLineMost ≤ length (now out)) ⌝ }
+    ensures { λ r. ⌜ Placed (applicationLines 0 (usedNames (namesIn (now (registry .entry)))) (now (served .entry))) (now (out .entry)) (now (out .exit)) at r × (r ≤ at + lineCount * applicationLineMost) ⌝ }
 {
     let mut end = at;
     let mut i = 0;
@@ -82,18 +63,10 @@ pub fn write_applications(out: &mut [u8], at: usize, registry: &[u8], served: &[
     end
 }
 
-// The number of the status whose refused requests counter i counts.
-fn refused_number(i: usize) -> u64
-    requires { ⌜ i < 17 ⌝ }
-    ensures { λ r. ⌜ r ≡ refusedNumber i ⌝ }
-{
-    REFUSED_NUMBERS[i]
-}
-
 // A status's line; nothing where no request was refused with it.
 fn write_refused(out: &mut [u8], at: usize, number: u64, n: u64) -> usize
-    requires { ⌜ at + 50 ≤ length (now out) ⌝ }
-    ensures { λ r. ⌜ Placed (refusedLine number n) (now (out .entry)) (now (out .exit)) at r × (r ≤ at + 50) ⌝ }
+    requires { ⌜ at + refusedLineMost ≤ length (now out) ⌝ }
+    ensures { λ r. ⌜ Placed (refusedLine number n) (now (out .entry)) (now (out .exit)) at r × (r ≤ at + refusedLineMost) ⌝ }
 {
     if n == 0 {
         return at;
@@ -106,12 +79,12 @@ fn write_refused(out: &mut [u8], at: usize, number: u64, n: u64) -> usize
 
 // The lines of the statuses, ascending.
 pub fn write_refusals(out: &mut [u8], at: usize, refused: &[u64]) -> usize
-    requires { ⌜ (length (now refused) ≡ 17) × (at + 850 ≤ length (now out)) ⌝ }
-    ensures { λ r. ⌜ Placed (refusedLines refusedStatuses (now (refused .entry))) (now (out .entry)) (now (out .exit)) at r × (r ≤ at + 850) ⌝ }
+    requires { ⌜ (length (now refused) ≡ refusedCount) × (at + refusedCount * refusedLineMost ≤ length (now out)) ⌝ }
+    ensures { λ r. ⌜ Placed (refusedLines refusedStatuses (now (refused .entry))) (now (out .entry)) (now (out .exit)) at r × (r ≤ at + refusedCount * refusedLineMost) ⌝ }
 {
     let mut end = at;
     let mut i = 0;
-    while i < 17 {
+    while i < REFUSED_STATUSES {
         end = write_refused(out, end, refused_number(i), refused[i]);
         i += 1;
     }

@@ -4,7 +4,7 @@ ghost use mathlib.Core.List.{_∷_};
 ghost use Prim.Native.Nat.{_+_, _≤_};
 ghost use lib.ListN.{length};
 ghost use Rattle.service.specs.Bill.{decimal};
-ghost use Rattle.billing.specs.Text.{Placed};
+ghost use Rattle.billing.specs.Text.{digitsMost, Placed};
 
 pub fn write_word(out: &mut [u8], at: usize, word: &[u8]) -> usize
     requires { ⌜ at + length (now word) ≤ length (now out) ⌝ }
@@ -14,13 +14,16 @@ pub fn write_word(out: &mut [u8], at: usize, word: &[u8]) -> usize
     at + copied
 }
 
+// A number of 64 bits has at most so many digits.
+const DIGITS_MOST: usize = 20;
+
 // A number in decimal digits, which are found from the last one on.
 pub fn write_decimal(out: &mut [u8], at: usize, n: u64) -> usize
-    requires { ⌜ at + 20 ≤ length (now out) ⌝ }
-    ensures { λ r. ⌜ Placed (decimal n) (now (out .entry)) (now (out .exit)) at r × (r ≤ at + 20) ⌝ }
+    requires { ⌜ at + digitsMost ≤ length (now out) ⌝ }
+    ensures { λ r. ⌜ Placed (decimal n) (now (out .entry)) (now (out .exit)) at r × (r ≤ at + digitsMost) ⌝ }
 {
-    let mut digits = [0u8; 20];
-    let mut from: usize = 20;
+    let mut digits = [0u8; DIGITS_MOST];
+    let mut from = DIGITS_MOST;
     let mut rest = n;
     while 9 < rest {
         from -= 1;
@@ -34,8 +37,8 @@ pub fn write_decimal(out: &mut [u8], at: usize, n: u64) -> usize
 
 // A space, and behind it a number.
 pub fn write_number(out: &mut [u8], at: usize, n: u64) -> usize
-    requires { ⌜ at + 21 ≤ length (now out) ⌝ }
-    ensures { λ r. ⌜ Placed (0x20 ∷ decimal n) (now (out .entry)) (now (out .exit)) at r × (r ≤ at + 21) ⌝ }
+    requires { ⌜ at + (1 + digitsMost) ≤ length (now out) ⌝ }
+    ensures { λ r. ⌜ Placed (0x20 ∷ decimal n) (now (out .entry)) (now (out .exit)) at r × (r ≤ at + (1 + digitsMost)) ⌝ }
 {
     let end = write_word(out, at, b" ");
     write_decimal(out, end, n)

@@ -1,11 +1,11 @@
 -- What bytes written into a connection's memory make of it.
 use mathlib.Core.Path.{_≡_, sym, ap, _∙_}
 use Prim.Native.Nat.{ℕ, zero, suc, _+_, _-_, _≤_}
-use mathlib.Core.List.{List, [], _∷_, _++_, append-assoc, append-nil}
+use mathlib.Core.List.{List, _∷_, _++_, append-assoc, append-nil}
 use native.Mathlib.Numerals.{unary-clauses}
 use native.Mathlib.Omega.{arith}
 use borrow.Rule.Slice.PartMut.{putMid}
-use lib.ListN.{length, take, drop, replicate, length-append, drop-of-length-le}
+use lib.ListN.{length, take, drop, replicate, length-append, length-take, drop-of-length-le}
 use lib.Seq.{drop-at, drop-append-add, drop-append-seam}
 use Rattle.wire.specs.Lists.{padded}
 use Rattle.wire.specs.Numbers.{littleEndianOf}
@@ -16,16 +16,11 @@ use Rattle.connection.specs.Connection.{heldMost, laidOut}
 
 -- ---- the number
 
-take-few : (n : ℕ) (l : List ℕ) → length (take n l) ≤ n
-take-few zero l = omega arith
-take-few (suc n) [] = omega arith
-take-few (suc n) (x ∷ l) = omega (arith, take-few n l)
-
 -- a number written over the eight bytes of another
 pub number-put : (kind before n : ℕ) (held memory part : List ℕ) → memory ≡ laidOut kind before held
     → part ≡ over (littleEndianOf 8 n) (take 8 (drop 1 memory)) → putMid 1 8 memory part ≡ laidOut kind n held
 number-put kind before n held memory part e p =
-    let few : length (take 8 (drop 1 memory)) ≤ length (littleEndianOf 8 n) = omega (arith, take-few 8 (drop 1 memory), length-number 8 n) in
+    let few : length (take 8 (drop 1 memory)) ≤ length (littleEndianOf 8 n) = omega (arith, length-take 8 (drop 1 memory), length-number 8 n) in
     let all : part ≡ littleEndianOf 8 n
     = p ∙ ap (λ (l : List ℕ). littleEndianOf 8 n ++ l) (drop-of-length-le (take 8 (drop 1 memory)) few) ∙ append-nil (littleEndianOf 8 n) in
     rw (all, e)

@@ -1,30 +1,28 @@
 -- Memory of the right size is a well-formed connection exactly where the tests of its kind pass.
-use mathlib.Core.Path.{_≡_, refl, sym, ap, ap₂, _∙_}
+use mathlib.Core.Path.{_≡_, refl, sym, ap, ap₂, subst, _∙_}
 use Prim.Native.Nat.{ℕ, suc, _+_, _-_, _≤_, _<_}
 use mathlib.Core.Bool.{Bool, true, false, _&&_}
 use mathlib.Core.List.{List, [], _∷_, _++_}
 use native.Mathlib.Omega.{arith}
 use borrow.Author.Tests.{leb-true, le-leb, lt-ltb, eqb-true, eq-eqb, ne-eqb}
-use lib.ListN.{length, take, drop, getD, replicate, length-append, length-drop, take-append-drop}
+use lib.ListN.{length, take, drop, getD, replicate, length-take, length-drop, take-append-drop}
 use lib.Seq.{length-take-le, drop-cons, drop-drop, drop-append-seam}
-use lib.Dec.{leb, ltb, eqb}
-use Rattle.wire.specs.Lists.{all, isZero, same, padded}
+use lib.Dec.{leb}
+use Rattle.wire.specs.Lists.{all, isZero, padded}
 use Rattle.wire.specs.Numbers.{littleEndianOf, field}
 use Rattle.wire.specs.Request.{contentLength, authLength, headerLength}
 use Rattle.wire.proofs.TestLaws.{and-left, and-right, both}
 use Rattle.wire.proofs.ListLaws.{all-take, all-drop, all-zeros, same-refl}
-use Rattle.wire.proofs.NumberLaws.{bytes-back, field-append}
+use Rattle.wire.proofs.NumberLaws.{isByte, bytes-back}
 use Rattle.stream.specs.Frame.{legalStart, oversized}
 use Rattle.stream.specs.Rules.{Connection, opened, skipping, closed}
 use Rattle.stream.specs.Call.{isBeginning, wellFormed}
-use Rattle.stream.proofs.FrameLaws.{legal-size, legalStart-append, headerSize-append, oversized-append}
+use Rattle.stream.proofs.FrameLaws.{legal-size, Told, told, header-told}
+use Rattle.stream.proofs.ChunkLaws.{well-skipping}
 use Rattle.connection.specs.Connection.{heldMost, connectionSize, laidOut, connectionBytes, connectionOf, wellFormedConnection}
-use Rattle.connection.proofs.ConnectionLaws.{number-there, bytes-there, blank, legal-most, Header, header-facts, memory-good, store-load}
+use Rattle.connection.proofs.ConnectionLaws.{number-there, bytes-there, blank, legal-most, memory-good, store-load}
 
 -- ---- bytes and zeros
-
-abbrev pub isByte : ℕ → Bool
-isByte b = ltb b 256
 
 pub all-bytes : (l : List ℕ) → ((i : ℕ) → getD l i 0 < 256) → all isByte l ≡ true
 all-bytes [] h = refl
@@ -95,9 +93,6 @@ zeros-there kind n held memory s =
     ∙ drop-append-seam held (replicate (heldMost - length held) 0))
     ∙ all-zeros (heldMost - length held)
 
-length-part : (n : ℕ) (l : List ℕ) → length (take n l) ≤ length l
-length-part n l = omega (arith, simp length-append at (ap length (take-append-drop n l)))
-
 -- ---- well-formed memory, by its kind
 
 module _ (memory : List ℕ) (g : wellFormedConnection memory ≡ true) where
@@ -134,7 +129,7 @@ module _ (memory : List ℕ) (size : length memory ≡ connectionSize) (bytes : 
   unfolding number held connectionBytes wellFormed
   open-pass g =
       let exact : number ≡ length held = open-number memory g kind in
-      let few : number ≤ heldMost = omega (arith, length-part number (drop 9 memory), held-size memory size) in
+      let few : number ≤ heldMost = omega (arith, length-take number (drop 9 memory), held-size memory size) in
       let zeros : all isZero (drop (9 + number) memory) ≡ true
       = ap (λ (n : ℕ). all isZero (drop (9 + n) memory)) exact ∙ zeros-there 0 (length held) held memory (well-bytes memory g _ (of-open memory kind)) in
       ap₂ _&&_ (le-leb _ _ few) (ap₂ _&&_ zeros (well-good memory g _ (of-open memory kind)))
@@ -155,21 +150,6 @@ module _ (memory : List ℕ) (size : length memory ≡ connectionSize) (bytes : 
   open-tests = both _ _ open-pass open-good
 
 -- ---- THE TESTS OF A SKIPPED REQUEST
-
--- what a whole header says stays so whatever follows
-record Told (x y : List ℕ) : Type 0 where
-  legal : legalStart x ≡ legalStart y
-  large : oversized x ≡ oversized y
-  long : headerLength x ≡ headerLength y
-  more : contentLength x + authLength x ≡ contentLength y + authLength y
-
-told : (s x : List ℕ) → 28 ≤ length s → Told (s ++ x) s
-told s x h = record {
-  legal = legalStart-append s x (omega arith);
-  large = oversized-append s x h;
-  long = ap (λ (n : ℕ). 6 + n) (headerSize-append s x (omega arith));
-  more = ap₂ _+_ (field-append 20 4 s x (omega arith)) (field-append 24 2 s x (omega arith));
-}
 
 module _ (memory : List ℕ) (size : length memory ≡ connectionSize) (bytes : all isByte memory ≡ true) (kind : getD memory 0 0 ≡ 1) where
   toGo : ℕ
@@ -192,25 +172,15 @@ module _ (memory : List ℕ) (size : length memory ≡ connectionSize) (bytes : 
   skipping-pass g =
       let w : wellFormed (skipping header toGo) ≡ true = well-good memory g _ (of-skipping memory kind) in
       let same : laidOut 1 toGo header ≡ memory = well-bytes memory g _ (of-skipping memory kind) in
-      let w₅ = and-left _ (leb toGo (contentLength header + authLength header)) w in
-      let w₄ = and-left _ (leb 1 toGo) w₅ in
-      let w₃ = and-left _ (oversized header) w₄ in
-      let legal : legalStart header ≡ true = and-right (leb 6 (length header)) _ (and-left _ (eqb (length header) (headerLength header)) w₃) in
-      let large : oversized header ≡ true = and-right (leb 6 (length header) && legalStart header && eqb (length header) (headerLength header)) _ w₄ in
-      let f : Header header = header-facts header toGo w in
-      let exact : length header ≡ headerLength header = f .exact in
-      let many : 28 ≤ length header = omega (arith, legal-size header legal) in
+      let f = well-skipping header toGo w in
       let e : whole ≡ padded heldMost header = ap (drop 9) (sym same) ∙ bytes-there 1 toGo header in
-      let k = told header (replicate (heldMost - length header) 0) many in
+      let k : Told whole header = subst (λ (x : List ℕ). Told x header) (sym e) (told header (replicate (heldMost - length header) 0) (f .many)) in
       let zeros : all isZero (drop (9 + headerLength whole) memory) ≡ true
-      = ap (λ (n : ℕ). all isZero (drop (9 + n) memory)) (ap headerLength e ∙ k .long ∙ sym exact) ∙ zeros-there 1 toGo header memory same in
+      = ap (λ (n : ℕ). all isZero (drop (9 + n) memory)) (k .long ∙ sym (f .exact)) ∙ zeros-there 1 toGo header memory same in
       let most : leb toGo (contentLength whole + authLength whole) ≡ true
-      = ap (leb toGo) (ap (λ (l : List ℕ). contentLength l + authLength l) e ∙ k .more)
-      ∙ and-right (leb 6 (length header) && legalStart header && eqb (length header) (headerLength header) && oversized header && leb 1 toGo) _ w in
-      let least : leb 1 toGo ≡ true
-      = and-right (leb 6 (length header) && legalStart header && eqb (length header) (headerLength header) && oversized header) _ w₅ in
-      ap₂ _&&_ (ap legalStart e ∙ k .legal ∙ legal)
-      (ap₂ _&&_ (ap oversized e ∙ k .large ∙ large) (ap₂ _&&_ least (ap₂ _&&_ most zeros)))
+      = ap (leb toGo) (k .more) ∙ le-leb _ _ (f .most) in
+      ap₂ _&&_ (k .legal ∙ f .legal)
+      (ap₂ _&&_ (k .large ∙ f .large) (ap₂ _&&_ (le-leb _ _ (f .least)) (ap₂ _&&_ most zeros)))
 
   skipping-good : skippingTests ≡ true → wellFormedConnection memory ≡ true
   unfolding toGo whole header connectionBytes wellFormed
@@ -221,16 +191,15 @@ module _ (memory : List ℕ) (size : length memory ≡ connectionSize) (bytes : 
       let t₃ = and-right (leb 1 toGo) _ t₂ in
       let zeros = and-right (leb toGo (contentLength whole + authLength whole)) _ t₃ in
       let few : headerLength whole ≤ heldMost = omega (arith, legal-most whole legal) in
-      let long : length header ≡ headerLength whole = length-take-le (headerLength whole) whole (omega (arith, held-size memory size)) in
-      let many : 28 ≤ length header = omega (arith, legal-size whole legal) in
-      let e : header ++ drop (headerLength whole) whole ≡ whole = take-append-drop (headerLength whole) whole in
-      let k = told header (drop (headerLength whole) whole) many in
-      let legal′ : legalStart header ≡ true = sym (k .legal) ∙ ap legalStart e ∙ legal in
-      let large′ : oversized header ≡ true = sym (k .large) ∙ ap oversized e ∙ and-left _ _ t₁ in
-      let exact′ : length header ≡ headerLength header = long ∙ sym (sym (k .long) ∙ ap headerLength e) in
+      let fits : headerLength whole ≤ length whole = omega (arith, held-size memory size) in
+      let long : length header ≡ headerLength whole = length-take-le (headerLength whole) whole fits in
+      let k : Told whole header = header-told whole legal fits in
+      let legal′ : legalStart header ≡ true = sym (k .legal) ∙ legal in
+      let large′ : oversized header ≡ true = sym (k .large) ∙ and-left _ _ t₁ in
+      let exact′ : length header ≡ headerLength header = long ∙ k .long in
       let most′ : leb toGo (contentLength header + authLength header) ≡ true
-      = ap (leb toGo) (sym (k .more) ∙ ap (λ (l : List ℕ). contentLength l + authLength l) e) ∙ and-left _ _ t₃ in
-      let six : leb 6 (length header) ≡ true = le-leb 6 (length header) (omega arith) in
+      = ap (leb toGo) (sym (k .more)) ∙ and-left _ _ t₃ in
+      let six : leb 6 (length header) ≡ true = le-leb 6 (length header) (omega (arith, legal-size whole legal)) in
       let w : wellFormed (skipping header toGo) ≡ true
       = ap₂ _&&_ (ap₂ _&&_ (ap₂ _&&_ (ap₂ _&&_ (ap₂ _&&_ six legal′) (eq-eqb _ _ exact′)) large′) (and-left _ _ t₂)) most′ in
       let same : laidOut 1 toGo header ≡ memory

@@ -1,24 +1,24 @@
 -- A well-formed connection that is stored is well formed in memory, and loaded again it is the same.
 use mathlib.Core.Path.{_≡_, refl, ap}
 use Prim.Native.Nat.{ℕ, _+_, _-_, _≤_}
-use mathlib.Core.Bool.{true, _&&_}
+use mathlib.Core.Bool.{true}
 use mathlib.Core.List.{List, [], _∷_}
 use native.Mathlib.Omega.{arith}
 use lib.ListN.{length, drop, replicate, replicate-append-replicate}
 use lib.Seq.{take-append-seam, drop-at}
 use lib.Dec.{leb, ltb, eqb}
-use borrow.Author.Tests.{leb-true, eqb-true, eq-eqb, ltb-false}
+use borrow.Author.Tests.{leb-true, eq-eqb, ltb-false}
 use Rattle.wire.specs.Lists.{padded}
 use Rattle.wire.specs.Numbers.{littleEndianOf, field}
 use Rattle.wire.specs.Request.{magicNumber, magic, headerSize, contentLength, authLength, headerLength}
 use Rattle.wire.proofs.TestLaws.{and-left, and-right, or-left, or-right}
 use Rattle.wire.proofs.ListLaws.{length-padded, same-refl, same-true}
 use Rattle.wire.proofs.NumberLaws.{length-number, field-back}
-use Rattle.stream.specs.Frame.{headerLeast, headerMost, contentMost, authMost, legalStart, oversized}
+use Rattle.stream.specs.Frame.{headerLeast, headerMost, contentMost, authMost, legalStart, oversized, unfinished, next}
 use Rattle.stream.specs.Rules.{Connection, opened, skipping, closed}
-use Rattle.stream.specs.Call.{isBeginning, wellFormed}
+use Rattle.stream.specs.Call.{wellFormed}
 use Rattle.stream.proofs.FrameLaws.{headerSize-append, short, inHeader, inBody, Unfinished}
-use Rattle.stream.proofs.ChunkLaws.{unfinished-held, unfinished-next}
+use Rattle.stream.proofs.ChunkLaws.{unfinished-held, unfinished-next, well-skipping}
 use Rattle.connection.specs.Connection.{heldMost, connectionSize, laidOut, connectionBytes, connectionOf, wellFormedConnection}
 
 -- ---- the parts of a connection's memory
@@ -47,9 +47,9 @@ pub legal-most : (s : List ℕ) → legalStart s ≡ true → headerSize s ≤ h
 unfolding legalStart
 legal-most s h = leb-true _ _ (and-right (leb headerLeast (headerSize s)) _ (and-right (eqb (magic s) magicNumber) _ h))
 
-pub held-most : (s : List ℕ) → isBeginning s ≡ true → length s ≤ heldMost
+pub held-most : (s : List ℕ) → next s ≡ unfinished → length s ≤ heldMost
 unfolding oversized
-held-most s w = go (unfinished-held s (unfinished-next s w))
+held-most s u = go (unfinished-held s u)
   where
     go : Unfinished s → length s ≤ heldMost
     go (short h) = omega arith
@@ -59,21 +59,16 @@ held-most s w = go (unfinished-held s (unfinished-next s w))
         let a : authLength s ≤ authMost = ltb-false _ _ (or-right (ltb contentMost (contentLength s)) _ o) in
         omega (arith, legal-most s l)
 
--- a skipped request's header
-pub record Header (header : List ℕ) : Type 0 where
-  pub six : 6 ≤ length header
-  pub exact : length header ≡ headerLength header
+-- the header of a request to skip
+pub record WholeHeader (header : List ℕ) : Type 0 where
+  pub long : 28 ≤ length header
   pub most : length header ≤ heldMost
+  pub exact : length header ≡ headerLength header
 
-pub header-facts : (header : List ℕ) (toGo : ℕ) → wellFormed (skipping header toGo) ≡ true → Header header
-unfolding wellFormed
-header-facts header toGo w =
-    let three = and-left _ _ (and-left _ _ (and-left _ _ w)) in
-    let two = and-left _ _ three in
-    let six = leb-true _ _ (and-left _ _ two) in
-    let legal = legal-most header (and-right (leb 6 (length header)) _ two) in
-    let exact = eqb-true _ _ (and-right (leb 6 (length header) && legalStart header) _ three) in
-    record { six = six; exact = exact; most = omega arith }
+pub skipping-whole : (header : List ℕ) (toGo : ℕ) → wellFormed (skipping header toGo) ≡ true → WholeHeader header
+skipping-whole header toGo w =
+    let s = well-skipping header toGo w in
+    record { long = s .many; most = omega (arith, legal-most header (s .legal), s .exact); exact = s .exact }
 
 -- ---- stored and loaded
 
@@ -83,16 +78,17 @@ load-store (opened held) w =
     rw (number-there 0 (length held) held, bytes-there 0 (length held) held)
     (ap opened (take-append-seam held (replicate (heldMost - length held) 0)))
 load-store (skipping header toGo) w =
-    let h = header-facts header toGo w in
+    let h = skipping-whole header toGo w in
+    let long = h .long in
     let zeros : List ℕ = replicate (heldMost - length header) 0 in
-    rw (number-there 1 toGo header, bytes-there 1 toGo header, headerSize-append header zeros (h .six), ← h .exact)
+    rw (number-there 1 toGo header, bytes-there 1 toGo header, headerSize-append header zeros (omega arith), ← h .exact)
     (ap (λ (x : List ℕ). skipping x toGo) (take-append-seam header zeros))
 load-store closed w = refl
 
 stored-size : (c : Connection) → wellFormed c ≡ true → length (connectionBytes c) ≡ connectionSize
 unfolding connectionBytes wellFormed
-stored-size (opened held) w = size-there 0 (length held) held (held-most held w)
-stored-size (skipping header toGo) w = size-there 1 toGo header (header-facts header toGo w .most)
+stored-size (opened held) w = size-there 0 (length held) held (held-most held (unfinished-next held w))
+stored-size (skipping header toGo) w = size-there 1 toGo header (skipping-whole header toGo w .most)
 stored-size closed w = size-there 2 0 [] (omega arith)
 
 pub stored-good : (c : Connection) → wellFormed c ≡ true → wellFormedConnection (connectionBytes c) ≡ true

@@ -12,13 +12,14 @@ use Rattle.wire.specs.Request.{headerSize, contentLength, authLength, headerLen
 use Rattle.wire.proofs.TestLaws.{or-left, or-right}
 use Rattle.stream.specs.Frame.{contentMost, authMost, legalStart, oversized, unfinished, badStart, skipped, whole, next}
 use Rattle.stream.proofs.FrameLaws.{Unfinished, short, inHeader, inBody, legal-size, legalStart-append, headerSize-append, requestLength-append, oversized-append}
-use Rattle.stream.proofs.ChunkLaws.{unfinished-held, bad-found, whole-found, skipped-found}
+use Rattle.stream.proofs.ChunkLaws.{unfinished-held, bad-found, whole-found, Skip, skip-found}
+use Rattle.stream.proofs.GatheredLaws.{length-gathered}
 use Rattle.stream.specs.Rules.{opened}
 use Rattle.connection.specs.Connection.{heldMost, connectionSize, connectionBytes}
 use Rattle.connection.specs.Gather.{wantedOf, heldIn, Holding, Filled, Gathers}
 use Rattle.stream.specs.Framed.{frameOf}
 use Rattle.stream.specs.declared.frame.Frame.{Frame}
-use Rattle.connection.proofs.ConnectionLaws.{bytes-there, size-there, legal-most}
+use Rattle.connection.proofs.ConnectionLaws.{bytes-there, size-there, legal-most, held-most}
 
 -- by where the bytes end
 module _ (s : List ℕ) where
@@ -58,17 +59,13 @@ wanted-more s u = wanted s (unfinished-held s u) .more
 pub wanted-few : (s : List ℕ) → next s ≡ unfinished → wantedOf s ≤ heldMost
 wanted-few s u = wanted s (unfinished-held s u) .few
 
--- a beginning of a request has room
-pub begun-few : (s : List ℕ) → next s ≡ unfinished → length s ≤ heldMost
-begun-few s u = let more = wanted-more s u in let few = wanted-few s u in omega arith
-
 -- ---- bytes behind, no more than are wanted: what they then begin with ends with them
 
 module _ (s x : List ℕ) (u : next s ≡ unfinished) (few : length s + length x ≤ wantedOf s) where
   long : length (s ++ x) ≡ length s + length x
   long = length-append s x
 
-  pub gathered-bad : next (s ++ x) ≡ badStart → length s + length x ≡ 6
+  gathered-bad : next (s ++ x) ≡ badStart → length s + length x ≡ 6
   gathered-bad e = go (unfinished-held s u)
     where
       found : (6 ≤ length (s ++ x)) × (legalStart (s ++ x) ≡ false)
@@ -79,7 +76,7 @@ module _ (s x : List ℕ) (u : next s ≡ unfinished) (few : length s + length x
       go (inHeader h l k) = absurd (true≢false (sym l ∙ sym (legalStart-append s x h) ∙ found .1))
       go (inBody l k m o) = absurd (true≢false (sym l ∙ sym (legalStart-append s x (omega arith)) ∙ found .1))
 
-  pub gathered-whole : (n : ℕ) → next (s ++ x) ≡ whole n → length s + length x ≡ n
+  gathered-whole : (n : ℕ) → next (s ++ x) ≡ whole n → length s + length x ≡ n
   gathered-whole n e = go (unfinished-held s u)
     where
       found : (legalStart (s ++ x) ≡ true) × (requestLength (s ++ x) ≡ n) × (n ≤ length (s ++ x))
@@ -95,27 +92,27 @@ module _ (s x : List ℕ) (u : next s ≡ unfinished) (few : length s + length x
           let size = legal-size s l in
           omega (arith, long, found .1, found .2, wanted-body s (let y : 6 ≤ length s = omega arith in y) k, requestLength-append s x (let y : 28 ≤ length s = omega arith in y))
 
-  pub gathered-header : (h : List ℕ) (m : ℕ) → next (s ++ x) ≡ skipped h m → s ++ x ≡ h
-  gathered-header h m e = sym (take-all (headerLength (s ++ x)) (s ++ x) (go (unfinished-held s u))) ∙ sym (found .0)
+  gathered-header : (h : List ℕ) (m : ℕ) → next (s ++ x) ≡ skipped h m → s ++ x ≡ h
+  gathered-header h m e = sym (take-all (headerLength (s ++ x)) (s ++ x) (go (unfinished-held s u))) ∙ sym (found .header-is)
     where
-      found : (h ≡ take (headerLength (s ++ x)) (s ++ x)) × (headerLength (s ++ x) ≤ length (s ++ x)) × (oversized (s ++ x) ≡ true) × (legalStart (s ++ x) ≡ true)
-      found = skipped-found (s ++ x) h m e
+      found : Skip (s ++ x) h m
+      found = skip-found (s ++ x) h m e
 
       big : 22 ≤ headerSize (s ++ x)
-      big = legal-size (s ++ x) (found .3)
+      big = legal-size (s ++ x) (found .skipped-is .legal)
 
       go : Unfinished s → length (s ++ x) ≤ headerLength (s ++ x)
-      go (short q) = absurd (omega (arith, long, found .1, wanted-short s q, big))
+      go (short q) = absurd (omega (arith, long, found .skipped-is .header, wanted-short s q, big))
       go (inHeader q l k) = omega (arith, long, wanted-header s q k, headerSize-append s x q)
       go (inBody l k n o) =
           let size = legal-size s l in
-          absurd (true≢false (sym (found .2) ∙ oversized-append s x (let y : 28 ≤ length s = omega arith in y) ∙ o))
+          absurd (true≢false (sym (found .skipped-is .large) ∙ oversized-append s x (let y : 28 ≤ length s = omega arith in y) ∙ o))
 
 -- ---- an open connection that holds bytes
 
 module _ (memory : List ℕ) (n : ℕ) (h : Holding memory n) where
   pub holding-few : n ≤ heldMost
-  holding-few = let f = begun-few (heldIn n memory) (h .begun) in let l = h .long in omega arith
+  holding-few = let f = held-most (heldIn n memory) (h .begun) in let l = h .long in omega arith
 
   pub holding-size : length memory ≡ connectionSize
   unfolding connectionBytes
@@ -156,7 +153,7 @@ part-none memory chunk n h =
 
 module _ (held chunk memory : List ℕ) (n used : ℕ) (l : length held ≡ n) (p : Part held chunk memory used) where
   part-long : length (held ++ take used chunk) ≡ n + used
-  part-long = length-append held (take used chunk) ∙ ap₂ (λ (a b : ℕ). a + b) l (length-take-le used chunk (p .left))
+  part-long = length-gathered held chunk used (p .left) ∙ ap (λ (a : ℕ). a + used) l
 
   pub part-holds : Holding memory (n + used)
   part-holds = holding-of memory (held ++ take used chunk) (n + used) (p .memory-is) part-long (p .begun)
@@ -169,11 +166,11 @@ module _ (held chunk memory : List ℕ) (n used : ℕ) (l : length held ≡ n) (
     on : heldIn (n + used) memory ++ take k (drop used chunk) ≡ held ++ take (used + k) chunk
     on = ap (λ (x : List ℕ). x ++ take k (drop used chunk)) part-in ∙ append-assoc held (take used chunk) (take k (drop used chunk)) ∙ ap (λ (x : List ℕ). held ++ x) (sym (take-add used k chunk))
 
-    pub after-is : after ≡ connectionBytes (opened (held ++ take (used + k) chunk))
+    after-is : after ≡ connectionBytes (opened (held ++ take (used + k) chunk))
     after-is = f .memory-is ∙ ap (λ (x : List ℕ). connectionBytes (opened x)) on
 
-    pub after-long : length (held ++ take (used + k) chunk) ≡ n + (used + k)
-    after-long = length-append held (take (used + k) chunk) ∙ ap₂ (λ (a b : ℕ). a + b) l (length-take-le (used + k) chunk (f .left))
+    after-long : length (held ++ take (used + k) chunk) ≡ n + (used + k)
+    after-long = length-gathered held chunk (used + k) (f .left) ∙ ap (λ (a : ℕ). a + (used + k)) l
 
     pub after-few : n + (used + k) ≤ heldMost
     after-few =

@@ -2,40 +2,27 @@
 use Prim.Native.Nat.{ℕ, _-_, _≤_}
 use mathlib.Core.Path.{_≡_, refl, sym, ap, ap₂, _∙_}
 use mathlib.Core.Bool.{true}
-use mathlib.Core.List.{List, []}
+use mathlib.Core.List.{List}
 use native.Mathlib.Omega.{arith}
 use lib.ListN.{length, take, drop, replicate, length-append, length-replicate}
 use lib.Seq.{take-append-seam, length-take-le}
-use lib.Dec.{leb, eqb}
 use Rattle.wire.specs.Lists.{padded}
 use Rattle.wire.specs.Numbers.{littleEndianOf}
 use Rattle.wire.specs.Request.{headerLength}
-use Rattle.wire.proofs.TestLaws.{and-left, and-right}
 use Rattle.wire.proofs.NumberLaws.{length-number}
-use Rattle.stream.specs.Frame.{unfinished, skipped, next, legalStart, oversized}
+use Rattle.stream.specs.Frame.{unfinished, skipped, next}
 use Rattle.stream.specs.Rules.{Connection, opened, skipping, closed}
 use Rattle.stream.specs.Call.{wellFormed}
 use Rattle.stream.proofs.FrameLaws.{legal-size, headerSize-append}
-use Rattle.stream.proofs.ChunkLaws.{unfinished-next, skipped-found}
+use Rattle.stream.proofs.ChunkLaws.{unfinished-next, skip-found}
 use Rattle.connection.specs.Connection.{heldMost, connectionSize, laidOut, connectionBytes, connectionOf, wellFormedConnection}
 use Rattle.connection.specs.State.{stateOf}
 use Rattle.connection.specs.Gather.{heldIn, Holding}
-use Rattle.connection.specs.declared.check.State.{State}
 use Rattle.connection.specs.declared.check.State.the-variants.{Open, Skipping, Closed}
-use Rattle.connection.proofs.ConnectionLaws.{bytes-there, size-there, legal-most, header-facts, memory-good, store-load}
+use Rattle.connection.proofs.ConnectionLaws.{bytes-there, size-there, legal-most, WholeHeader, memory-good, store-load}
 use Rattle.connection.proofs.GatherLaws.{holding-of, held-back}
 
 -- ---- the state, turned round
-
-kind : State → ℕ
-kind (Open held) = 0
-kind (Skipping toGo) = 1
-kind Closed = 2
-
-number : State → ℕ
-number (Open held) = held
-number (Skipping toGo) = toGo
-number Closed = 0
 
 -- n bytes are held
 pub record IsOpen (k : Connection) (n : ℕ) : Type 0 where
@@ -44,25 +31,22 @@ pub record IsOpen (k : Connection) (n : ℕ) : Type 0 where
   pub is : k ≡ opened held
 
 pub state-open : (k : Connection) (n : ℕ) → stateOf k ≡ Open n → IsOpen k n
-unfolding kind number
-state-open (opened held) n e = record { held = held; long = ap number e; is = refl }
-state-open (skipping header toGo) n e = absurd (omega (arith, ap kind e))
-state-open closed n e = absurd (omega (arith, ap kind e))
+state-open (opened held) n e = record { held = held; long = cc; is = refl }
+state-open (skipping header toGo) n e = absurd (let z : _≡_ {A = ℕ} 0 1 = cc in omega arith)
+state-open closed n e = absurd (let z : _≡_ {A = ℕ} 0 1 = cc in omega arith)
 
 pub record IsSkipping (k : Connection) (toGo : ℕ) : Type 0 where
   pub header : List ℕ
   pub is : k ≡ skipping header toGo
 
 pub state-skipping : (k : Connection) (toGo : ℕ) → stateOf k ≡ Skipping toGo → IsSkipping k toGo
-unfolding kind number
-state-skipping (opened held) n e = absurd (omega (arith, ap kind e))
-state-skipping (skipping header toGo) n e = record { header = header; is = ap (skipping header) (ap number e) }
-state-skipping closed n e = absurd (omega (arith, ap kind e))
+state-skipping (opened held) n e = absurd (let z : _≡_ {A = ℕ} 0 1 = cc in omega arith)
+state-skipping (skipping header toGo) n e = record { header = header; is = cc }
+state-skipping closed n e = absurd (let z : _≡_ {A = ℕ} 0 1 = cc in omega arith)
 
 pub state-closed : (k : Connection) → stateOf k ≡ Closed → k ≡ closed
-unfolding kind
-state-closed (opened held) e = absurd (omega (arith, ap kind e))
-state-closed (skipping header toGo) e = absurd (omega (arith, ap kind e))
+state-closed (opened held) e = cc
+state-closed (skipping header toGo) e = cc
 state-closed closed e = refl
 
 -- ---- an open connection
@@ -86,30 +70,19 @@ module _ (memory : List ℕ) (g : wellFormedConnection memory ≡ true) where
 
 -- ---- a whole header that is held
 
--- the header of a request to skip
-pub record WholeHeader (header : List ℕ) : Type 0 where
-  pub long : 28 ≤ length header
-  pub most : length header ≤ heldMost
-  pub exact : length header ≡ headerLength header
+-- a header to skip has room
+pub header-few : (s header : List ℕ) (missing : ℕ) → next s ≡ skipped header missing → length header ≤ heldMost
+header-few s header missing e =
+    let k = skip-found s header missing e in
+    omega (arith, ap length (k .header-is), length-take-le (headerLength s) s (k .skipped-is .header), legal-most s (k .skipped-is .legal))
 
 -- the bytes are the header
 pub header-whole : (header : List ℕ) (missing : ℕ) → next header ≡ skipped header missing → WholeHeader header
 header-whole header missing e =
-    let (same, fits, large, legal) = skipped-found header header missing e in
-    let exact : length header ≡ headerLength header = ap length same ∙ length-take-le (headerLength header) header fits in
-    let least = legal-size header legal in
-    let most = legal-most header legal in
-    record { long = omega arith; most = omega arith; exact = exact }
-
-module _ (header : List ℕ) (toGo : ℕ) (w : wellFormed (skipping header toGo) ≡ true) where
-  pub skipping-whole : WholeHeader header
-  unfolding wellFormed
-  skipping-whole =
-      let f = header-facts header toGo w in
-      let exact = f .exact in
-      let legal = and-right (leb 6 (length header)) (legalStart header) (and-left _ (eqb (length header) (headerLength header)) (and-left _ (oversized header) (and-left _ (leb 1 toGo) (and-left _ _ w)))) in
-      let least = legal-size header legal in
-      record { long = omega arith; most = f .most; exact = exact }
+    let k = skip-found header header missing e in
+    let exact : length header ≡ headerLength header = ap length (k .header-is) ∙ length-take-le (headerLength header) header (k .skipped-is .header) in
+    let least = legal-size header (k .skipped-is .legal) in
+    record { long = omega arith; most = header-few header header missing e; exact = exact }
 
 module _ (memory header : List ℕ) (kind number : ℕ) (laid : memory ≡ laidOut kind number header) (h : WholeHeader header) where
   behind : drop 9 memory ≡ padded heldMost header

@@ -22,8 +22,12 @@ use Rattle.connection.specs.declared.change.Opened.the-variants.{Fresh, 
 abbrev pub heldMost : ℕ
 heldMost = 6 + headerMost + contentMost + authMost
 
+-- where the bytes begin, behind kind and number
+abbrev pub bytesAt : ℕ
+bytesAt = 9
+
 abbrev pub connectionSize : ℕ
-connectionSize = 9 + heldMost
+connectionSize = bytesAt + heldMost
 
 abbrev pub laidOut : (kind number : ℕ) (bytes : List ℕ) → List ℕ
 laidOut kind number bytes = kind ∷ (littleEndianOf 8 number ++ padded heldMost bytes)
@@ -37,7 +41,7 @@ unfoldable pub connectionOf : (memory : List ℕ) → Connection
 connectionOf memory =
     let kind = getD memory 0 0 in
     let number = field 1 8 memory in
-    let bytes = drop 9 memory in
+    let bytes = drop bytesAt memory in
     if eqb kind 0 then opened (take number bytes)
     else if eqb kind 1 then skipping (take (headerLength bytes) bytes) number
     else closed

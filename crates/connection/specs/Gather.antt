@@ -9,7 +9,7 @@ use Rattle.wire.specs.Request.{headerLength, requestLength}
 use Rattle.stream.specs.Frame.{unfinished, badStart, skipped, whole as isWhole, next}
 use Rattle.stream.specs.Framed.{frameOf}
 use Rattle.stream.specs.Rules.{opened}
-use Rattle.connection.specs.Connection.{connectionBytes}
+use Rattle.connection.specs.Connection.{bytesAt, connectionBytes}
 use Rattle.connection.specs.declared.gather.Gathered.{Gathered}
 
 unfoldable pub wantedOf : List ℕ → ℕ
@@ -17,7 +17,7 @@ wantedOf s = if ltb (length s) 6 then 6 else if ltb (length s) (headerLength s) 
 
 -- the first n bytes that a connection's memory has room for
 abbrev pub heldIn : (n : ℕ) (memory : List ℕ) → List ℕ
-heldIn n memory = take n (drop 9 memory)
+heldIn n memory = take n (drop bytesAt memory)
 
 -- an open connection that holds n bytes of an unfinished request
 pub record Holding (memory : List ℕ) (n : ℕ) : Type 0 where

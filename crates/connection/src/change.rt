@@ -1,4 +1,5 @@
-// A connection's memory changed: bytes taken, a request skipped, the connection closed or opened.
+// A connection's memory changed: bytes taken, a request skipped, the connection closed or opened
+// ("Roster, registry, connection, tally").
 use crate::BYTES_AT;
 use crate::CLOSED;
 use crate::CONNECTION_SIZE;

@@ -1,4 +1,5 @@
-// Whether lent memory is a well-formed connection, and what a well-formed one is.
+// Whether lent memory is a well-formed connection, and what a well-formed one is
+// ("Roster, registry, connection, tally").
 use crate::BYTES_AT;
 use crate::CLOSED;
 use crate::CONNECTION_SIZE;
@@ -11,6 +12,7 @@ use stream::frame::is_legal_start;
 use stream::frame::is_oversized;
 use stream::frame::read_frame;
 use wire::bytes::all_zero;
+use wire::header::header_length;
 use wire::number::read_u16;
 use wire::number::read_u32;
 use wire::number::read_u64;
@@ -89,8 +91,7 @@ fn skipping_well_formed(memory: &[u8]) -> bool
     if past <= to_go {
         return false;
     }
-    let header = 6 + read_u16(held, 4) as usize;
-    is_zero_from(memory, BYTES_AT + header)
+    is_zero_from(memory, BYTES_AT + header_length(held))
 }
 
 fn closed_well_formed(memory: &[u8]) -> bool

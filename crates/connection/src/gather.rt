@@ -1,13 +1,13 @@
 // The bytes of a request that began in an earlier chunk are gathered in the connection's memory: up to its sixth byte, to its
-// header's end, to its own end, and no byte behind it.
+// header's end, to its own end, and no byte behind it ("When a call is not taken": up to one response).
 use crate::BYTES_AT;
 use crate::change::append;
 use stream::frame::Frame;
 use stream::frame::read_frame;
 use stream::frame::request_length;
-use wire::number::read_u16;
+use wire::header::header_length;
 ghost use mathlib.Core.Path.{_≡_};
-ghost use Prim.Native.Nat.{_+_, _≤_, _<_, min};
+ghost use Prim.Native.Nat.{_≤_, _<_, min};
 ghost use lib.ListN.{length};
 ghost use Rattle.stream.specs.Frame.{unfinished, next};
 ghost use Rattle.connection.specs.Connection.{heldMost};
@@ -27,7 +27,7 @@ fn wanted(bytes: &[u8]) -> usize
     if bytes.len() < 6 {
         return 6;
     }
-    let header = 6 + read_u16(bytes, 4) as usize;
+    let header = header_length(bytes);
     if bytes.len() < header {
         return header;
     }

@@ -1,5 +1,6 @@
-// A connection in memory that the caller lends: `check` says whether memory is one and what it is, `change` writes it.
-// docs/LAYOUT.md has its bytes, and specs/ defines them.
+// A connection in memory that the caller lends ("Roster, registry, connection, tally"): `check` says whether memory is one
+// and what it is, `change` writes it, `gather` takes on a request's bytes. docs/LAYOUT.md has its bytes, and specs/ defines
+// them.
 use stream::frame::AUTH_MOST;
 use stream::frame::CONTENT_MOST;
 use stream::frame::HEADER_MOST;

@@ -1,13 +1,13 @@
 -- From the code's chain of tests to the judgement of a request: what is answered at each way out is what `judgement` says.
 use mathlib.Core.Path.{_≡_, refl, sym, ap, subst, _∙_}
 use mathlib.Core.Logic.{inl, inr}
-use mathlib.Core.Bool.{Bool, true, false, _&&_, not}
+use mathlib.Core.Bool.{Bool, true, false, _&&_, not, and-true, and-false}
 use mathlib.Core.Option.{Option, none, some}
 use mathlib.Core.List.{List, [], _∷_, _++_}
-use Prim.Native.Nat.{ℕ, zero, _+_, _-_, _≤_, _<_}
+use Prim.Native.Nat.{ℕ, _+_, _-_, _≤_, _<_}
 use native.Mathlib.Nat.{add-sub-cancel-left}
 use native.Mathlib.Omega.{arith}
-use borrow.Author.Tests.{eq-eqb, ne-eqb, eqb-true, eqb-false, ltb-false, lt-ltb, le-ltb}
+use borrow.Author.Tests.{eq-eqb, ne-eqb, eqb-true, eqb-false, ltb-false, lt-ltb, le-ltb, not-false}
 use lib.ListN.{length, take, drop}
 use lib.Dec.{ltb, eqb}
 use Rattle.wire.specs.Choice.{if_then_else_, firstOf, isSome}
@@ -17,7 +17,7 @@ use Rattle.wire.specs.Header.{headerOf}
 use Rattle.wire.specs.Response.{responseBytes}
 use Rattle.wire.specs.Wrote.{Wrote}
 use Rattle.wire.specs.declared.header.Header.{Header}
-use Rattle.wire.proofs.TestLaws.{some≢none, not-false, and-true, and-false}
+use Rattle.wire.proofs.TestLaws.{some≢none, none-at, first-before, first-behind}
 use Rattle.stream.specs.Frame.{contentMost}
 use Rattle.protobuf.specs.Body.{bodyOf}
 use Rattle.protobuf.specs.declared.message.Schema.{Schema}
@@ -28,12 +28,12 @@ use Rattle.registry.specs.Slots.{Entry}
 use Rattle.registry.specs.Registry.{applicationNamed, slotsOf, changed}
 use Rattle.registry.specs.declared.Line.{Line}
 use Rattle.judgement.specs.Status.{statusNumber}
-use Rattle.judgement.specs.Operations.{opcodesOf, noFields, opcodesFields, Operation, ping, listProviders, listOpcodes, readBody, operationOf, Result, refuse, perform}
+use Rattle.judgement.specs.Operations.{opcodesOf, noFields, opcodesFields, Operation, ping, listProviders, listOpcodes, readBody, operationOf, Result, refuse, perform, operated}
 use Rattle.judgement.specs.Counts.{Counts, countRefused, count}
-use Rattle.judgement.specs.Judgement.{applicationOf, refusals, askersSlots, operate, resultOf, changedBy, verdictOf, refusedEarly, oversizedStatus, judgement}
-use Rattle.judgement.specs.Decided.{headerTests, namedOr, authOf, lineOf, operated, outputBytes, resultIn, Decided, oneOfCore, oneOfKeystore}
+use Rattle.judgement.specs.Judgement.{applicationOf, refusals, askersSlots, resultOf, changedBy, verdictOf, refusedEarly, oversizedStatus, judgement}
+use Rattle.judgement.specs.Decided.{headerTests, namedOr, authOf, askersLine, outputBytes, resultIn, Decided, oneOfCore, oneOfKeystore}
 use Rattle.judgement.specs.Answers.{AskerBelow, AnsweredBy, PassedHeader, resultForNobody, ResultAnswered}
-use Rattle.judgement.proofs.OrderLaws.{one-of-three, first-before, first-behind, none-at}
+use Rattle.judgement.proofs.OrderLaws.{one-of-three}
 use Rattle.judgement.specs.declared.Status.{Status}
 use Rattle.judgement.specs.declared.Status.the-variants.{AuthenticationError, NotAuthenticated, BodySizeExceedsLimit}
 use Rattle.judgement.specs.declared.Asker.{Asker}
@@ -83,7 +83,7 @@ module _ (h : Header) (passed : PassedHeader h) where
   unfolding headerTests
   provider-small = ltb-false _ _ (none-at (headerTests h) 4 AuthenticationError passed)
 
-  pub auth-type-small : h .«auth_type» ≤ 1
+  auth-type-small : h .«auth_type» ≤ 1
   unfolding headerTests
   auth-type-small = ltb-false _ _ (none-at (headerTests h) 6 AuthenticationError passed)
 
@@ -174,7 +174,7 @@ module _ (registry bytes : List ℕ) where
     operated-result : firstOf (authTests registry (requestOf bytes)) ≡ none
         → resultOf registry (requestOf bytes)
         ≡ operated (requestOf bytes .opcode) (requestOf bytes .body) (askersSlots registry (applicationOf registry (requestOf bytes)))
-    unfolding resultOf operate operated
+    unfolding resultOf
     operated-result e = rw (later-tests ∙ e, resultOf)
 
     told-found : ToldBy registry (requestOf bytes) (authFound registry bytes)
@@ -288,8 +288,8 @@ module _ {before after : List ℕ} {r : Answered} where
     }
 
     pub answered : (registry′ : List ℕ) (who : Asker) (x : Result)
-        → (applicationOf registry (requestOf request) ≡ lineOf who) × (resultOf registry (requestOf request) ≡ x)
-        → AskerBelow who → registry′ ≡ changedBy registry (lineOf who) x
+        → (applicationOf registry (requestOf request) ≡ askersLine who) × (resultOf registry (requestOf request) ≡ x)
+        → AskerBelow who → registry′ ≡ changedBy registry (askersLine who) x
         → ResultAnswered (headerOf request) x who before after r
         → AnsweredBy (λ c. judgement .onRequest registry c request) registry′ before after r
     unfolding judgement verdictOf headerOf

@@ -1,14 +1,15 @@
 -- Laws of decisions: for each way an operation can end, what the rules make of it, from the facts that the code has there.
 use mathlib.Core.Path.{_≡_, sym, _∙_, subst}
-use mathlib.Core.Bool.{true, false, false≢true}
+use mathlib.Core.Bool.{true, false, false≢true, and-true}
 use mathlib.Core.Option.{none, some}
 use mathlib.Core.List.{List, [], _∷_}
-use Prim.Native.Nat.{ℕ, _+_, _%_, _≤_, _<_}
+use Prim.Native.Nat.{ℕ, _%_, _≤_, _<_}
 use native.Mathlib.Omega.{arith}
 use borrow.Author.Tests.{leb-true, lt-ltb, le-ltb, lt-leb, le-leb}
-use lib.ListN.{length, take, drop, getD, length-take, length-drop}
+use lib.ListN.{length, getD}
 use lib.Dec.{leb, eqb}
-use Rattle.wire.proofs.TestLaws.{and-true, every-at}
+use Rattle.wire.proofs.TestLaws.{every-at}
+use Rattle.wire.proofs.ListLaws.{length-part}
 use Rattle.protobuf.specs.Body.{bodyOf}
 use Rattle.protobuf.specs.Message.{allAbsent}
 use Rattle.protobuf.specs.Written.{bytesField}
@@ -18,17 +19,16 @@ use Rattle.protobuf.specs.declared.body.Body.the-variants.{Message, Unreadable}
 use Rattle.protobuf.proofs.StepLaws.{ValuesIn as AllIn}
 use Rattle.protobuf.proofs.BodyLaws.{BodyIn, body-in}
 use Rattle.registry.specs.Names.{legalName}
-use Rattle.registry.specs.Slots.{Key, Entry, free, held, nameOf, keyNameMost, dataMost, legalData, legalBits}
-use Rattle.registry.specs.Registry.{slotCount, slotsOf, slotNamed, unchanged, fill, clear}
+use Rattle.registry.specs.Slots.{Key, Entry, free, held, nameOf, keyNameMost, dataMost, legalData, bitsLeast, bitsMost, legalBits}
+use Rattle.registry.specs.Registry.{slotCount, slotNamed, unchanged, fill, clear}
 use Rattle.registry.specs.Check.{bytesIn, exportIn}
-use Rattle.registry.specs.declared.Line.{Line}
 use Rattle.registry.specs.declared.Slot.{Slot}
 use Rattle.registry.specs.declared.Found.the-variants.{At, Nothing as Missing}
 use Rattle.registry.proofs.NameLaws.{legal-some, legal-short}
 use Rattle.registry.proofs.SlotLaws.{Legal, legal-data}
-use Rattle.registry.proofs.RegistryLaws.{length-slots, found-below, found-name}
-use Rattle.judgement.specs.Operations.{readBody, keyOf, Operation, operationOf, Result, success, refuse, importBits, importable, performImport, performDestroy, exportOf, performExport, performListOpcodes, perform}
-use Rattle.judgement.specs.Decided.{operated, outputBytes, changeOf, resultIn, refusedWith, ValuesIn, KeyParts, SafeOutput, Decided}
+use Rattle.registry.proofs.RegistryLaws.{found-name}
+use Rattle.judgement.specs.Operations.{readBody, keyOf, Operation, operationOf, Result, success, refuse, importBits, importable, performImport, performDestroy, exportOf, performExport, performListOpcodes, perform, operated}
+use Rattle.judgement.specs.Decided.{outputBytes, changeOf, resultIn, refusedWith, ValuesIn, KeyParts, SafeOutput, Decided}
 use Rattle.judgement.specs.declared.Status.{Status}
 use Rattle.judgement.specs.declared.Status.the-variants.{Success, ProviderDoesNotExist, DeserializingBodyFailed, PsaErrorNotPermitted, PsaErrorInvalidArgument, PsaErrorAlreadyExists, PsaErrorDoesNotExist, PsaErrorInsufficientStorage}
 use Rattle.judgement.specs.declared.Output.{Output}
@@ -53,10 +53,6 @@ module _ (slots : List Entry) (body : List ℕ) {x : Result} where
   unfolding success resultIn changeOf
   listing output safe e = record { result = sym e; output = safe; edit = tt }
 
--- a slot that was found is one of the application's
-pub slot-below : (registry : List ℕ) (line : Line) (name : List ℕ) (slot : Slot) → slotNamed name (slotsOf registry line) ≡ At slot → slot .0 < slotCount
-slot-below registry line name slot e = omega (arith, length-slots registry line, found-below name (slotsOf registry line) slot e)
-
 module _ (slots : List Entry) (body : List ℕ) {x : Result} (v : Values) (slot : Slot) (below : slot .0 < slotCount) where
   pub filling : KeyParts (length body) v → x ≡ success [] (fill slot (keyOf body v))
       → Decided slots body x (record { status = Success; output = Nothing; edit = Fills slot; values = v })
@@ -68,10 +64,6 @@ module _ (slots : List Entry) (body : List ℕ) {x : Result} (v : Values) (slot 
   clearing e = record { result = sym e; output = tt; edit = below }
 
 -- ---- the body of a request
-
--- a value's bytes are as many as it says
-pub length-part : (s : List ℕ) (a n : ℕ) → a + n ≤ length s → length (take n (drop a s)) ≡ n
-length-part s a n h = simp (length-take, length-drop) (omega arith)
 
 pub values-in : (k : Schema) (body : List ℕ) (v : Values) → bodyOf k body ≡ Message v → ValuesIn (length body) v
 values-in k body v e =
@@ -144,9 +136,9 @@ module _ (slots : List Entry) (key : Key) where
       unfolding performImport
       imported slot e = rw (t, new, e)
 
-legal-bits : (bits : ℕ) → legalBits bits ≡ true → bits ≤ 4096
+legal-bits : (bits : ℕ) → legalBits bits ≡ true → bits ≤ bitsMost
 unfolding legalBits
-legal-bits bits e = leb-true _ _ (every-at (leb 1024 bits ∷ leb bits 4096 ∷ eqb (bits % 8) 0 ∷ []) 1 e)
+legal-bits bits e = leb-true _ _ (every-at (leb bitsLeast bits ∷ leb bits bitsMost ∷ eqb (bits % 8) 0 ∷ []) 1 e)
 
 -- the parts of a key that Import allows
 pub key-parts : (body : List ℕ) (v : Values) → ValuesIn (length body) v → importable (keyOf body v) ≡ true → KeyParts (length body) v

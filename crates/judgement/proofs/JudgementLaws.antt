@@ -1,4 +1,5 @@
--- What the judgement keeps: a well-formed registry stays well formed, and a status other than 0 leaves it alone.
+-- What the judgement keeps: a well-formed registry stays well formed and keeps the applications' names, and a status other than
+-- 0 leaves it alone.
 use mathlib.Core.Path.{_≡_, refl, sym, ap}
 use mathlib.Core.Bool.{Bool, true, false}
 use mathlib.Core.Option.{Option, none, some}
@@ -12,12 +13,12 @@ use Rattle.stream.specs.Frame.{oversized}
 use Rattle.stream.specs.Rules.{Verdict, judge}
 use Rattle.registry.specs.Names.{legalName}
 use Rattle.registry.specs.Slots.{Key, keyNameMost, legalData, legalBits}
-use Rattle.registry.specs.Registry.{applicationNamed, unchanged, changed}
+use Rattle.registry.specs.Registry.{namesIn, applicationNamed, unchanged, changed}
 use Rattle.registry.specs.WellFormed.{wellFormedRegistry}
 use Rattle.registry.specs.declared.Line.{Line}
 use Rattle.registry.proofs.SlotLaws.{Legal}
 use Rattle.registry.proofs.RegistryLaws.{Used, named-used}
-use Rattle.registry.proofs.WellFormedLaws.{Allowed, stays, fills, clears, change-good}
+use Rattle.registry.proofs.WellFormedLaws.{Allowed, stays, fills, clears, change-kept}
 use Rattle.judgement.specs.Status.{statusNumber}
 use Rattle.judgement.specs.Operations.{Result, success, refuse, importBits, importable}
 use Rattle.judgement.specs.Counts.{Counts}
@@ -42,7 +43,7 @@ importable-legal key e =
     let tests : List Bool = legalName keyNameMost (key .name) ∷ legalData (key .bytes) ∷ legalBits (key .bits) ∷ [] in
     record { name = every-at tests 0 e; bytes = every-at tests 1 e; bits = every-at tests 2 e }
 
-pub result-allowed : (r : List ℕ) (q : Request) → Allowed (askersSlots r (applicationOf r q)) (resultOf r q .change)
+result-allowed : (r : List ℕ) (q : Request) → Allowed (askersSlots r (applicationOf r q)) (resultOf r q .change)
 unfolding refuse success
 result-allowed r q = by-result r q (λ x. Allowed (askersSlots r (applicationOf r q)) (x .change)) (record {
   refused = λ status. stays;
@@ -52,19 +53,29 @@ result-allowed r q = by-result r q (λ x. Allowed (askersSlots r (applicationOf 
   exported = λ slot key e. stays;
 })
 
-request-good : (r : List ℕ) (q : Request) → wellFormedRegistry r ≡ true
-    → wellFormedRegistry (changedBy r (applicationOf r q) (resultOf r q)) ≡ true
+-- of the registry r, and what it becomes
+abbrev Kept : List ℕ → List ℕ → Type 0
+Kept r s = (wellFormedRegistry s ≡ true) × (namesIn s ≡ namesIn r)
+
+request-kept : (r : List ℕ) (q : Request) → wellFormedRegistry r ≡ true → Kept r (changedBy r (applicationOf r q) (resultOf r q))
 unfolding changedBy askersSlots
-request-good r q w = go (applicationOf r q) refl (result-allowed r q)
+request-kept r q w = go (applicationOf r q) refl (result-allowed r q)
   where
     go : (o : Option Line) → applicationOf r q ≡ o → Allowed (askersSlots r o) (resultOf r q .change)
-        → wellFormedRegistry (changedBy r o (resultOf r q)) ≡ true
-    go none e ok = w
-    go (some line) e ok = change-good r w line (asks r q line e) (resultOf r q .change) ok
+        → Kept r (changedBy r o (resultOf r q))
+    go none e ok = (w, refl)
+    go (some line) e ok = change-kept r w line (asks r q line e) (resultOf r q .change) ok
 
-pub judge-good : (r : List ℕ) (c : Counts) (request : List ℕ) → wellFormedRegistry r ≡ true → wellFormedRegistry (judge judgement r c request .registry) ≡ true
-unfolding judge judgement refusedEarly verdictOf
-judge-good r c request w = either (λ (v : Verdict (List ℕ) Counts (List ℕ)). wellFormedRegistry (v .registry) ≡ true) (oversized request) (λ _. w) (λ _. request-good r (requestOf request) w)
+module _ (r : List ℕ) (c : Counts) (request : List ℕ) (w : wellFormedRegistry r ≡ true) where
+  judge-kept : Kept r (judge judgement r c request .registry)
+  unfolding judge judgement refusedEarly verdictOf
+  judge-kept = either (λ (v : Verdict (List ℕ) Counts (List ℕ)). Kept r (v .registry)) (oversized request) (λ _. (w, refl)) (λ _. request-kept r (requestOf request) w)
+
+  pub judge-good : wellFormedRegistry (judge judgement r c request .registry) ≡ true
+  judge-good = judge-kept .0
+
+  pub judge-names : namesIn (judge judgement r c request .registry) ≡ namesIn r
+  judge-names = judge-kept .1
 
 -- ---- any status but 0 leaves the registry alone
 

@@ -1,5 +1,6 @@
 pub mod Results
 pub mod JudgementLaws
+pub mod NamesLaws
 pub mod ResponseLaws
 pub mod AnswerLaws
 pub mod DecidedLaws

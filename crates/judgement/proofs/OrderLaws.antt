@@ -1,17 +1,15 @@
 -- Laws of the order's tests: one of the listed numbers, one test of a header after another, and who asks.
-use mathlib.Core.Path.{_≡_, refl, sym}
+use mathlib.Core.Path.{_≡_, refl}
 use mathlib.Core.Bool.{Bool, true, false, false≢true, _||_}
 use mathlib.Core.Logic.{_⊎_, inl, inr, ⊎-elim}
 use mathlib.Core.Option.{Option, none, some}
-use mathlib.Core.List.{List, [], _∷_, _++_}
-use Prim.Native.Nat.{ℕ, zero, suc}
-use native.Mathlib.Omega.{arith}
+use mathlib.Core.List.{List, [], _∷_}
+use Prim.Native.Nat.{ℕ}
 use borrow.Author.Tests.{eqb-true, eqb-false, ne-eqb}
-use lib.ListN.{getD}
 use lib.Dec.{eqb}
 use Rattle.wire.specs.Choice.{firstOf}
 use Rattle.wire.specs.Lists.{oneOf}
-use Rattle.wire.proofs.TestLaws.{or-left, or-right, some≢none, none-first}
+use Rattle.wire.proofs.TestLaws.{or-left, or-right}
 use Rattle.registry.specs.Check.{applicationFound}
 use Rattle.registry.specs.declared.Line.{Line}
 use Rattle.registry.specs.declared.Application.the-variants.{Named, Unknown}
@@ -73,46 +71,26 @@ module _ (t : Bool) (status : Status) (tests : List (Bool × Status)) where
   unfolding firstOf
   passes e = rw e
 
-module _ {A : Type 0} where
-  -- of tests and then others
-  pub first-before : (ts us : List (Bool × A)) (a : A) → firstOf ts ≡ some a → firstOf (ts ++ us) ≡ some a
-  unfolding firstOf
-  first-before [] us a e = absurd (some≢none a (sym e))
-  first-before ((true, b) ∷ ts) us a e = e
-  first-before ((false, b) ∷ ts) us a e = first-before ts us a e
-
-  pub first-behind : (ts us : List (Bool × A)) → firstOf ts ≡ none → firstOf (ts ++ us) ≡ firstOf us
-  unfolding firstOf
-  first-behind [] us e = refl
-  first-behind ((true, b) ∷ ts) us e = absurd (some≢none b e)
-  first-behind ((false, b) ∷ ts) us e = first-behind ts us e
-
-  -- no case applies, so the test number k does not hold
-  pub none-at : (ts : List (Bool × A)) (k : ℕ) (a : A) → firstOf ts ≡ none → getD ts k (false, a) .0 ≡ false
-  none-at [] k a e = refl
-  none-at (t ∷ ts) zero a e = none-first (t .0) (t .1) ts e .0
-  none-at (t ∷ ts) (suc k) a e = none-at ts k a (none-first (t .0) (t .1) ts e .1)
-
 -- ---- a header that was checked
 
 pub passed-none : (o : Option Status) → checkedOf o ≡ Passed → o ≡ none
 unfolding checkedOf
 passed-none none e = refl
-passed-none (some status) e = let z : _≡_ {A = ℕ} 0 1 = cc in absurd (let w : ⊥ = omega arith in w)
+passed-none (some status) e = cc
 
 pub refused-some : (o : Option Status) (status : Status) → checkedOf o ≡ Refused status → o ≡ some status
 unfolding checkedOf
-refused-some none status e = let z : _≡_ {A = ℕ} 0 1 = cc in absurd (let w : ⊥ = omega arith in w)
+refused-some none status e = cc
 refused-some (some s) status e = cc
 
 -- ---- the application that was found
 
 pub found-line : (o : Option Line) (line : Line) → applicationFound o ≡ Named line → o ≡ some line
 unfolding applicationFound
-found-line none line e = let z : _≡_ {A = ℕ} 0 1 = cc in absurd (let w : ⊥ = omega arith in w)
+found-line none line e = cc
 found-line (some l) line e = cc
 
 pub found-none : (o : Option Line) → applicationFound o ≡ Unknown → o ≡ none
 unfolding applicationFound
 found-none none e = refl
-found-none (some l) e = let z : _≡_ {A = ℕ} 0 1 = cc in absurd (let w : ⊥ = omega arith in w)
+found-none (some l) e = cc

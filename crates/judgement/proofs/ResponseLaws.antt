@@ -1,5 +1,5 @@
 -- Every response has at most 629 bytes, where the registry is well formed.
-use mathlib.Core.Path.{_≡_, subst}
+use mathlib.Core.Path.{_≡_, refl, subst}
 use mathlib.Core.Bool.{true}
 use mathlib.Core.Option.{Option, none, some}
 use mathlib.Core.List.{List, [], _∷_, _++_}
@@ -8,7 +8,6 @@ use native.Mathlib.Omega.{arith}
 use borrow.Author.Tests.{lt-ltb}
 use lib.ListN.{length, take, getD, length-append}
 use lib.Dec.{ltb}
-use Rattle.wire.specs.Lists.{all}
 use Rattle.wire.specs.Numbers.{littleEndianOf}
 use Rattle.wire.specs.Request.{Request, requestOf}
 use Rattle.wire.specs.Response.{responseHeader, responseBytes}
@@ -45,7 +44,7 @@ response-length provider session opcode status body = omega arith
 
 slots-of-asker : (r : List ℕ) → wellFormedRegistry r ≡ true → (q : Request) (i : ℕ) → ShortEntry (getD (askersSlots r (applicationOf r q)) i free)
 unfolding askersSlots
-slots-of-asker r w q i = go (applicationOf r q) mathlib.Core.Path.refl
+slots-of-asker r w q i = go (applicationOf r q) refl
   where
     go : (o : Option Line) → applicationOf r q ≡ o → ShortEntry (getD (askersSlots r o) i free)
     go none e = tt

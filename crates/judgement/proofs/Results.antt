@@ -6,7 +6,7 @@ use mathlib.Core.List.{List, [], flatMap}
 use Prim.Native.Nat.{ℕ, _≤_}
 use native.Mathlib.Omega.{arith}
 use lib.ListN.{length, getD}
-use lib.Dec.{ltb, eqb}
+use lib.Dec.{ltb}
 use Rattle.wire.specs.Choice.{firstOf}
 use Rattle.wire.specs.Request.{Request}
 use Rattle.protobuf.specs.Written.{varintWithin, varint, numberField, bytesField, packedField}
@@ -16,9 +16,12 @@ use Rattle.registry.specs.Registry.{slotNamed, unchanged, fill, clear}
 use Rattle.registry.specs.declared.Slot.{Slot}
 use Rattle.registry.specs.declared.Found.{Found}
 use Rattle.registry.specs.declared.Found.the-variants.{At, Nothing}
-use Rattle.judgement.specs.Operations.{opcodesOf, Operation, ping, listProviders, listOpcodes, importKey, destroyKey, exportPublicKey, operationOf, Result, success, refuse, importable, performImport, performDestroy, exportOf, performExport, performListOpcodes, perform}
-use Rattle.judgement.specs.Judgement.{applicationOf, refusals, askersSlots, operate, resultOf}
+use Rattle.judgement.specs.Operations.{Operation, ping, listProviders, listOpcodes, importKey, destroyKey, exportPublicKey, operationOf, Result, success, refuse, importable, performImport, performDestroy, exportOf, performExport, performListOpcodes, perform, operated}
+use Rattle.judgement.specs.Judgement.{applicationOf, refusals, askersSlots, resultOf}
+use Rattle.judgement.specs.Decided.{outputBytes}
 use Rattle.judgement.specs.declared.Status.{Status}
+use Rattle.judgement.specs.declared.Output.the-variants.{Opcodes}
+use Rattle.judgement.proofs.OutputLaws.{opcodes-length}
 
 -- the ways to end, on these slots
 pub record Ends (slots : List Entry) (P : Result → Type 0) : Type 0 where
@@ -80,16 +83,12 @@ module _ (slots : List Entry) (P : Result → Type 0) (ends : Ends slots P) wher
       go true e = second e (slotNamed name slots) refl
 
   by-opcodes : (provider : ℕ) → P (performListOpcodes provider)
-  unfolding performListOpcodes
+  unfolding performListOpcodes outputBytes
   by-opcodes provider = go (ltb 1 provider) refl
     where
-      five : (t : Bool) → eqb provider 0 ≡ t → length (packedField 1 (opcodesOf provider)) ≤ 5
-      five true e = unfold packedField flatMap varint varintWithin bytesField opcodesOf in rw e (omega arith)
-      five false e = unfold packedField flatMap varint varintWithin bytesField opcodesOf in rw e (omega arith)
-
       go : (t : Bool) → ltb 1 provider ≡ t → P (performListOpcodes provider)
       go true e = rw (e, performListOpcodes) (ends .refused _)
-      go false e = rw (e, performListOpcodes) (ends .listed _ (five (eqb provider 0) refl))
+      go false e = rw (e, performListOpcodes) (ends .listed (outputBytes slots (Opcodes provider)) (omega (arith, opcodes-length slots provider)))
 
   by-operation : (operation : Operation) → P (perform operation slots)
   unfolding perform
@@ -101,13 +100,13 @@ module _ (slots : List Entry) (P : Result → Type 0) (ends : Ends slots P) wher
   by-operation (exportPublicKey name) = by-export name
 
 module _ (r : List ℕ) (q : Request) (P : Result → Type 0) (ends : Ends (askersSlots r (applicationOf r q)) P) where
-  by-operate : P (operate r q)
-  unfolding operate
+  by-operate : P (operated (q .opcode) (q .body) (askersSlots r (applicationOf r q)))
+  unfolding operated
   by-operate = go (operationOf (q .opcode) (q .body)) refl
     where
-      go : (o : Option Operation) → operationOf (q .opcode) (q .body) ≡ o → P (operate r q)
-      go none e = rw (e, operate) (ends .refused _)
-      go (some operation) e = rw (e, operate) (by-operation (askersSlots r (applicationOf r q)) P ends operation)
+      go : (o : Option Operation) → operationOf (q .opcode) (q .body) ≡ o → P (operated (q .opcode) (q .body) (askersSlots r (applicationOf r q)))
+      go none e = rw (e, operated) (ends .refused _)
+      go (some operation) e = rw (e, operated) (by-operation (askersSlots r (applicationOf r q)) P ends operation)
 
   pub by-result : P (resultOf r q)
   unfolding resultOf

@@ -12,9 +12,9 @@ use Rattle.stream.specs.Rules.{Verdict}
 use Rattle.registry.specs.Registry.{lineCount, slotsOf}
 use Rattle.registry.specs.declared.Line.{Line}
 use Rattle.judgement.specs.Status.{statusNumber}
-use Rattle.judgement.specs.Operations.{Result, refuse}
+use Rattle.judgement.specs.Operations.{Result, refuse, operated}
 use Rattle.judgement.specs.Counts.{Counts, noCounts, count}
-use Rattle.judgement.specs.Decided.{headerTests, lineOf, operated}
+use Rattle.judgement.specs.Decided.{headerTests, askersLine}
 use Rattle.judgement.specs.declared.Status.the-variants.{NotAuthenticated}
 use Rattle.judgement.specs.declared.Asker.{Asker}
 use Rattle.judgement.specs.declared.Asker.the-variants.{Nobody, Named}
@@ -29,7 +29,7 @@ AskerBelow (Named line) = line .0 < lineCount
 pub record AnsweredBy (v : Counts → Verdict (List ℕ) Counts (List ℕ)) (registry before after : List ℕ) (r : Answered) : Type 0 where
   pub response : Wrote (v noCounts .response) before after (r .written)
   pub kept : registry ≡ v noCounts .registry
-  pub counts : (c : Counts) → count c (lineOf (r .asker)) (r .status) ≡ v c .counts
+  pub counts : (c : Counts) → count c (askersLine (r .asker)) (r .status) ≡ v c .counts
   pub asker : AskerBelow (r .asker)
 
 -- ---- a request whose header has passed

@@ -1,13 +1,13 @@
--- Document 01's tally: what an answered request counts.
+-- Document 01's tally: what an answered request counts ("A whole stream under the rules").
 use Prim.Native.Nat.{ℕ, suc}
 use mathlib.Core.Option.{Option, none, some}
 use mathlib.Core.List.{List, [], _∷_}
-use lib.ListN.{length, getD, set, replicate}
+use lib.ListN.{getD, set, replicate}
 use lib.Dec.{eqb}
 use Rattle.wire.specs.Choice.{if_then_else_}
 use Rattle.registry.specs.Registry.{lineCount}
 use Rattle.registry.specs.declared.Line.{Line}
-use Rattle.judgement.specs.Status.{statusNumber, refusedStatuses}
+use Rattle.judgement.specs.Status.{statusNumber, refusedStatuses, refusedCount}
 use Rattle.judgement.specs.declared.Status.{Status}
 
 pub record Counts : Type 0 where
@@ -16,7 +16,7 @@ pub record Counts : Type 0 where
   pub refused : List ℕ  -- for each of refusedStatuses
 
 unfoldable pub noCounts : Counts
-noCounts = record { served = replicate lineCount 0; unauthenticated = 0; refused = replicate (length refusedStatuses) 0 }
+noCounts = record { served = replicate lineCount 0; unauthenticated = 0; refused = replicate refusedCount 0 }
 
 -- one more in the counter number i
 unfoldable pub increment : List ℕ → (i : ℕ) → List ℕ

@@ -5,23 +5,22 @@ use mathlib.Core.Logic.{_⊎_}
 use mathlib.Core.Bool.{Bool, _&&_, not}
 use mathlib.Core.Option.{Option, none, some}
 use mathlib.Core.List.{List, [], _∷_, _++_}
-use lib.ListN.{length, take, getD}
+use lib.ListN.{length, getD}
 use lib.Dec.{ltb, eqb}
 use Rattle.wire.specs.Choice.{if_then_else_}
 use Rattle.wire.specs.Lists.{oneOf}
 use Rattle.wire.specs.declared.header.Header.{Header}
 use Rattle.protobuf.specs.Message.{allAbsent}
-use Rattle.protobuf.specs.Written.{numberField, bytesField, packedField}
+use Rattle.protobuf.specs.Written.{bytesField, packedField}
 use Rattle.protobuf.specs.declared.message.Value.{Value}
 use Rattle.protobuf.specs.declared.message.Values.{Values}
-use Rattle.registry.specs.Slots.{Entry, free, keyNameMost, dataMost}
+use Rattle.registry.specs.Slots.{Entry, free, keyNameMost, dataMost, bitsMost}
 use Rattle.registry.specs.Registry.{slotCount, Change, unchanged, fill, clear}
 use Rattle.registry.specs.Check.{bytesIn}
 use Rattle.registry.specs.declared.Line.{Line}
-use Rattle.registry.specs.declared.Slot.{Slot}
-use Rattle.judgement.specs.Operations.{coreOpcodes, keystoreOpcodes, opcodesOf, keyOf, operationOf, Result, refuse, perform}
+use Rattle.judgement.specs.Operations.{coreOpcodes, keystoreOpcodes, opcodesOf, keyOf, Result, versionOutput, providersOutput}
 use Rattle.judgement.specs.declared.Status.{Status}
-use Rattle.judgement.specs.declared.Status.the-variants.{WrongProviderId, ContentTypeNotSupported, AcceptTypeNotSupported, WireProtocolVersionNotSupported, ProviderDoesNotExist, DeserializingBodyFailed, OpcodeDoesNotExist, AuthenticatorDoesNotExist}
+use Rattle.judgement.specs.declared.Status.the-variants.{WrongProviderId, ContentTypeNotSupported, AcceptTypeNotSupported, WireProtocolVersionNotSupported, ProviderDoesNotExist, OpcodeDoesNotExist, AuthenticatorDoesNotExist}
 use Rattle.judgement.specs.declared.Checked.{Checked}
 use Rattle.judgement.specs.declared.Checked.the-variants.{Passed, Refused}
 use Rattle.judgement.specs.declared.Asker.{Asker}
@@ -60,23 +59,16 @@ unfoldable pub authOf : (authType : ℕ) (auth : List ℕ) → Option Line → A
 authOf authType auth named =
     if eqb authType 0 then (if ltb 0 (length auth) then AuthRefused else Accepted Nobody) else namedOr named
 
-unfoldable pub lineOf : Asker → Option Line
-lineOf Nobody = none
-lineOf (Named line) = some line
+unfoldable pub askersLine : Asker → Option Line
+askersLine Nobody = none
+askersLine (Named line) = some line
 
 -- ---- what an operation comes to
 
--- body not readable: 7; then the operation's own
-unfoldable pub operated : (opcode : ℕ) (body : List ℕ) (slots : List Entry) → Result
-operated opcode body slots = elim (operationOf opcode body) [
-  | none ↦ refuse DeserializingBodyFailed
-  | some operation ↦ perform operation slots
-]
-
 unfoldable pub outputBytes : (slots : List Entry) → Output → List ℕ
 outputBytes slots Nothing = []
-outputBytes slots Version = numberField 1 1 ++ numberField 2 0
-outputBytes slots Providers = packedField 1 (0 ∷ 1 ∷ [])
+outputBytes slots Version = versionOutput
+outputBytes slots Providers = providersOutput
 outputBytes slots (Opcodes provider) = packedField 1 (opcodesOf provider)
 outputBytes slots (Data slot) = bytesField 1 (bytesIn (getD slots (slot .0) free))
 
@@ -106,7 +98,12 @@ pub record KeyParts (n : ℕ) (v : Values) : Type 0 where
   pub within : ValuesIn n v
   pub name : v .f1 .len ≤ keyNameMost
   pub bytes : v .f2 .len ≤ dataMost
-  pub bits : v .f3 .number ≤ 4096
+  pub bits : v .f3 .number ≤ bitsMost
+
+-- the longest body of a response is exported data, a field of a tag, a length and the data; 20 is a writer's room for the
+-- tag and the length
+abbrev pub outputMost : ℕ
+outputMost = dataMost + 20
 
 abbrev pub SafeOutput : Output → Type 0
 SafeOutput Nothing = Unit {0}

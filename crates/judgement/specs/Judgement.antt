@@ -15,10 +15,24 @@ use Rattle.registry.specs.Slots.{Entry}
 use Rattle.registry.specs.Registry.{applicationNamed, slotsOf, changed}
 use Rattle.registry.specs.declared.Line.{Line}
 use Rattle.judgement.specs.Status.{statusNumber}
-use Rattle.judgement.specs.Operations.{coreOpcodes, keystoreOpcodes, opcodesOf, operationOf, Result, refuse, perform}
+use Rattle.judgement.specs.Operations.{coreOpcodes, keystoreOpcodes, opcodesOf, Result, refuse, operated}
 use Rattle.judgement.specs.Counts.{Counts, noCounts, countRefused, count}
 use Rattle.judgement.specs.declared.Status.{Status}
-use Rattle.judgement.specs.declared.Status.the-variants.{WrongProviderId, ContentTypeNotSupported, AcceptTypeNotSupported, WireProtocolVersionNotSupported, ProviderDoesNotExist, DeserializingBodyFailed, OpcodeDoesNotExist, AuthenticationError, AuthenticatorDoesNotExist, InvalidHeader, NotAuthenticated, BodySizeExceedsLimit}
+use Rattle.judgement.specs.declared.Status.the-variants.{WrongProviderId, ContentTypeNotSupported, AcceptTypeNotSupported, WireProtocolVersionNotSupported, ProviderDoesNotExist, OpcodeDoesNotExist, AuthenticationError, AuthenticatorDoesNotExist, InvalidHeader, NotAuthenticated, BodySizeExceedsLimit}
+
+-- ---- the order's first two steps: a wrong start, and an oversized request
+
+-- an empty body, and the registry stays
+unfoldable pub refusedEarly : (registry : List ℕ) → Counts → (provider session opcode : ℕ) → Status → Verdict (List ℕ) Counts (List ℕ)
+refusedEarly registry counts provider session opcode status = record {
+  response = responseBytes provider session opcode (statusNumber status) [];
+  registry = registry;
+  counts = countRefused counts status;
+}
+
+-- oversized: 20 if C is too large, else 11
+unfoldable pub oversizedStatus : (header : List ℕ) → Status
+oversizedStatus header = if ltb contentMost (contentLength header) then BodySizeExceedsLimit else AuthenticationError
 
 -- ---- the order's third step: at the last byte, first that applies
 
@@ -45,17 +59,10 @@ unfoldable pub askersSlots : (registry : List ℕ) → Option Line → List Entr
 askersSlots registry none = []
 askersSlots registry (some line) = slotsOf registry line
 
--- body not readable: 7; then the operation's own
-unfoldable pub operate : (registry : List ℕ) → Request → Result
-operate registry q = elim (operationOf (q .opcode) (q .body)) [
-  | none ↦ refuse DeserializingBodyFailed
-  | some operation ↦ perform operation (askersSlots registry (applicationOf registry q))
-]
-
 unfoldable pub resultOf : (registry : List ℕ) → Request → Result
 resultOf registry q = elim (firstOf (refusals registry q)) [
   | some status ↦ refuse status
-  | none ↦ operate registry q
+  | none ↦ operated (q .opcode) (q .body) (askersSlots registry (applicationOf registry q))
 ]
 
 -- ---- the judgement: a response, the registry and the counts after a request
@@ -70,18 +77,6 @@ verdictOf registry counts q r = record {
   registry = changedBy registry (applicationOf registry q) r;
   counts = count counts (applicationOf registry q) (r .status);
 }
-
--- steps 1 and 2 of the order: an empty body, and the registry stays
-unfoldable pub refusedEarly : (registry : List ℕ) → Counts → (provider session opcode : ℕ) → Status → Verdict (List ℕ) Counts (List ℕ)
-refusedEarly registry counts provider session opcode status = record {
-  response = responseBytes provider session opcode (statusNumber status) [];
-  registry = registry;
-  counts = countRefused counts status;
-}
-
--- 20 if C is too large, else 11
-unfoldable pub oversizedStatus : (header : List ℕ) → Status
-oversizedStatus header = if ltb contentMost (contentLength header) then BodySizeExceedsLimit else AuthenticationError
 
 unfoldable pub judgement : Judgement (List ℕ) Counts (List ℕ)
 judgement = record {

@@ -20,7 +20,7 @@ use Rattle.registry.specs.Slots.{Key, Entry, free, held, keyNameMost, legalData
 use Rattle.registry.specs.Registry.{slotNamed, Change, unchanged, fill, clear}
 use Rattle.registry.specs.declared.Found.the-variants.{At, Nothing}
 use Rattle.judgement.specs.declared.Status.{Status}
-use Rattle.judgement.specs.declared.Status.the-variants.{Success, ProviderDoesNotExist, PsaErrorNotPermitted, PsaErrorInvalidArgument, PsaErrorAlreadyExists, PsaErrorDoesNotExist, PsaErrorInsufficientStorage}
+use Rattle.judgement.specs.declared.Status.the-variants.{Success, ProviderDoesNotExist, DeserializingBodyFailed, PsaErrorNotPermitted, PsaErrorInvalidArgument, PsaErrorAlreadyExists, PsaErrorDoesNotExist, PsaErrorInsufficientStorage}
 
 -- ---- opcodes
 
@@ -110,6 +110,18 @@ success output change = record { status = Success; output = output; change = cha
 unfoldable pub refuse : Status → Result
 refuse status = record { status = status; output = []; change = unchanged }
 
+-- the wire protocol's version, 1.0
+abbrev pub versionOutput : List ℕ
+versionOutput = numberField 1 1 ++ numberField 2 0
+
+abbrev pub providersOutput : List ℕ
+providersOutput = packedField 1 (0 ∷ 1 ∷ [])
+
+unfoldable pub performListOpcodes : (provider : ℕ) → Result
+performListOpcodes provider =
+    if ltb 1 provider then refuse ProviderDoesNotExist
+    else success (packedField 1 (opcodesOf provider)) unchanged
+
 -- Import's own rule for bits; what a registry may hold is `legalBits`
 unfoldable pub importBits : ℕ → Bool
 importBits bits = legalBits bits
@@ -152,15 +164,17 @@ performExport name slots =
       | At slot ↦ exportOf (getD slots (slot .0) free)
     ]
 
-unfoldable pub performListOpcodes : (provider : ℕ) → Result
-performListOpcodes provider =
-    if ltb 1 provider then refuse ProviderDoesNotExist
-    else success (packedField 1 (opcodesOf provider)) unchanged
-
 unfoldable pub perform : Operation → (slots : List Entry) → Result
-perform ping slots = success (numberField 1 1 ++ numberField 2 0) unchanged
-perform listProviders slots = success (packedField 1 (0 ∷ 1 ∷ [])) unchanged
+perform ping slots = success versionOutput unchanged
+perform listProviders slots = success providersOutput unchanged
 perform (listOpcodes provider) slots = performListOpcodes provider
 perform (importKey key) slots = performImport key slots
 perform (destroyKey name) slots = performDestroy name slots
 perform (exportPublicKey name) slots = performExport name slots
+
+-- body not readable: 7; then the operation's own
+unfoldable pub operated : (opcode : ℕ) (body : List ℕ) (slots : List Entry) → Result
+operated opcode body slots = elim (operationOf opcode body) [
+  | none ↦ refuse DeserializingBodyFailed
+  | some operation ↦ perform operation slots
+]

@@ -1,6 +1,7 @@
--- The number of each status, from document 01's table.
+-- The number of each status ("Order of judgement on one request", its table).
 use Prim.Native.Nat.{ℕ}
 use mathlib.Core.List.{List, [], _∷_}
+use lib.ListN.{length}
 use Rattle.judgement.specs.declared.Status.{Status}
 use Rattle.judgement.specs.declared.Status.the-variants.{Success, WrongProviderId, ContentTypeNotSupported, AcceptTypeNotSupported, WireProtocolVersionNotSupported, ProviderDoesNotExist, DeserializingBodyFailed, OpcodeDoesNotExist, AuthenticationError, AuthenticatorDoesNotExist, InvalidHeader, NotAuthenticated, BodySizeExceedsLimit, PsaErrorNotPermitted, PsaErrorInvalidArgument, PsaErrorAlreadyExists, PsaErrorDoesNotExist, PsaErrorInsufficientStorage}
 
@@ -31,3 +32,6 @@ refusedStatuses =
     ∷ ProviderDoesNotExist ∷ DeserializingBodyFailed ∷ OpcodeDoesNotExist ∷ AuthenticationError
     ∷ AuthenticatorDoesNotExist ∷ InvalidHeader ∷ NotAuthenticated ∷ BodySizeExceedsLimit ∷ PsaErrorNotPermitted
     ∷ PsaErrorInvalidArgument ∷ PsaErrorAlreadyExists ∷ PsaErrorDoesNotExist ∷ PsaErrorInsufficientStorage ∷ []
+
+abbrev pub refusedCount : ℕ
+refusedCount = length refusedStatuses

@@ -1,4 +1,5 @@
-// A request answered: its response written, and what it changes carried out.
+// A request answered, by the order's three steps ("Order of judgement on one request"): its response written, and what it
+// changes carried out.
 use crate::Answered;
 use crate::Asker;
 use crate::Auth;
@@ -23,15 +24,16 @@ use stream::frame::CONTENT_MOST;
 use stream::frame::is_oversized;
 use wire::bytes::copy_into;
 use wire::header::Header;
+use wire::header::header_length;
 use wire::header::read_header;
 use wire::response::response_header;
 ghost use mathlib.Core.Bool.{true, false};
 ghost use mathlib.Core.List.{List, []};
 ghost use mathlib.Core.Path.{_≡_};
 ghost use Prim.Native.Nat.{ℕ, _≤_, _<_};
-ghost use lib.ListN.{length};
-ghost use Rattle.wire.specs.Request.{requestLength};
-ghost use Rattle.wire.specs.Response.{responseBytes};
+ghost use lib.ListN.{length, take};
+ghost use Rattle.wire.specs.Request.{requestLeast, headerLength, requestLength};
+ghost use Rattle.wire.specs.Response.{bufferLeast, responseBytes};
 ghost use Rattle.wire.specs.Wrote.{Wrote};
 ghost use Rattle.stream.specs.Frame.{legalStart, oversized};
 ghost use Rattle.stream.specs.Rules.{judge};
@@ -39,13 +41,13 @@ ghost use Rattle.registry.specs.Registry.{lineCount, registrySize, slotsOf, cha
 ghost use Rattle.registry.specs.WellFormed.{wellFormedRegistry};
 ghost use Rattle.judgement.specs.Status.{statusNumber};
 ghost use Rattle.judgement.specs.Judgement.{judgement};
-ghost use Rattle.judgement.specs.Decided.{SafeOutput, SafeEdit, outputBytes, changeOf, Decided};
+ghost use Rattle.judgement.specs.Decided.{outputMost, SafeOutput, SafeEdit, outputBytes, changeOf, Decided};
 ghost use Rattle.judgement.specs.Answers.{AnsweredBy, PassedHeader, resultForNamed, resultForNobody, ResultAnswered};
 
 // How long a response's body is.
 fn output_size(registry: &[u8], line: Line, output: Output) -> usize
     requires { ⌜ (wellFormedRegistry (now registry) ≡ true) × (line .0 < lineCount) × SafeOutput output ⌝ }
-    ensures { λ r. ⌜ (r ≡ length (outputBytes (slotsOf (now (registry .entry)) line) output)) × (r ≤ 620) ⌝ }
+    ensures { λ r. ⌜ (r ≡ length (outputBytes (slotsOf (now (registry .entry)) line) output)) × (r ≤ outputMost) ⌝ }
 {
     match output {
         Output::Nothing => 0,
@@ -61,7 +63,7 @@ fn output_size(registry: &[u8], line: Line, output: Output) -> usize
 
 // A response's body, written straight to its place.
 fn write_output(out: &mut [u8], registry: &[u8], line: Line, output: Output) -> usize
-    requires { ⌜ (wellFormedRegistry (now registry) ≡ true) × (line .0 < lineCount) × SafeOutput output × (620 ≤ length (now out)) ⌝ }
+    requires { ⌜ (wellFormedRegistry (now registry) ≡ true) × (line .0 < lineCount) × SafeOutput output × (outputMost ≤ length (now out)) ⌝ }
     ensures { λ r. ⌜ Wrote (outputBytes (slotsOf (now (registry .entry)) line) output) (now (out .entry)) (now (out .exit)) r ⌝ }
 {
     match output {
@@ -95,7 +97,7 @@ fn write_response(
     line: Line,
     output: Output,
 ) -> usize
-    requires { ⌜ (wellFormedRegistry (now registry) ≡ true) × (line .0 < lineCount) × SafeOutput output × (1024 ≤ length (now out)) ⌝ }
+    requires { ⌜ (wellFormedRegistry (now registry) ≡ true) × (line .0 < lineCount) × SafeOutput output × (bufferLeast ≤ length (now out)) ⌝ }
     ensures { λ r. ⌜ Wrote (responseBytes (h .provider) (h .session) (h .opcode) (statusNumber status) (outputBytes (slotsOf (now (registry .entry)) line) output)) (now (out .entry)) (now (out .exit)) r ⌝ }
 {
     let size = output_size(registry, line, output);
@@ -113,7 +115,7 @@ fn write_response(
 
 // The response to a request that is refused: an empty body.
 fn write_refused(out: &mut [u8], provider: u8, session: u64, opcode: u16, status: Status) -> usize
-    requires { ⌜ 1024 ≤ length (now out) ⌝ }
+    requires { ⌜ bufferLeast ≤ length (now out) ⌝ }
     ensures { λ r. ⌜ Wrote (responseBytes provider session opcode (statusNumber status) []) (now (out .entry)) (now (out .exit)) r ⌝ }
 {
     let head = response_header(provider, session, 0, opcode, status_number(status));
@@ -158,7 +160,7 @@ fn make_edit(registry: &mut [u8], line: Line, body: &[u8], d: Decision)
 
 // A refused request is nobody's: it counts by its status alone.
 fn refuse(out: &mut [u8], h: Header, status: Status) -> Answered
-    requires { ⌜ 1024 ≤ length (now out) ⌝ }
+    requires { ⌜ bufferLeast ≤ length (now out) ⌝ }
     ensures { λ r. ⌜ (r .status ≡ status) × (r .asker ≡ Asker.Nobody) × Wrote (responseBytes (h .provider) (h .session) (h .opcode) (statusNumber status) []) (now (out .entry)) (now (out .exit)) (r .written) ⌝ }
 {
     let written = write_refused(out, h.provider, h.session, h.opcode, status);
@@ -182,7 +184,7 @@ fn decide(h: Header, body: &[u8], registry: &[u8], line: Line) -> Decision
 
 // A request whose header and auth bytes have passed, answered for an application.
 fn answer_named(out: &mut [u8], h: Header, body: &[u8], registry: &mut [u8], line: Line) -> Answered
-    requires { ⌜ PassedHeader h × (wellFormedRegistry (now registry) ≡ true) × (line .0 < lineCount) × (1024 ≤ length (now out)) ⌝ }
+    requires { ⌜ PassedHeader h × (wellFormedRegistry (now registry) ≡ true) × (line .0 < lineCount) × (bufferLeast ≤ length (now out)) ⌝ }
     ensures { λ r. ⌜ ResultAnswered h (resultForNamed h (now (body .entry)) (now (registry .entry)) line) (Asker.Named line) (now (out .entry)) (now (out .exit)) r ⌝ }
     ensures { λ _. ⌜ now (registry .exit) ≡ changed (now (registry .entry)) line (resultForNamed h (now (body .entry)) (now (registry .entry)) line .change) ⌝ }
 {
@@ -200,7 +202,7 @@ fn answer_named(out: &mut [u8], h: Header, body: &[u8], registry: &mut [u8], lin
 
 // The same for nobody that is named: the keystore is not for them.
 fn answer_nobody(out: &mut [u8], h: Header, body: &[u8], registry: &[u8]) -> Answered
-    requires { ⌜ PassedHeader h × (wellFormedRegistry (now registry) ≡ true) × (1024 ≤ length (now out)) ⌝ }
+    requires { ⌜ PassedHeader h × (wellFormedRegistry (now registry) ≡ true) × (bufferLeast ≤ length (now out)) ⌝ }
     ensures { λ r. ⌜ ResultAnswered h (resultForNobody h (now (body .entry))) Asker.Nobody (now (out .entry)) (now (out .exit)) r ⌝ }
 {
     if h.provider == 1 {
@@ -209,6 +211,7 @@ fn answer_nobody(out: &mut [u8], h: Header, body: &[u8], registry: &[u8]) -> Ans
     let d = perform_core(h.opcode, body);
     let status = d.status;
     let output = d.output;
+    // No core output looks at a line.
     let written = write_response(out, h, status, registry, Line(0), output);
     Answered {
         status,
@@ -218,8 +221,8 @@ fn answer_nobody(out: &mut [u8], h: Header, body: &[u8], registry: &[u8]) -> Ans
 }
 
 // A whole request that is not oversized.
-pub fn answer_request(out: &mut [u8], request: &[u8], registry: &mut [u8]) -> Answered
-    requires { ⌜ (legalStart (now request) ≡ true) × (length (now request) ≡ requestLength (now request)) × (oversized (now request) ≡ false) × (wellFormedRegistry (now registry) ≡ true) × (1024 ≤ length (now out)) ⌝ }
+fn answer_request(out: &mut [u8], request: &[u8], registry: &mut [u8]) -> Answered
+    requires { ⌜ (legalStart (now request) ≡ true) × (length (now request) ≡ requestLength (now request)) × (oversized (now request) ≡ false) × (wellFormedRegistry (now registry) ≡ true) × (bufferLeast ≤ length (now out)) ⌝ }
     ensures { λ r. ⌜ AnsweredBy (λ c. judgement .onRequest (now (registry .entry)) c (now (request .entry))) (now (registry .exit)) (now (out .entry)) (now (out .exit)) r ⌝ }
 {
     let h = read_header(request);
@@ -238,8 +241,8 @@ pub fn answer_request(out: &mut [u8], request: &[u8], registry: &mut [u8]) -> An
 }
 
 // An oversized request, from its header: 20 if C is too large, else 11.
-pub fn answer_oversized(out: &mut [u8], header: &[u8]) -> Answered
-    requires { ⌜ (28 ≤ length (now header)) × (1024 ≤ length (now out)) ⌝ }
+fn answer_oversized(out: &mut [u8], header: &[u8]) -> Answered
+    requires { ⌜ (requestLeast ≤ length (now header)) × (bufferLeast ≤ length (now out)) ⌝ }
     ensures { λ r. ⌜ ((registry : List ℕ) → AnsweredBy (λ c. judgement .onOversized registry c (now (header .entry))) registry (now (out .entry)) (now (out .exit)) r) ⌝ }
 {
     let h = read_header(header);
@@ -249,9 +252,18 @@ pub fn answer_oversized(out: &mut [u8], header: &[u8]) -> Answered
     refuse(out, h, Status::AuthenticationError)
 }
 
+// The response to an oversized request, whose header the bytes begin with.
+pub fn answer_skipped(out: &mut [u8], bytes: &[u8]) -> Answered
+    requires { ⌜ (requestLeast ≤ headerLength (now bytes)) × (headerLength (now bytes) ≤ length (now bytes)) × (bufferLeast ≤ length (now out)) ⌝ }
+    ensures { λ r. ⌜ ((registry : List ℕ) → AnsweredBy (λ c. judgement .onOversized registry c (take (headerLength (now (bytes .entry))) (now (bytes .entry)))) registry (now (out .entry)) (now (out .exit)) r) ⌝ }
+{
+    let end = header_length(bytes);
+    answer_oversized(out, &bytes[..end])
+}
+
 // A wrong magic or H: provider, session and opcode are zero.
 pub fn answer_bad_start(out: &mut [u8]) -> Answered
-    requires { ⌜ 1024 ≤ length (now out) ⌝ }
+    requires { ⌜ bufferLeast ≤ length (now out) ⌝ }
     ensures { λ r. ⌜ ((registry : List ℕ) → AnsweredBy (λ c. judgement .onBadStart registry c) registry (now (out .entry)) (now (out .exit)) r) ⌝ }
 {
     let written = write_refused(out, 0, 0, 0, Status::InvalidHeader);
@@ -264,13 +276,11 @@ pub fn answer_bad_start(out: &mut [u8]) -> Answered
 
 // A whole request, oversized or not.
 pub fn answer_whole(out: &mut [u8], request: &[u8], registry: &mut [u8]) -> Answered
-    requires { ⌜ (legalStart (now request) ≡ true) × (length (now request) ≡ requestLength (now request)) × (wellFormedRegistry (now registry) ≡ true) × (1024 ≤ length (now out)) ⌝ }
+    requires { ⌜ (legalStart (now request) ≡ true) × (length (now request) ≡ requestLength (now request)) × (wellFormedRegistry (now registry) ≡ true) × (bufferLeast ≤ length (now out)) ⌝ }
     ensures { λ r. ⌜ AnsweredBy (λ c. judge judgement (now (registry .entry)) c (now (request .entry))) (now (registry .exit)) (now (out .entry)) (now (out .exit)) r ⌝ }
 {
     if is_oversized(request) {
-        let h = read_header(request);
-        let n = 6 + h.size as usize;
-        return answer_oversized(out, &request[..n]);
+        return answer_skipped(out, request);
     }
     answer_request(out, request, registry)
 }

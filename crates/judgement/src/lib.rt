@@ -1,4 +1,5 @@
-// How one request is judged and answered: the order of tests, the six operations, the response.
+// How one request is judged and answered: the order of tests, the six operations, the response ("Order of judgement on one
+// request", "Operations and their fields").
 use protobuf::message::Values;
 use registry::Line;
 use registry::Slot;
@@ -29,6 +30,9 @@ pub enum Status {
     PsaErrorDoesNotExist,
     PsaErrorInsufficientStorage,
 }
+
+// All statuses but Success; each has a counter of the requests refused with it.
+pub const REFUSED_STATUSES: usize = 17;
 
 // What the tests of a header find.
 pub enum Checked {

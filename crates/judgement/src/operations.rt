@@ -1,4 +1,4 @@
-// The six operations: what each comes to. Nothing is changed or written here.
+// The six operations ("Operations and their fields"): what each comes to. Nothing is changed or written here.
 use crate::Decision;
 use crate::Edit;
 use crate::Output;
@@ -9,9 +9,10 @@ use protobuf::message::Kind;
 use protobuf::message::Schema;
 use protobuf::message::Values;
 use protobuf::message::all_absent;
+use registry::DATA_MOST;
 use registry::Found;
+use registry::KEY_NAME_MOST;
 use registry::Line;
-use registry::Slot;
 use registry::find::find_slot;
 use registry::key::is_exportable;
 use registry::names::is_legal;
@@ -24,8 +25,8 @@ ghost use lib.ListN.{length};
 ghost use Rattle.protobuf.specs.Message as message;
 ghost use Rattle.registry.specs.Registry.{lineCount, registrySize, slotsOf};
 ghost use Rattle.registry.specs.WellFormed.{wellFormedRegistry};
-ghost use Rattle.judgement.specs.Operations.{noFields, opcodesFields, importFields, nameFields, performImport, performDestroy, performExport, keyOf, importable};
-ghost use Rattle.judgement.specs.Decided.{refusedWith, Decided, DecidedAnywhere, operated, ValuesIn, oneOfCore, oneOfKeystore};
+ghost use Rattle.judgement.specs.Operations.{operated, noFields, opcodesFields, importFields, nameFields, performImport, performDestroy, performExport, keyOf, importable};
+ghost use Rattle.judgement.specs.Decided.{refusedWith, Decided, DecidedAnywhere, ValuesIn, oneOfCore, oneOfKeystore};
 
 // A request that is refused: no output, and nothing changes.
 pub fn refused(status: Status) -> Decision
@@ -39,7 +40,7 @@ pub fn refused(status: Status) -> Decision
     }
 }
 
-fn no_fields() -> Schema
+pub fn no_fields() -> Schema
     ensures { λ r. ⌜ r ≡ noFields ⌝ }
 {
     Schema {
@@ -51,7 +52,7 @@ fn no_fields() -> Schema
     }
 }
 
-fn opcodes_fields() -> Schema
+pub fn opcodes_fields() -> Schema
     ensures { λ r. ⌜ r ≡ opcodesFields ⌝ }
 {
     Schema {
@@ -63,7 +64,7 @@ fn opcodes_fields() -> Schema
     }
 }
 
-fn import_fields() -> Schema
+pub fn import_fields() -> Schema
     ensures { λ r. ⌜ r ≡ importFields ⌝ }
 {
     Schema {
@@ -75,7 +76,7 @@ fn import_fields() -> Schema
     }
 }
 
-fn name_fields() -> Schema
+pub fn name_fields() -> Schema
     ensures { λ r. ⌜ r ≡ nameFields ⌝ }
 {
     Schema {
@@ -157,13 +158,13 @@ fn is_importable(body: &[u8], v: Values) -> bool
     let bits = v.f3;
     let start = name.start;
     let end = start + name.len;
-    if !is_legal(&body[start..end], 32) {
+    if !is_legal(&body[start..end], KEY_NAME_MOST) {
         return false;
     }
     if bytes.len == 0 {
         return false;
     }
-    if 600 < bytes.len {
+    if DATA_MOST < bytes.len {
         return false;
     }
     are_legal_bits(bits.number as usize)
@@ -184,6 +185,7 @@ fn import(registry: &[u8], line: Line, body: &[u8], v: Values) -> Decision
     let Found::Nothing = same else {
         return refused(Status::PsaErrorAlreadyExists);
     };
+    // The empty name: a free slot.
     let empty = find_slot(registry, line, &body[..0]);
     let Found::At(slot) = empty else {
         return refused(Status::PsaErrorInsufficientStorage);
@@ -201,7 +203,7 @@ fn destroy(registry: &[u8], line: Line, name: &[u8]) -> Decision
     requires { ⌜ (length (now registry) ≡ registrySize) × (line .0 < lineCount) ⌝ }
     ensures { λ r. ⌜ ((body : List ℕ) → Decided (slotsOf (now (registry .entry)) line) body (performDestroy (now (name .entry)) (slotsOf (now (registry .entry)) line)) r) ⌝ }
 {
-    if !is_legal(name, 32) {
+    if !is_legal(name, KEY_NAME_MOST) {
         return refused(Status::PsaErrorInvalidArgument);
     }
     match find_slot(registry, line, name) {
@@ -220,7 +222,7 @@ fn export(registry: &[u8], line: Line, name: &[u8]) -> Decision
     requires { ⌜ (wellFormedRegistry (now registry) ≡ true) × (line .0 < lineCount) ⌝ }
     ensures { λ r. ⌜ ((body : List ℕ) → Decided (slotsOf (now (registry .entry)) line) body (performExport (now (name .entry)) (slotsOf (now (registry .entry)) line)) r) ⌝ }
 {
-    if !is_legal(name, 32) {
+    if !is_legal(name, KEY_NAME_MOST) {
         return refused(Status::PsaErrorInvalidArgument);
     }
     let found = find_slot(registry, line, name);

@@ -1,4 +1,4 @@
-// The order of judgement's third step, up to the body: what the header and the auth bytes decide.
+// The third step of the "Order of judgement on one request", up to the body: what the header and the auth bytes decide.
 use crate::Asker;
 use crate::Auth;
 use crate::Checked;

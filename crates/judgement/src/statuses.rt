@@ -1,7 +1,10 @@
 // The numbers of statuses.
+use crate::REFUSED_STATUSES;
 use crate::Status;
 ghost use mathlib.Core.Path.{_≡_};
-ghost use Rattle.judgement.specs.Status.{statusNumber, refusedStatuses};
+ghost use Prim.Native.Nat.{_<_};
+ghost use lib.ListN.{getD};
+ghost use Rattle.judgement.specs.Status.{statusNumber, refusedStatuses, refusedCount};
 ghost use Rattle.judgement.specs.Counts.{indexOf};
 
 pub fn status_number(status: Status) -> u16
@@ -34,7 +37,7 @@ pub fn refused_index(status: Status) -> usize
     ensures { λ r. ⌜ r ≡ indexOf status refusedStatuses ⌝ }
 {
     match status {
-        Status::Success => 17,
+        Status::Success => REFUSED_STATUSES,
         Status::WrongProviderId => 0,
         Status::ContentTypeNotSupported => 1,
         Status::AcceptTypeNotSupported => 2,
@@ -53,4 +56,33 @@ pub fn refused_index(status: Status) -> usize
         Status::PsaErrorDoesNotExist => 15,
         Status::PsaErrorInsufficientStorage => 16,
     }
+}
+
+// The numbers of the statuses but Success, in the order of their counters.
+const REFUSED_NUMBERS: [u64; REFUSED_STATUSES] = [
+    1,
+    2,
+    3,
+    4,
+    6,
+    7,
+    9,
+    11,
+    12,
+    17,
+    19,
+    20,
+    1133,
+    1135,
+    1139,
+    1140,
+    1142,
+];
+
+// The number of the status whose refused requests counter i counts.
+pub fn refused_number(i: usize) -> u64
+    requires { ⌜ i < refusedCount ⌝ }
+    ensures { λ r. ⌜ r ≡ statusNumber (getD refusedStatuses i Status.Success) ⌝ }
+{
+    REFUSED_NUMBERS[i]
 }

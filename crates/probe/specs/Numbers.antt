@@ -4,14 +4,15 @@ use mathlib.Core.List.{List, [], _∷_}
 use lib.ListN.{length, replicate}
 use lib.Dec.{ltb, eqb}
 use Rattle.wire.specs.Choice.{if_then_else_}
+use Rattle.wire.specs.Request.{requestLeast}
 use Rattle.wire.specs.Header.{headerOf}
 use Rattle.wire.specs.declared.header.Header.{Header}
 use Rattle.protobuf.specs.declared.varint.Varint.{Varint}
 use Rattle.protobuf.specs.declared.varint.Varint.the-variants.{Read, Unreadable as noVarint}
-use Rattle.protobuf.specs.declared.message.Kind.the-variants.{Bytes, Uint32, Boolean, Unlisted}
 use Rattle.protobuf.specs.declared.message.Schema.{Schema}
 use Rattle.protobuf.specs.declared.body.Body.{Body}
 use Rattle.protobuf.specs.declared.body.Body.the-variants.{Message, Unreadable}
+use Rattle.judgement.specs.Operations.{noFields, opcodesFields, importFields, nameFields}
 
 abbrev pub fieldNumbers : Header → List ℕ
 fieldNumbers h =
@@ -19,7 +20,7 @@ fieldNumbers h =
     ∷ h .«content_length» ∷ h .«auth_length» ∷ h .opcode ∷ []
 
 abbrev pub headerNumbers : List ℕ → List ℕ
-headerNumbers bytes = if ltb (length bytes) 28 then replicate 12 0 else fieldNumbers (headerOf bytes)
+headerNumbers bytes = if ltb (length bytes) requestLeast then replicate 12 0 else fieldNumbers (headerOf bytes)
 
 abbrev pub varintNumbers : Varint → List ℕ
 varintNumbers (Read v next) = 1 ∷ v ∷ next ∷ []
@@ -28,10 +29,7 @@ varintNumbers noVarint = 0 ∷ 0 ∷ 0 ∷ []
 -- the schemas of the operations: no fields, ListOpcodes, Import, Destroy and Export
 abbrev pub schemaOf : ℕ → Schema
 schemaOf n =
-    if eqb n 1 then record { k1 = Uint32; k2 = Unlisted; k3 = Unlisted; k4 = Unlisted; k5 = Unlisted }
-    else if eqb n 2 then record { k1 = Bytes; k2 = Bytes; k3 = Uint32; k4 = Boolean; k5 = Boolean }
-    else if eqb n 3 then record { k1 = Bytes; k2 = Unlisted; k3 = Unlisted; k4 = Unlisted; k5 = Unlisted }
-    else record { k1 = Unlisted; k2 = Unlisted; k3 = Unlisted; k4 = Unlisted; k5 = Unlisted }
+    if eqb n 1 then opcodesFields else if eqb n 2 then importFields else if eqb n 3 then nameFields else noFields
 
 abbrev pub bodyNumbers : Body → List ℕ
 bodyNumbers (Message v) =

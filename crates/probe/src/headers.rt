@@ -1,4 +1,5 @@
 // The headers of requests and responses.
+use wire::header::REQUEST_LEAST;
 use wire::header::read_header;
 use wire::response::response_header;
 ghost use mathlib.Core.Path.{_≡_};
@@ -10,7 +11,7 @@ ghost use Rattle.probe.specs.Numbers.{headerNumbers};
 pub extern "C" fn probe_read_header(s: &[u8], out: &mut [u64; 12])
     ensures { λ _. ⌜ now (out .exit) ≡ headerNumbers (now (s .entry)) ⌝ }
 {
-    if s.len() < 28 {
+    if s.len() < REQUEST_LEAST {
         *out = [0, 0, 0, 0, 0, 0, 0, 0, 0, 0, 0, 0];
         return;
     }

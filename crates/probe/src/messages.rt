@@ -1,8 +1,11 @@
 // Message bodies, read and written.
 use crate::REFUSED;
+use judgement::operations::import_fields;
+use judgement::operations::name_fields;
+use judgement::operations::no_fields;
+use judgement::operations::opcodes_fields;
 use protobuf::body::Body;
 use protobuf::body::read_body;
-use protobuf::message::Kind;
 use protobuf::message::Schema;
 use protobuf::varint::Varint;
 use protobuf::varint::read_varint;
@@ -43,39 +46,15 @@ fn schema_of(n: u8) -> Schema
     ensures { λ r. ⌜ r ≡ schemaOf n ⌝ }
 {
     if n == 1 {
-        return Schema {
-            k1: Kind::Uint32,
-            k2: Kind::Unlisted,
-            k3: Kind::Unlisted,
-            k4: Kind::Unlisted,
-            k5: Kind::Unlisted,
-        };
+        return opcodes_fields();
     }
     if n == 2 {
-        return Schema {
-            k1: Kind::Bytes,
-            k2: Kind::Bytes,
-            k3: Kind::Uint32,
-            k4: Kind::Boolean,
-            k5: Kind::Boolean,
-        };
+        return import_fields();
     }
     if n == 3 {
-        return Schema {
-            k1: Kind::Bytes,
-            k2: Kind::Unlisted,
-            k3: Kind::Unlisted,
-            k4: Kind::Unlisted,
-            k5: Kind::Unlisted,
-        };
+        return name_fields();
     }
-    Schema {
-        k1: Kind::Unlisted,
-        k2: Kind::Unlisted,
-        k3: Kind::Unlisted,
-        k4: Kind::Unlisted,
-        k5: Kind::Unlisted,
-    }
+    no_fields()
 }
 
 // The body `s` read against a schema: 1, then start, count and number of each of the five values; or 0 and where the tag

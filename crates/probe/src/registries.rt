@@ -1,11 +1,12 @@
 // The registry: its check, searches, changes, and what a slot holds.
 use crate::REFUSED;
 use registry::Application;
+use registry::DATA_MOST;
 use registry::Found;
+use registry::KEY_NAME_MOST;
 use registry::LINES;
 use registry::Line;
 use registry::REGISTRY_SIZE;
-use registry::RosterFault;
 use registry::SLOTS;
 use registry::Slot;
 use registry::change::clear_slot;
@@ -16,6 +17,7 @@ use registry::find::find_slot;
 use registry::key::is_exportable;
 use registry::key::key_data;
 use registry::roster::Loaded;
+use registry::roster::fault_number;
 use registry::roster::load_roster;
 use wire::bytes::copy_into;
 ghost use mathlib.Core.Path.{_≡_};
@@ -23,7 +25,7 @@ ghost use mathlib.Core.Bool.{_&&_};
 ghost use lib.ListN.{length};
 ghost use lib.Dec.{leb};
 ghost use Rattle.registry.specs.WellFormed.{wellFormedRegistry};
-ghost use Rattle.registry.specs.Roster.{faultNumber, loadRoster};
+ghost use Rattle.registry.specs.Roster.{loadRoster};
 ghost use Rattle.registry.specs.Check.{keyFrom};
 ghost use Rattle.probe.specs.Answers.{WroteIf, ChangedIf, lineFound, slotFound, isClearable, cleared, isFillable, filled, isReadable, dataAt, exportable, loadNumber};
 
@@ -87,10 +89,10 @@ pub extern "C" fn probe_fill_slot(
     if SLOTS <= slot {
         return false;
     }
-    if 32 < name.len() {
+    if KEY_NAME_MOST < name.len() {
         return false;
     }
-    if 600 < bytes.len() {
+    if DATA_MOST < bytes.len() {
         return false;
     }
     fill_slot(
@@ -165,19 +167,6 @@ pub extern "C" fn probe_is_exportable(registry: &[u8], line: usize, slot: usize)
     }
 }
 
-fn fault_number(fault: RosterFault) -> usize
-    ensures { λ r. ⌜ r ≡ faultNumber fault ⌝ }
-{
-    match fault {
-        RosterFault::WrongMemorySize => 0,
-        RosterFault::CutRecord => 1,
-        RosterFault::UnknownTag => 2,
-        RosterFault::BadName => 3,
-        RosterFault::NinthName => 4,
-        RosterFault::RepeatedName => 5,
-    }
-}
-
 // The number of the fault, R0 to R5, or 6 for a good file.
 #[no_mangle]
 pub extern "C" fn probe_load_roster(file: &[u8], registry: &mut [u8]) -> usize
@@ -185,6 +174,6 @@ pub extern "C" fn probe_load_roster(file: &[u8], registry: &mut [u8]) -> usize
 {
     match load_roster(file, registry) {
         Loaded::Good => 6,
-        Loaded::Faulty(fault) => fault_number(fault),
+        Loaded::Faulty(fault) => fault_number(fault) as usize,
     }
 }

@@ -87,7 +87,7 @@ reads-within (suc more) s at n rest h e =
           (reads-within more s (at + 1) (n / 128) rest (omega (arith, pow-suc 128 more)) (first s at (n % 128 + 128) (w ++ rest) e′ .rest)))
     ]
 
-pub reads-varint :
+reads-varint :
     (s : List ℕ) (at n : ℕ) (rest : List ℕ) →
     n < 2 ^ 64 →
     drop at s ≡ varint n ++ rest →

@@ -32,7 +32,7 @@ short-within (suc more) n =
     let next : suc (length (varintWithin more (n / 128))) ≤ suc (suc more) = omega (arith, short-within more (n / 128)) in
     either (λ (l : List ℕ). length l ≤ suc (suc more)) (ltb n 128) (λ _. one) (λ _. next)
 
-pub varint-short : (n : ℕ) → length (varint n) ≤ 10
+varint-short : (n : ℕ) → length (varint n) ≤ 10
 unfolding varint
 varint-short n = short-within 9 n
 
@@ -47,7 +47,7 @@ abbrev pub Small : (k rest : ℕ) → Type 0
 Small k rest = rest < 2 * 128 ^ left k
 
 module _ (k rest : ℕ) (s : Small k rest) (h : 128 ≤ rest) where
-  pub has-room : k < 9
+  has-room : k < 9
   has-room = go (left k) refl s
     where
       go : (more : ℕ) → left k ≡ more → rest < 2 * 128 ^ more → k < 9
@@ -57,10 +57,10 @@ module _ (k rest : ℕ) (s : Small k rest) (h : 128 ≤ rest) where
   one-less : left k ≡ suc (left (k + 1))
   one-less = let r = has-room in omega arith
 
-  pub next-small : Small (k + 1) (rest / 128)
+  next-small : Small (k + 1) (rest / 128)
   next-small = let l : rest < 2 * 128 ^ suc (left (k + 1)) = rw one-less at s in omega (arith, pow-suc 128 (left (k + 1)))
 
-  pub next-byte : varintWithin (left k) rest ≡ (rest % 128 + 128) ∷ varintWithin (left (k + 1)) (rest / 128)
+  next-byte : varintWithin (left k) rest ≡ (rest % 128 + 128) ∷ varintWithin (left (k + 1)) (rest / 128)
   next-byte = rw one-less (goes-on (left (k + 1)) rest h)
 
 -- ---- k bytes of the varint of n are counted
@@ -152,9 +152,3 @@ bytes-field-length number bytes h =
     let tag : List ℕ = varint (8 * number + 2) in
     let size : List ℕ = varint (length bytes) in
     omega (arith, ap length (bytes-field number bytes h), length-append tag (size ++ bytes), length-append size bytes)
-
-pub bytes-field-short : (number : ℕ) (bytes : List ℕ) → length (bytesField number bytes) ≤ length bytes + 20
-bytes-field-short number [] = omega (arith, ap length (bytes-field-none number [] (omega arith)))
-bytes-field-short number (b ∷ bytes) =
-    omega
-    (arith, bytes-field-length number (b ∷ bytes) (omega arith), varint-short (8 * number + 2), varint-short (length (b ∷ bytes)))

@@ -1,4 +1,5 @@
--- A body read field by field: the message, or where the tag of its first unreadable field starts.
+-- A body read field by field: the message, or where the tag of its first unreadable field starts ("Operations and their
+-- fields", Reading).
 use Prim.Native.Nat.{ℕ}
 use mathlib.Core.List.{List}
 use lib.ListN.{length}

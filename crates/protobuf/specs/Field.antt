@@ -1,4 +1,4 @@
--- One field of a body: a tag, then what its wire type says.
+-- One field of a body: a tag, then what its wire type says ("Operations and their fields", Reading).
 use Prim.Native.Nat.{ℕ, _+_, _/_, _%_, _^_}
 use mathlib.Core.List.{List}
 use lib.ListN.{length}

@@ -1,4 +1,4 @@
--- A message as up to five values: which of its field numbers a schema lists, and as what.
+-- A message as up to five values: which of its field numbers a schema lists, and as what ("Operations and their fields", Reading).
 use Prim.Native.Nat.{ℕ, _%_, _^_}
 use mathlib.Core.List.{List}
 use lib.Dec.{eqb}

@@ -1,4 +1,4 @@
-// A body read field by field.
+// A body read field by field ("Operations and their fields").
 use crate::message::Schema;
 use crate::message::Step;
 use crate::message::Values;

@@ -1,4 +1,4 @@
-// One field: a tag, then what its wire type says.
+// One field: a tag, then what its wire type says ("Operations and their fields").
 use crate::varint::Varint;
 use crate::varint::read_varint;
 ghost use mathlib.Core.Path.{_≡_};

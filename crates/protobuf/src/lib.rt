@@ -1,4 +1,5 @@
-// Protocol Buffers: bodies read where they lie (varints, fields, a body against a schema), and fields written.
+// Protocol Buffers: bodies read where they lie (varints, fields, a body against a schema), and fields written ("Operations and
+// their fields").
 pub mod body;
 pub mod field;
 pub mod message;

@@ -1,4 +1,5 @@
-// A message as up to five values: which field numbers are listed, and what a field changes.
+// A message as up to five values: which field numbers are listed, and what a field changes
+// ("Operations and their fields").
 use crate::field::Field;
 use crate::field::read_field;
 ghost use mathlib.Core.Path.{_≡_};

@@ -1,4 +1,4 @@
-// Varints: seven bits a byte, the lowest first, up to ten bytes.
+// Varints: seven bits a byte, the lowest first, up to ten bytes ("Operations and their fields").
 ghost use mathlib.Core.Path.{_≡_};
 ghost use Rattle.protobuf.specs.Varint.{varintAt};
 

@@ -1,4 +1,4 @@
-// Fields written over the front of a lent buffer.
+// Fields written over the front of a lent buffer ("Operations and their fields").
 use wire::bytes::copy_into;
 ghost use mathlib.Core.Path.{_≡_};
 ghost use mathlib.Core.List.{List};
@@ -8,7 +8,7 @@ ghost use Rattle.wire.specs.Wrote.{Wrote};
 ghost use Rattle.protobuf.specs.Written.{varint, numberField, bytesField};
 
 // How many bytes the shortest varint of a number takes.
-pub fn varint_size(n: u64) -> usize
+fn varint_size(n: u64) -> usize
     ensures { λ r. ⌜ (r ≡ length (varint n)) × (r ≤ 10) ⌝ }
 {
     let mut rest = n;

@@ -1,16 +1,16 @@
 -- Laws of names at the beginning of blocks: one turn of the scan, and one turn of the comparison, for every size.
-use mathlib.Core.Path.{_≡_, refl, ap, _∙_}
+use mathlib.Core.Path.{_≡_, sym, ap, _∙_}
 use mathlib.Core.Bool.{true, false, _&&_}
 use mathlib.Core.List.{List, [], _∷_}
-use Prim.Native.Nat.{ℕ, zero, suc, _+_, _-_, _*_, _≤_, _<_}
+use Prim.Native.Nat.{ℕ, _+_, _-_, _*_, _≤_, _<_}
 use native.Mathlib.Nat.{add-zero, suc-mul, mul-le-mul-right}
 use native.Mathlib.Numerals.{add-one}
 use native.Mathlib.Omega.{arith}
 use lib.ListN.{length, take, drop, getD, length-map, List·getD-map, length-take, length-drop, drop-of-length-le}
-use lib.Seq.{drop-cons, drop-drop, take-take, getD-take, getD-drop}
+use lib.Seq.{drop-cons, drop-drop, getD-take, getD-drop}
 use lib.Dec.{eqb}
 use Rattle.wire.specs.Lists.{same, blocks}
-use Rattle.wire.proofs.ListLaws.{part-cons}
+use Rattle.wire.proofs.ListLaws.{part-of-part, part-cons}
 use Rattle.wire.proofs.BlockLaws.{block-at, length-blocks}
 use Rattle.registry.specs.Names.{nameIn, indexFrom, distinct}
 use Rattle.registry.specs.Check.{blockNames}
@@ -18,11 +18,6 @@ use Rattle.registry.proofs.NameLaws.{lone, distinct-cons}
 
 pub fits : (i count size : ℕ) → i < count → i * size + size ≤ count * size
 fits i count size h = rw (← suc-mul i size) (mul-le-mul-right size h)
-
-first-of : (n size : ℕ) (l : List ℕ) → n < size → take n (drop 1 (take size l)) ≡ take n (drop 1 l)
-first-of n zero l h = absurd (omega arith)
-first-of n (suc m) [] h = refl
-first-of n (suc m) (x ∷ l) h = take-take n m l (omega arith)
 
 -- the bytes of block i
 abbrev pub blockAt : ℕ → ℕ → List ℕ → ℕ → List ℕ
@@ -67,7 +62,11 @@ pub name-at : (size : ℕ) (s : List ℕ) (at : ℕ) → 256 ≤ size → getD s
 name-at size s at g h =
     let e : getD (take size (drop at s)) 0 0 ≡ getD s at 0 = getD-take size (drop at s) 0 0 (omega arith) ∙ getD-drop at s 0 0 ∙ ap (λ (k : ℕ). getD s k 0) (add-zero at) in
     let d : at + 1 + getD s at 0 - (at + 1) ≡ getD s at 0 = omega arith in
-    rw (e, d, first-of (getD s at 0) size (drop at s) (omega arith), drop-drop 1 at s)
+    rw (e, d, part-of-part (getD s at 0) 1 size (drop at s) (omega arith), drop-drop 1 at s)
+
+-- and as it is lent, by its length
+pub name-lent : (size : ℕ) (s : List ℕ) (at : ℕ) {n : ℕ} → 256 ≤ size → getD s at 0 < 256 → n ≡ getD s at 0 → take (at + 1 + n - (at + 1)) (drop (at + 1) s) ≡ nameIn (take size (drop at s))
+name-lent size s at g h e = ap (λ (k : ℕ). take (at + 1 + k - (at + 1)) (drop (at + 1) s)) e ∙ sym (name-at size s at g h)
 
 pub name-length : (size : ℕ) (s : List ℕ) (at : ℕ) → 256 ≤ size → at + size ≤ length s → getD s at 0 < 256 → length (nameIn (take size (drop at s))) ≡ getD s at 0
 name-length size s at g f h = rw (name-at size s at g h) (simp (length-take, length-drop) (omega arith))

@@ -4,7 +4,7 @@ use mathlib.Core.Bool.{Bool, true, false, true≢false, not, _&&_, _||_}
 use mathlib.Core.List.{List, [], _∷_, map, flatten}
 use Prim.Native.Nat.{ℕ, suc, _+_, _-_, _*_, _≤_, min}
 use native.Mathlib.Omega.{arith}
-use borrow.Author.Tests.{eqb-true, eq-eqb, ne-eqb}
+use borrow.Author.Tests.{eqb-true, eq-eqb}
 use lib.ListN.{length, take, drop, getD, length-take, length-drop, take-append-drop}
 use lib.Seq.{drop-drop}
 use lib.Dec.{eqb}
@@ -18,6 +18,7 @@ use Rattle.registry.specs.Slots.{slotSize}
 use Rattle.registry.specs.Registry.{lineCount, slotCount, applicationNameMost, lineHead, lineSize, registrySize, linesIn, namesIn, slotsIn}
 use Rattle.registry.specs.WellFormed.{isUsed, noneUsed, usedFirst, legalIfUsed, freeIfUnused, slotsWellFormed, zerosBehindName, keysDistinct, wellFormedRegistry}
 use Rattle.registry.specs.Check.{lineTests, wellFormedLine, usedLines}
+use Rattle.registry.proofs.RegistryLaws.{some-used}
 use Rattle.registry.proofs.WellFormedLaws.{Lines, good-of, well-of, zero-lines}
 
 -- what the code tests
@@ -108,12 +109,12 @@ unused-zeros (l ∷ ls) s p e =
   where
     empty : (n : List ℕ) → not (isUsed n) ≡ true → n ≡ []
     empty [] e = refl
-    empty (x ∷ n) e = absurd (true≢false (sym e ∙ ap (λ (t : Bool). not (not t)) (ne-eqb (suc (length n)) 0 (λ z. (let w : ⊥ = omega arith in w)))))
+    empty (x ∷ n) e = absurd (true≢false (sym e ∙ ap not (some-used (x ∷ n) (let s : 1 ≤ length (x ∷ n) = omega arith in s))))
 
 -- a used line
 module _ (l : List ℕ) (x : ℕ) (n : List ℕ) (named : nameIn l ≡ x ∷ n) where
   is-used : isUsed (nameIn l) ≡ true
-  is-used = ap isUsed named ∙ ap not (ne-eqb (suc (length n)) 0 (λ z. (let w : ⊥ = omega arith in w)))
+  is-used = ap isUsed named ∙ some-used (x ∷ n) (let s : 1 ≤ length (x ∷ n) = omega arith in s)
 
   line-ok : legalIfUsed (nameIn l) ≡ true → slotsWellFormed l ≡ true → zerosBehindName l ≡ true → keysDistinct l ≡ true → wellFormedLine l ≡ true
   unfolding wellFormedLine

@@ -1,7 +1,7 @@
 -- What a well-formed slot holds, read where it lies in the registry.
 use mathlib.Core.Path.{_≡_, refl, sym, ap, _∙_}
 use mathlib.Core.Bool.{Bool, true, false}
-use mathlib.Core.List.{List, []}
+use mathlib.Core.List.{List}
 use Prim.Native.Nat.{ℕ, _+_, _≤_, _<_, min, _-_}
 use native.Mathlib.Omega.{arith}
 use borrow.Author.Tests.{eqb-true, eqb-false}
@@ -12,7 +12,7 @@ use Rattle.wire.specs.Choice.{if_then_else_}
 use Rattle.wire.specs.Lists.{all, isZero}
 use Rattle.wire.specs.Numbers.{field}
 use Rattle.wire.proofs.TestLaws.{every-at}
-use Rattle.wire.proofs.ListLaws.{part-of-part, zero-at}
+use Rattle.wire.proofs.ListLaws.{length-part, part-of-part, zero-at}
 use Rattle.wire.proofs.NumberLaws.{zero-field, field-part}
 use Rattle.registry.specs.Slots.{free, held, dataMost, dataLengthAt, dataAt, exportAt, slotSize, dataIn, keyIn, slotOf, keyTests, wellFormedSlot}
 use Rattle.registry.specs.Registry.{lineCount, slotCount, slotsOf, place}
@@ -65,11 +65,8 @@ module _ (r : List ℕ) (w : wellFormedRegistry r ≡ true) (line : Line) (hl : 
   good : wellFormedSlot slot ≡ true
   good = slot-good r w (line .0) k hl hk
 
-  long : length slot ≡ slotSize
-  long = length-take slotSize (drop at r) ∙ ap (min slotSize) (length-drop at r) ∙ (let x : min slotSize (length r - at) ≡ slotSize = omega arith in x)
-
   pub size-small : field (at + dataLengthAt) 2 r ≤ dataMost
-  size-small = omega (arith, field-part at slotSize dataLengthAt 2 r (omega arith), data-small slot good long)
+  size-small = omega (arith, field-part at slotSize dataLengthAt 2 r (omega arith), data-small slot good (length-part r at slotSize inside))
 
   pub data-there : bytesIn (getD (slotsOf r line) k free) ≡ take (field (at + dataLengthAt) 2 r) (drop (at + dataAt) r)
   data-there =

@@ -1,13 +1,13 @@
 -- Laws of loading a roster file as the code does it: whole records, their faults, one turn of the scan, names kept by place, and
 -- lines written one after another.
 use mathlib.Core.Path.{_≡_, refl, sym, ap, _∙_}
-use mathlib.Core.Bool.{Bool, true, false, not, _||_}
+use mathlib.Core.Bool.{Bool, true, false, not, _||_, or-true}
 use mathlib.Core.Option.{Option, none, some}
 use mathlib.Core.List.{List, [], _∷_, _++_, map, flatten, map-append, append-assoc, append-nil}
 use Prim.Native.Nat.{ℕ, _+_, _-_, _*_, _≤_, _<_}
 use native.Mathlib.Numerals.{add-one}
 use native.Mathlib.Omega.{arith}
-use borrow.Author.Tests.{lt-ltb, le-ltb, ltb-false, leb-false, ne-eqb, eq-eqb}
+use borrow.Author.Tests.{lt-ltb, le-ltb, ltb-false, leb-false, ne-eqb, eq-eqb, not-true}
 use borrow.Rule.Slice.PartMut.{putMid}
 use lib.Dec.{leb, ltb, eqb}
 use lib.ListN.{length, take, drop, getD, set, replicate, length-map, length-set, drop-of-length-le, replicate-append-replicate}
@@ -16,12 +16,12 @@ use Rattle.wire.specs.Choice.{firstOf}
 use Rattle.wire.specs.Lists.{all, padded}
 use Rattle.wire.specs.Numbers.{field}
 use Rattle.wire.specs.Scan.{follow, scanAt}
-use Rattle.wire.proofs.TestLaws.{or-true, or-right, not-true, none-first}
+use Rattle.wire.proofs.TestLaws.{or-right, not-across, none-at}
 use Rattle.wire.proofs.ListLaws.{all-at, all-append, all-take, map-at}
 use Rattle.wire.proofs.BufferLaws.{lent}
 use Rattle.wire.proofs.BlockLaws.{length-flatten, flatten-snoc}
 use Rattle.wire.proofs.ScanLaws.{TurnAhead, scan-end, scan-on}
-use Rattle.registry.specs.Names.{legalName, absent}
+use Rattle.registry.specs.Names.{legalName, isNew}
 use Rattle.registry.specs.Slots.{slotSize}
 use Rattle.registry.specs.Registry.{applicationNameMost, lineCount, slotCount, lineSize, registrySize, lineOf, registryOf}
 use Rattle.registry.specs.Roster.{recordLength, valueIn, recordFaults, Roster, applications, faulty, recordTurn, rosterInto, rosterOf, loadRoster}
@@ -57,57 +57,49 @@ module _ (bytes : List ℕ) where
       let cut : Bool = ltb (length bytes) (recordLength bytes) in
       ltb-false _ _ (or-right short cut (not-true (short || cut) e))
 
+  pub cut-test : {t : Bool} → isWhole bytes ≡ t → ltb (length bytes) 3 || ltb (length bytes) (recordLength bytes) ≡ not t
+  unfolding isWhole
+  cut-test {t} e = not-across _ t e
+
 -- ---- the first fault of a record
 
 module _ (names : List (List ℕ)) (bytes : List ℕ) where
-  cut-test : {t : Bool} → isWhole bytes ≡ t → ltb (length bytes) 3 || ltb (length bytes) (recordLength bytes) ≡ not t
-  unfolding isWhole
-  cut-test {t} e = go _ t e
-    where
-      go : (s t : Bool) → not s ≡ t → s ≡ not t
-      go true t e = ap not e
-      go false t e = ap not e
-
   pub fault-cut : isWhole bytes ≡ false → firstOf (recordFaults names bytes) ≡ some CutRecord
   unfolding recordFaults firstOf
-  fault-cut whole = rw (cut-test whole)
+  fault-cut whole = rw (cut-test bytes whole)
 
   module _ (whole : isWhole bytes ≡ true) where
     pub fault-tag : eqb (field 0 1 bytes) 1 ≡ false → firstOf (recordFaults names bytes) ≡ some UnknownTag
     unfolding recordFaults firstOf
-    fault-tag tag = rw (cut-test whole, tag)
+    fault-tag tag = rw (cut-test bytes whole, tag)
 
     module _ (tag : eqb (field 0 1 bytes) 1 ≡ true) where
       pub fault-name : legalName applicationNameMost (valueIn bytes) ≡ false → firstOf (recordFaults names bytes) ≡ some BadName
       unfolding recordFaults firstOf
-      fault-name legal = rw (cut-test whole, tag, legal)
+      fault-name legal = rw (cut-test bytes whole, tag, legal)
 
       module _ (legal : legalName applicationNameMost (valueIn bytes) ≡ true) where
         pub fault-ninth : leb lineCount (length names) ≡ true → firstOf (recordFaults names bytes) ≡ some NinthName
         unfolding recordFaults firstOf
-        fault-ninth ninth = rw (cut-test whole, tag, legal, ninth)
+        fault-ninth ninth = rw (cut-test bytes whole, tag, legal, ninth)
 
-        pub fault-repeated : leb lineCount (length names) ≡ false → absent (valueIn bytes) names ≡ false → firstOf (recordFaults names bytes) ≡ some RepeatedName
+        pub fault-repeated : leb lineCount (length names) ≡ false → isNew (valueIn bytes) names ≡ false → firstOf (recordFaults names bytes) ≡ some RepeatedName
         unfolding recordFaults firstOf
-        fault-repeated ninth repeated = rw (cut-test whole, tag, legal, ninth, repeated)
+        fault-repeated ninth repeated = rw (cut-test bytes whole, tag, legal, ninth, repeated)
 
-        pub fault-none : leb lineCount (length names) ≡ false → absent (valueIn bytes) names ≡ true → firstOf (recordFaults names bytes) ≡ none
+        pub fault-none : leb lineCount (length names) ≡ false → isNew (valueIn bytes) names ≡ true → firstOf (recordFaults names bytes) ≡ none
         unfolding recordFaults firstOf
-        fault-none ninth repeated = rw (cut-test whole, tag, legal, ninth, repeated)
+        fault-none ninth repeated = rw (cut-test bytes whole, tag, legal, ninth, repeated)
 
   -- a record without a fault is whole, and there is room for its name
   module _ (e : firstOf (recordFaults names bytes) ≡ none) where
     pub passed-whole : isWhole bytes ≡ true
     unfolding recordFaults isWhole
-    passed-whole = ap not (none-first _ _ _ e .0)
+    passed-whole = ap not (none-at (recordFaults names bytes) 0 CutRecord e)
 
     pub passed-room : length names < lineCount
     unfolding recordFaults
-    passed-room =
-        let e₁ = none-first _ _ _ e .1 in
-        let e₂ = none-first _ _ _ e₁ .1 in
-        let e₃ = none-first _ _ _ e₂ .1 in
-        leb-false _ _ (none-first _ _ _ e₃ .0)
+    passed-room = leb-false _ _ (none-at (recordFaults names bytes) 3 NinthName e)
 
 pub loaded-good : (o : Option RosterFault) → loadedOf o ≡ Good → o ≡ none
 unfolding loadedOf
@@ -153,7 +145,7 @@ module _ (file : List ℕ) where
 -- ---- the names kept by place
 
 module _ (file : List ℕ) (names : Names) (w : Within file names) where
-  pub places-many : length (take (names .count) (names .starts)) ≡ names .count
+  places-many : length (take (names .count) (names .starts)) ≡ names .count
   places-many = length-take-le (names .count) (names .starts) (omega (arith, w .few, w .places))
 
   pub names-many : length (namesAt file names) ≡ names .count
@@ -199,7 +191,7 @@ module _ (file : List ℕ) (names : Names) (w : Within file names) where
 -- ---- lines written one after another
 
 -- zeros behind the name, up to the line's end
-pub line-padded : (name : List ℕ) → length name ≤ applicationNameMost → lineOf name ≡ length name ∷ padded (lineSize - 1) name
+line-padded : (name : List ℕ) → length name ≤ applicationNameMost → lineOf name ≡ length name ∷ padded (lineSize - 1) name
 unfolding lineOf
 line-padded name h =
     let n : ℕ = applicationNameMost - length name in

@@ -1,17 +1,17 @@
 -- Laws of names: where one is found, and that another name put into a list of distinct ones keeps them distinct.
 use mathlib.Core.Path.{_≡_, refl, sym, ap₂, _∙_}
-use mathlib.Core.Bool.{Bool, true, false, not, _&&_}
+use mathlib.Core.Bool.{Bool, true, false, true≢false, not, _&&_}
 use mathlib.Core.List.{List, [], _∷_, _++_}
 use Prim.Native.Nat.{ℕ, zero, suc, _+_, _-_, _≤_, _<_}
 use native.Mathlib.Omega.{arith}
-use borrow.Author.Tests.{leb-true, ne-eqb}
+use borrow.Author.Tests.{leb-true, ne-eqb, not-true}
 use lib.ListN.{length, getD, set}
 use lib.Dec.{leb, eqb}
 use Rattle.wire.specs.Choice.{if_then_else_}
 use Rattle.wire.specs.Lists.{all, same}
-use Rattle.wire.proofs.TestLaws.{and-left, and-right, every-at, not-true}
+use Rattle.wire.proofs.TestLaws.{and-left, and-right, every-at}
 use Rattle.wire.proofs.ListLaws.{same-comm, all-append, all-set}
-use Rattle.registry.specs.Names.{isNameByte, legalName, indexFrom, absent, distinct}
+use Rattle.registry.specs.Names.{isNameByte, legalName, indexFrom, isNew, distinct}
 
 -- ---- a legal name
 
@@ -28,15 +28,6 @@ module _ (most : ℕ) (name : List ℕ) (legal : legalName most name ≡ true) w
   legal-short = leb-true _ _ (every-at tests 1 legal)
 
 -- ---- the index of a name
-
-pub index-le : (x : List ℕ) (ys : List (List ℕ)) (i : ℕ) → indexFrom x ys i ≤ i + length ys
-unfolding indexFrom
-index-le x [] i = omega arith
-index-le x (y ∷ ys) i = go (index-le x ys (i + 1)) (same x y)
-  where
-    go : indexFrom x ys (i + 1) ≤ i + 1 + length ys → (t : Bool) → (if t then i else indexFrom x ys (i + 1)) ≤ i + suc (length ys)
-    go r true = omega arith
-    go r false = omega arith
 
 index-from : (x : List ℕ) (ys : List (List ℕ)) (i : ℕ) → i ≤ indexFrom x ys i
 unfolding indexFrom
@@ -61,24 +52,13 @@ index-same x (y ∷ ys) i h = go (λ u. index-same x ys (i + 1) u) (same x y) re
         let z : indexFrom x ys (i + 1) - i ≡ suc (indexFrom x ys (i + 1) - (i + 1)) = omega (arith, index-from x ys (i + 1)) in
         rw z (r (omega arith))
 
--- the index says whether the name is absent
-pub index-found : (x : List ℕ) (ys : List (List ℕ)) (i : ℕ) → indexFrom x ys i < i + length ys → absent x ys ≡ false
-unfolding indexFrom
-index-found x [] i h = absurd (let z : ⊥ = omega arith in z)
-index-found x (y ∷ ys) i h = go (λ u. index-found x ys (i + 1) u) (same x y) h
-  where
-    go : (indexFrom x ys (i + 1) < i + 1 + length ys → absent x ys ≡ false) → (t : Bool)
-        → (if t then i else indexFrom x ys (i + 1)) < i + suc (length ys) → not t && absent x ys ≡ false
-    go r true u = refl
-    go r false u = r (omega arith)
-
-pub index-none : (x : List ℕ) (ys : List (List ℕ)) (i : ℕ) → i + length ys ≤ indexFrom x ys i → absent x ys ≡ true
+pub index-none : (x : List ℕ) (ys : List (List ℕ)) (i : ℕ) → i + length ys ≤ indexFrom x ys i → isNew x ys ≡ true
 unfolding indexFrom
 index-none x [] i h = refl
 index-none x (y ∷ ys) i h = go (λ u. index-none x ys (i + 1) u) (same x y) h
   where
-    go : (i + 1 + length ys ≤ indexFrom x ys (i + 1) → absent x ys ≡ true) → (t : Bool)
-        → i + suc (length ys) ≤ (if t then i else indexFrom x ys (i + 1)) → not t && absent x ys ≡ true
+    go : (i + 1 + length ys ≤ indexFrom x ys (i + 1) → isNew x ys ≡ true) → (t : Bool)
+        → i + suc (length ys) ≤ (if t then i else indexFrom x ys (i + 1)) → not t && isNew x ys ≡ true
     go r true u = absurd (let z : ⊥ = omega arith in z)
     go r false u = r (omega arith)
 
@@ -87,7 +67,7 @@ index-none x (y ∷ ys) i h = go (λ u. index-none x ys (i + 1) u) (same x y) h
 -- x, unless it is empty, is none of the names
 abbrev pub lone : List ℕ → List (List ℕ) → Bool
 lone [] ys = true
-lone (a ∷ x) ys = absent (a ∷ x) ys
+lone (a ∷ x) ys = isNew (a ∷ x) ys
 
 pub distinct-cons : (x : List ℕ) (xs : List (List ℕ)) → distinct (x ∷ xs) ≡ lone x xs && distinct xs
 unfolding distinct
@@ -98,11 +78,11 @@ pub lone-empty : (x : List ℕ) (ys : List (List ℕ)) → length x ≡ 0 → lo
 lone-empty [] ys e = refl
 lone-empty (a ∷ x) ys e = absurd (let z : ⊥ = omega arith in z)
 
-pub lone-named : (x : List ℕ) (ys : List (List ℕ)) → (length x ≡ 0 → ⊥) → lone x ys ≡ absent x ys
+pub lone-named : (x : List ℕ) (ys : List (List ℕ)) → (length x ≡ 0 → ⊥) → lone x ys ≡ isNew x ys
 lone-named [] ys h = absurd (h refl)
 lone-named (a ∷ x) ys h = refl
 
-pub lone-absent : (y : List ℕ) (xs : List (List ℕ)) → absent y xs ≡ true → lone y xs ≡ true
+pub lone-absent : (y : List ℕ) (xs : List (List ℕ)) → isNew y xs ≡ true → lone y xs ≡ true
 lone-absent [] xs e = refl
 lone-absent (a ∷ y) xs e = e
 
@@ -116,11 +96,11 @@ apart-empty [] = tt
 apart-empty ([] ∷ xs) = (refl, apart-empty xs)
 apart-empty ((a ∷ x) ∷ xs) = (refl, apart-empty xs)
 
-pub apart-absent : (y : List ℕ) (xs : List (List ℕ)) → absent y xs ≡ true → Apart y xs
+pub apart-absent : (y : List ℕ) (xs : List (List ℕ)) → isNew y xs ≡ true → Apart y xs
 apart-absent y [] e = tt
 apart-absent y (x ∷ xs) e = (
-  go x (same-comm x y ∙ not-true (same y x) (and-left (not (same y x)) (absent y xs) e)),
-  apart-absent y xs (and-right (not (same y x)) (absent y xs) e),
+  go x (same-comm x y ∙ not-true (same y x) (and-left (not (same y x)) (isNew y xs) e)),
+  apart-absent y xs (and-right (not (same y x)) (isNew y xs) e),
 )
   where
     go : (x : List ℕ) → same x y ≡ false → lone x (y ∷ []) ≡ true
@@ -129,7 +109,7 @@ apart-absent y (x ∷ xs) e = (
 
 lone-tail : (y x : List ℕ) (xs : List (List ℕ)) → lone y (x ∷ xs) ≡ true → lone y xs ≡ true
 lone-tail [] x xs e = refl
-lone-tail (a ∷ y) x xs e = and-right (not (same (a ∷ y) x)) (absent (a ∷ y) xs) e
+lone-tail (a ∷ y) x xs e = and-right (not (same (a ∷ y) x)) (isNew (a ∷ y) xs) e
 
 lone-set : (x y : List ℕ) (xs : List (List ℕ)) (k : ℕ) → lone x xs ≡ true → lone x (y ∷ []) ≡ true → lone x (set xs k y) ≡ true
 lone-set [] y xs k e h = refl
@@ -165,4 +145,4 @@ pub distinct-empty : (xs : List (List ℕ)) → all (λ x. eqb (length x) 0) xs 
 unfolding distinct
 distinct-empty [] e = refl
 distinct-empty ([] ∷ xs) e = distinct-empty xs e
-distinct-empty ((a ∷ x) ∷ xs) e = absurd (let z : ⊥ = mathlib.Core.Bool.true≢false (sym (and-left (eqb (suc (length x)) 0) _ e) ∙ ne-eqb (suc (length x)) 0 (λ q. (let w : ⊥ = omega arith in w))) in z)
+distinct-empty ((a ∷ x) ∷ xs) e = absurd (let z : ⊥ = true≢false (sym (and-left (eqb (suc (length x)) 0) _ e) ∙ ne-eqb (suc (length x)) 0 (λ q. (let w : ⊥ = omega arith in w))) in z)

@@ -12,10 +12,9 @@ use lib.Dec.{ltb}
 use Rattle.wire.specs.Choice.{if_then_else_}
 use Rattle.wire.specs.Lists.{same}
 use Rattle.wire.proofs.TestLaws.{and-left, and-right, some≢none}
-use Rattle.wire.proofs.ListLaws.{part-of-part, same-true}
+use Rattle.wire.proofs.ListLaws.{part-of-part, same-true, map-at}
 use Rattle.wire.proofs.BlockLaws.{length-blocks, block-at}
-use Rattle.wire.proofs.ListLaws.{map-at}
-use Rattle.registry.specs.Names.{nameIn, indexFrom, absent}
+use Rattle.registry.specs.Names.{nameIn, indexFrom, isNew}
 use Rattle.registry.specs.Slots.{Entry, free, nameOf, slotOf, slotSize}
 use Rattle.registry.specs.Registry.{lineCount, slotCount, lineHead, lineSize, namesIn, slotsIn, applicationNamed, lineAt, slotsOf, slotNamed, place}
 use Rattle.registry.specs.WellFormed.{isUsed}
@@ -27,6 +26,9 @@ use Rattle.registry.proofs.NameLaws.{index-same, index-none}
 use Rattle.registry.proofs.SlotLaws.{name-of}
 
 -- ---- the application that is found
+
+pub some-used : (name : List ℕ) → 1 ≤ length name → isUsed name ≡ true
+some-used name h = ap not (ne-eqb (length name) 0 (λ z. (let w : ⊥ = omega arith in w)))
 
 pub record Used (registry : List ℕ) (line : Line) : Type 0 where
   pub there : line .0 < lineCount
@@ -54,10 +56,7 @@ named-used registry name line e = go (ltb 0 (length name) && ltb i lineCount) re
         let found : same name (getD (namesIn registry) (line .0) []) ≡ true
         = subst (λ (m : ℕ). same name (getD (namesIn registry) m []) ≡ true) at (index-same name (namesIn registry) 0 below) in
         let long : length name ≡ length (getD (namesIn registry) (line .0) []) = ap length (same-true name _ found) in
-        record {
-          there = omega arith;
-          used = ap not (ne-eqb (length (getD (namesIn registry) (line .0) [])) 0 (λ z. (let w : ⊥ = omega arith in w)));
-        }
+        record { there = omega arith; used = some-used (getD (namesIn registry) (line .0) []) (omega arith) }
 
 -- ---- the slot that is found
 
@@ -70,16 +69,12 @@ slotNumber : Found → ℕ
 slotNumber (At slot) = slot .0
 slotNumber Nothing = 0
 
-IsAt : Found → Type 0
-IsAt (At slot) = Unit {0}
-IsAt Nothing = ⊥
-
 module _ (name : List ℕ) (slots : List Entry) where
   k : ℕ
   k = indexFrom name (map nameOf slots) 0
 
   pub found-below : (slot : Slot) → slotNamed name slots ≡ At slot → slot .0 < length slots
-  unfolding slotNamed slotNumber IsAt k
+  unfolding slotNamed slotNumber k
   found-below slot e = go (ltb k (length slots)) refl e
     where
       go : (t : Bool) → ltb k (length slots) ≡ t → (let found : Found = if t then At (record { 0 = k }) else Nothing in found) ≡ At slot → slot .0 < length slots
@@ -87,10 +82,10 @@ module _ (name : List ℕ) (slots : List Entry) where
           let n : k ≡ slot .0 = ap slotNumber w in
           let h : k < length slots = ltb-true _ _ q in
           omega arith
-      go false q w = absurd (subst IsAt (sym w) tt)
+      go false q w = absurd (let z : _≡_ {A = ℕ} 0 1 = cc in omega arith)
 
   pub found-name : (slot : Slot) → slotNamed name slots ≡ At slot → nameOf (getD slots (slot .0) free) ≡ name
-  unfolding slotNamed slotNumber IsAt k
+  unfolding slotNamed slotNumber k
   found-name slot e = go (ltb k (length slots)) refl e
     where
       go : (t : Bool) → ltb k (length slots) ≡ t → (let found : Found = if t then At (record { 0 = k }) else Nothing in found) ≡ At slot
@@ -101,18 +96,22 @@ module _ (name : List ℕ) (slots : List Entry) where
           let below : k < 0 + length (map nameOf slots) = omega (arith, length-map slots nameOf) in
           sym (same-true name _ (subst (λ (m : ℕ). same name (getD (map nameOf slots) m []) ≡ true) n (index-same name (map nameOf slots) 0 below))
           ∙ map-at nameOf slots (slot .0) free [] h)
-      go false q w = absurd (subst IsAt (sym w) tt)
+      go false q w = cc
 
-  pub found-none : slotNamed name slots ≡ Nothing → absent name (map nameOf slots) ≡ true
-  unfolding slotNamed IsAt k
+  pub found-none : slotNamed name slots ≡ Nothing → isNew name (map nameOf slots) ≡ true
+  unfolding slotNamed k
   found-none e = go (ltb k (length slots)) refl e
     where
       go : (t : Bool) → ltb k (length slots) ≡ t → (let found : Found = if t then At (record { 0 = k }) else Nothing in found) ≡ Nothing
-          → absent name (map nameOf slots) ≡ true
-      go true q w = absurd (subst IsAt w tt)
+          → isNew name (map nameOf slots) ≡ true
+      go true q w = cc
       go false q w =
           let h : length slots ≤ k = ltb-false _ _ q in
           index-none name (map nameOf slots) 0 (let x : 0 + length (map nameOf slots) ≤ k = omega (arith, length-map slots nameOf) in x)
+
+-- a slot that was found is one of the application's
+pub slot-below : (registry : List ℕ) (line : Line) (name : List ℕ) (slot : Slot) → slotNamed name (slotsOf registry line) ≡ At slot → slot .0 < slotCount
+slot-below registry line name slot e = omega (arith, length-slots registry line, found-below name (slotsOf registry line) slot e)
 
 -- the slots' names, where they lie
 pub slot-names : (bs : List (List ℕ)) → map nameOf (map slotOf bs) ≡ map nameIn bs
@@ -120,14 +119,17 @@ slot-names [] = refl
 slot-names (b ∷ bs) = λ i. name-of b i ∷ slot-names bs i
 
 -- slot k of line l, where it lies in the registry
+pub slot-place : (registry : List ℕ) (l k : ℕ) → k < slotCount
+    → take slotSize (drop (k * slotSize) (drop lineHead (lineAt registry l))) ≡ take slotSize (drop (place l k) registry)
+slot-place registry l k h =
+    ap (take slotSize) (drop-drop (k * slotSize) lineHead (lineAt registry l))
+    ∙ part-of-part slotSize (lineHead + k * slotSize) lineSize (drop (l * lineSize) registry) (omega arith)
+    ∙ ap (take slotSize) (drop-drop (lineHead + k * slotSize) (l * lineSize) registry)
+
 pub slot-there : (registry : List ℕ) (line : Line) (k : ℕ) → k < slotCount
     → getD (slotsOf registry line) k free ≡ slotOf (take slotSize (drop (place (line .0) k) registry))
 unfolding slotsOf
 slot-there registry line k h =
     let l : List ℕ = lineAt registry (line .0) in
     map-at slotOf (slotsIn l) k [] free (rw (length-blocks slotSize slotCount (drop lineHead l)) h)
-    ∙ ap slotOf
-    (block-at slotSize slotCount (drop lineHead l) k h
-    ∙ ap (take slotSize) (drop-drop (k * slotSize) lineHead l)
-    ∙ part-of-part slotSize (lineHead + k * slotSize) lineSize (drop (line .0 * lineSize) registry) (omega arith)
-    ∙ ap (take slotSize) (drop-drop (lineHead + k * slotSize) (line .0 * lineSize) registry))
+    ∙ ap slotOf (block-at slotSize slotCount (drop lineHead l) k h ∙ slot-place registry (line .0) k h)

@@ -4,26 +4,26 @@ use mathlib.Core.Bool.{Bool, true, false, not, _&&_, _||_}
 use mathlib.Core.Option.{Option, none, some}
 use mathlib.Core.List.{List, [], _∷_, _++_, map, flatten, append-assoc}
 use Prim.Native.Nat.{ℕ, zero, suc, _+_, _-_, _*_, _≤_, _<_}
-use native.Mathlib.Nat.{suc-mul, add-comm}
 use native.Mathlib.Omega.{arith}
-use borrow.Author.Tests.{ne-eqb, leb-false}
+use borrow.Author.Tests.{leb-false, not-false}
 use lib.ListN.{length, take, drop, replicate, length-append, length-replicate, length-map, replicate-append-replicate}
 use lib.Seq.{take-at, drop-at, take-append-seam, drop-append-seam, drop-drop}
 use lib.Dec.{eqb}
 use Rattle.wire.specs.Choice.{if_then_else_, firstOf}
 use Rattle.wire.specs.Lists.{all, isZero, same, padded, blocks}
-use Rattle.wire.proofs.TestLaws.{and-left, and-right, not-false, none-first, some≢none}
+use Rattle.wire.proofs.TestLaws.{and-left, and-right, some≢none, none-at}
 use Rattle.wire.proofs.ListLaws.{all-append, all-zeros, length-padded}
-use Rattle.wire.proofs.BlockLaws.{Sized, length-flatten, blocks-flatten, zero-blocks}
+use Rattle.wire.proofs.BlockLaws.{skip, Sized, length-flatten, blocks-flatten, zero-blocks}
 use Rattle.wire.proofs.ScanLaws.{TurnHas, scan-has}
-use Rattle.registry.specs.Names.{legalName, nameIn, absent, distinct}
+use Rattle.registry.specs.Names.{legalName, nameIn, isNew, distinct}
 use Rattle.registry.specs.Slots.{slotSize}
 use Rattle.registry.specs.Registry.{lineCount, slotCount, applicationNameMost, lineHead, lineSize, registrySize, linesIn, namesIn, slotsIn, lineOf, registryOf}
 use Rattle.registry.specs.WellFormed.{isUsed, noneUsed, usedFirst, zerosBehindName, wellFormedRegistry}
-use Rattle.registry.specs.Roster.{valueIn, recordFaults, Roster, applications, faulty, recordTurn, rosterOf, RosterOutcome, rosterInto, loadRoster}
+use Rattle.registry.specs.Roster.{faultNumber, valueIn, recordFaults, Roster, applications, faulty, recordTurn, rosterOf, RosterOutcome, rosterInto, loadRoster}
 use Rattle.registry.specs.declared.RosterFault.{RosterFault}
-use Rattle.registry.specs.declared.RosterFault.the-variants.{WrongMemorySize}
+use Rattle.registry.specs.declared.RosterFault.the-variants.{WrongMemorySize, CutRecord, UnknownTag, BadName, NinthName, RepeatedName}
 use Rattle.registry.proofs.NameLaws.{legal-some, legal-short, lone, distinct-cons, apart-absent, distinct-snoc}
+use Rattle.registry.proofs.RegistryLaws.{some-used}
 use Rattle.registry.proofs.WellFormedLaws.{Lines, well-of, zeros-good, zeros-distinct, zero-lines}
 
 -- ---- what reading a roster collects: at most eight legal, distinct names
@@ -40,12 +40,9 @@ pub record LegalNames (names : List (List ℕ)) : Type 0 where
 legal-more : (names : List (List ℕ)) (bytes : List ℕ) → LegalNames names → firstOf (recordFaults names bytes) ≡ none → LegalNames (names ++ (valueIn bytes ∷ []))
 unfolding recordFaults
 legal-more names bytes l e =
-    let e₁ = none-first _ _ _ e .1 in
-    let e₂ = none-first _ _ _ e₁ .1 in
-    let (bad, e₃) = none-first _ _ _ e₂ in
-    let (nine, e₄) = none-first _ _ _ e₃ in
-    let (again, e₅) = none-first _ _ _ e₄ in
-    let room : length names < lineCount = leb-false _ _ nine in
+    let bad = none-at (recordFaults names bytes) 2 BadName e in
+    let again = none-at (recordFaults names bytes) 4 RepeatedName e in
+    let room : length names < lineCount = leb-false _ _ (none-at (recordFaults names bytes) 3 NinthName e) in
     record {
       few = rw (length-append names (valueIn bytes ∷ [])) (let x : length names + 1 ≤ lineCount = omega arith in x);
       legal = all-append isLegal names (valueIn bytes ∷ []) (l .legal) (ap₂ _&&_ (not-false (isLegal (valueIn bytes)) bad) refl);
@@ -99,9 +96,7 @@ module _ (name : List ℕ) (legal : isLegal name ≡ true) where
   line-name = ap (take (length name)) (append-assoc name zerosAfter slotZeros) ∙ take-append-seam name (zerosAfter ++ slotZeros)
 
   line-used : isUsed (nameIn (lineOf name)) ≡ true
-  line-used =
-      let s = legal-some applicationNameMost name legal in
-      ap isUsed line-name ∙ ap not (ne-eqb (length name) 0 (λ z. (let w : ⊥ = omega arith in w)))
+  line-used = ap isUsed line-name ∙ some-used name (legal-some applicationNameMost name legal)
 
   line-slots : all (λ slot. all isZero slot) (slotsIn (lineOf name)) ≡ true
   unfolding lineOf
@@ -160,7 +155,7 @@ lone-then-empty : (k : ℕ) (x : List ℕ) (xs : List (List ℕ)) → lone x xs 
 lone-then-empty k [] xs e = refl
 lone-then-empty k (a ∷ x) xs e = all-append (λ z. not (same (a ∷ x) z)) xs (replicate k []) e (empty k)
   where
-    empty : (k : ℕ) → absent (a ∷ x) (replicate k []) ≡ true
+    empty : (k : ℕ) → isNew (a ∷ x) (replicate k []) ≡ true
     empty zero = refl
     empty (suc k) = empty k
 
@@ -179,10 +174,9 @@ flatten-zeros : (k : ℕ) → flatten (replicate k zeroLine) ≡ replicate (k * 
 unfolding zeroLine flatten
 flatten-zeros zero = refl
 flatten-zeros (suc k) =
-    let e : suc k * lineSize ≡ lineSize + k * lineSize = suc-mul k lineSize ∙ add-comm (k * lineSize) lineSize in
     ap (λ (r : List ℕ). replicate lineSize 0 ++ r) (flatten-zeros k)
     ∙ replicate-append-replicate lineSize (k * lineSize) 0
-    ∙ ap (λ (n : ℕ). replicate n 0) (sym e)
+    ∙ ap (λ (n : ℕ). replicate n 0) (sym (skip lineSize k))
 
 flatten-lines : (k : ℕ) (bs : List (List ℕ)) → flatten (bs ++ replicate k zeroLine) ≡ flatten bs ++ replicate (k * lineSize) 0
 unfolding flatten
@@ -262,3 +256,14 @@ roster-good file memory e = go (eqb (length memory) registrySize) e
         o .fault ≡ none → wellFormedRegistry (o .registry) ≡ true)
     go false f = absurd (some≢none WrongMemorySize f)
     go true f = read (rosterOf file) refl f
+
+-- ---- a fault's number is small
+
+pub fault-small : (fault : RosterFault) → faultNumber fault ≤ 5
+unfolding faultNumber
+fault-small WrongMemorySize = omega arith
+fault-small CutRecord = omega arith
+fault-small UnknownTag = omega arith
+fault-small BadName = omega arith
+fault-small NinthName = omega arith
+fault-small RepeatedName = omega arith

@@ -1,6 +1,6 @@
 -- Laws of a slot's bytes: a key written is read as itself, and a key that Import allows is a well-formed slot.
 use mathlib.Core.Path.{_≡_, refl, sym, ap, _∙_}
-use mathlib.Core.Bool.{Bool, true, false}
+use mathlib.Core.Bool.{Bool, true, false, or-true, or-false}
 use mathlib.Core.List.{List, [], _∷_, _++_, append-assoc}
 use Prim.Native.Nat.{ℕ, zero, suc, _+_, _-_, _≤_, _<_}
 use native.Mathlib.Omega.{arith}
@@ -11,7 +11,7 @@ use lib.Dec.{leb, eqb}
 use Rattle.wire.specs.Choice.{if_then_else_}
 use Rattle.wire.specs.Lists.{all, every, isZero, padded}
 use Rattle.wire.specs.Numbers.{littleEndianOf, field}
-use Rattle.wire.proofs.TestLaws.{every-at, or-true, or-false}
+use Rattle.wire.proofs.TestLaws.{every-at}
 use Rattle.wire.proofs.ListLaws.{all-zeros, length-padded}
 use Rattle.wire.proofs.NumberLaws.{length-number, field-back}
 use Rattle.registry.specs.Names.{legalName, nameIn}
@@ -122,7 +122,7 @@ module _ (key : Key) (hn : length (key .name) ≤ keyNameMost) (hd : length (key
   unfolding keyBytes
   first-back = refl
 
-  pub name-back : nameIn (keyBytes key) ≡ key .name
+  name-back : nameIn (keyBytes key) ≡ key .name
   unfolding keyBytes
   name-back =
       ap (take (length (key .name))) (from-name ∙ append-assoc (key .name) (replicate (keyNameMost - length (key .name)) 0) fromSize)
@@ -154,7 +154,7 @@ module _ (key : Key) (hn : length (key .name) ≤ keyNameMost) (hd : length (key
   flag-back true = refl
   flag-back false = refl
 
-  pub key-back : keyIn (keyBytes key) ≡ key
+  key-back : keyIn (keyBytes key) ≡ key
   key-back = λ j. record {
     name = name-back j;
     bytes = data-back j;

@@ -6,14 +6,14 @@ use Prim.Native.Nat.{ℕ, zero, suc, _+_, _-_, _*_, _≤_, _<_, min}
 use native.Mathlib.Omega.{arith}
 use borrow.Author.Tests.{eqb-true, eq-eqb}
 use lib.ListN.{length, take, drop, getD, set, length-take, length-drop, List·getD-map, length-map}
-use lib.Seq.{getD-take, map-set-same, length-take-le, drop-drop}
+use lib.Seq.{getD-take, map-set-same}
 use lib.Dec.{eqb}
 use Rattle.wire.specs.Lists.{all, isZero, put, blocks}
 use Rattle.wire.proofs.TestLaws.{and-left, and-right, every-at}
-use Rattle.wire.proofs.ListLaws.{part-of-part, all-at, all-set, all-take, all-drop, zero-at, map-set}
+use Rattle.wire.proofs.ListLaws.{length-part, part-of-part, all-at, all-set, all-take, all-drop, zero-at, map-set}
 use Rattle.wire.proofs.PutLaws.{length-put, take-put, drop-put}
 use Rattle.wire.proofs.BlockLaws.{length-blocks, block-at, all-block, zero-blocks, blocks-put, blocks-put-whole}
-use Rattle.registry.specs.Names.{legalName, nameIn, absent, distinct}
+use Rattle.registry.specs.Names.{legalName, nameIn, isNew, distinct}
 use Rattle.registry.specs.Slots.{Key, Entry, free, keyBytes, slotBytes, slotOf, slotSize, wellFormedSlot}
 use Rattle.registry.specs.Registry.{lineCount, slotCount, applicationNameMost, lineHead, lineSize, registrySize, linesIn, namesIn, slotsIn, lineAt, slotsOf, slotNamed, Change, unchanged, fill, clear, place, changed}
 use Rattle.registry.specs.WellFormed.{isUsed, noneUsed, usedFirst, legalIfUsed, freeIfUnused, slotsWellFormed, zerosBehindName, keysDistinct, registryTests, wellFormedRegistry}
@@ -22,7 +22,7 @@ use Rattle.registry.specs.declared.Slot.{Slot}
 use Rattle.registry.specs.declared.Found.the-variants.{At, Nothing}
 use Rattle.registry.proofs.NameLaws.{legal-short, lone, lone-absent, Apart, apart-empty, apart-absent, distinct-set, distinct-empty}
 use Rattle.registry.proofs.SlotLaws.{Legal, ShortEntry, entry-short, free-good, key-good, key-length, key-name}
-use Rattle.registry.proofs.RegistryLaws.{Used, length-slots, found-below, found-none, slot-names}
+use Rattle.registry.proofs.RegistryLaws.{Used, found-none, slot-below, slot-names, slot-place}
 
 -- ---- the clauses, one by one
 
@@ -64,10 +64,10 @@ well-of registry g =
 -- ---- lines of zeros
 
 module _ (line : List ℕ) (z : all isZero line ≡ true) where
-  pub zero-name : nameIn line ≡ []
+  zero-name : nameIn line ≡ []
   zero-name = ap (λ (n : ℕ). take n (drop 1 line)) (zero-at line 0 z)
 
-  pub zero-slots : all (λ slot. all isZero slot) (slotsIn line) ≡ true
+  zero-slots : all (λ slot. all isZero slot) (slotsIn line) ≡ true
   zero-slots = zero-blocks slotCount slotSize (drop lineHead line) (all-drop isZero lineHead line z)
 
   zero-free : freeIfUnused line ≡ true
@@ -169,13 +169,11 @@ module _ (r : List ℕ) (g : Good r) (l : ℕ) (hl : l < lineCount) where
   many : l < length (linesIn r)
   many = rw (length-blocks lineSize lineCount r) hl
 
-  pub line-there : line ≡ lineAt r l
+  line-there : line ≡ lineAt r l
   line-there = block-at lineSize lineCount r l hl
 
   line-long : length line ≡ lineSize
-  line-long =
-      ap length line-there
-      ∙ length-take-le lineSize (drop (l * lineSize) r) (rw length-drop (let x : lineSize ≤ length r - l * lineSize = omega (arith, g .size) in x))
+  line-long = ap length line-there ∙ length-part r (l * lineSize) lineSize (omega (arith, g .size))
 
   name-there : getD (namesIn r) l [] ≡ nameIn line
   name-there = List·getD-map nameIn (linesIn r) l []
@@ -262,36 +260,27 @@ module _ (r : List ℕ) (w : wellFormedRegistry r ≡ true) (line : Line) (a : U
   names : List (List ℕ)
   names = map nameIn (slotsIn (lineIn r (line .0)))
 
-  absent-name : (name : List ℕ) → slotNamed name (slotsOf r line) ≡ Nothing → absent name names ≡ true
+  absent-name : (name : List ℕ) → slotNamed name (slotsOf r line) ≡ Nothing → isNew name names ≡ true
   unfolding slotsOf names
   absent-name name e =
-      ap (λ (l : List ℕ). absent name (map nameIn (slotsIn l))) (line-there r (good-of r w) (line .0) (a .there))
-      ∙ sym (ap (absent name) (slot-names (slotsIn (lineAt r (line .0)))))
+      ap (λ (l : List ℕ). isNew name (map nameIn (slotsIn l))) (line-there r (good-of r w) (line .0) (a .there))
+      ∙ sym (ap (isNew name) (slot-names (slotsIn (lineAt r (line .0)))))
       ∙ found-none name (slotsOf r line) e
 
-  below : (name : List ℕ) (slot : Slot) → slotNamed name (slotsOf r line) ≡ At slot → slot .0 < slotCount
-  below name slot e = omega (arith, found-below name (slotsOf r line) slot e, length-slots r line)
-
-  change-kept : (c : Change) → Allowed (slotsOf r line) c → (wellFormedRegistry (changed r line c) ≡ true) × (namesIn (changed r line c) ≡ namesIn r)
+  -- the registry stays well formed, and keeps the applications' names
+  pub change-kept : (c : Change) → Allowed (slotsOf r line) c → (wellFormedRegistry (changed r line c) ≡ true) × (namesIn (changed r line c) ≡ namesIn r)
   unfolding changed names slotBytes
   change-kept unchanged stays = (w, refl)
   change-kept (fill slot key) (fills legal n e) =
       let missing = absent-name (key .name) n in
       let name : nameIn (keyBytes key) ≡ key .name = key-name key legal in
-      let (good, same) = kept-after r (good-of r w) (line .0) (a .there) (a .used) (slot .0) (below [] slot e) (keyBytes key) (key-length key legal) (key-good key legal)
+      let (good, same) = kept-after r (good-of r w) (line .0) (a .there) (a .used) (slot .0) (slot-below r line [] slot e) (keyBytes key) (key-length key legal) (key-good key legal)
       (ap (λ (x : List ℕ). lone x names) name ∙ lone-absent (key .name) names missing)
       (subst (λ (x : List ℕ). Apart x names) (sym name) (apart-absent (key .name) names missing)) in
       (well-of _ good, same)
   change-kept (clear slot) (clears name e) =
-      let (good, same) = kept-after r (good-of r w) (line .0) (a .there) (a .used) (slot .0) (below name slot e) (slotBytes free) refl free-good refl (apart-empty names) in
+      let (good, same) = kept-after r (good-of r w) (line .0) (a .there) (a .used) (slot .0) (slot-below r line name slot e) (slotBytes free) refl free-good refl (apart-empty names) in
       (well-of _ good, same)
-
-  pub change-good : (c : Change) → Allowed (slotsOf r line) c → wellFormedRegistry (changed r line c) ≡ true
-  change-good c ok = change-kept c ok .0
-
-  -- no operation changes the applications' names
-  pub change-names : (c : Change) → Allowed (slotsOf r line) c → namesIn (changed r line c) ≡ namesIn r
-  change-names c ok = change-kept c ok .1
 
 -- ---- what a well-formed registry holds
 
@@ -305,10 +294,7 @@ pub slot-good : (r : List ℕ) → wellFormedRegistry r ≡ true → (l k : ℕ)
 slot-good r w l k hl hk =
     let g = good-of r w in
     let slots : slotsWellFormed (lineAt r l) ≡ true = subst (λ (x : List ℕ). slotsWellFormed x ≡ true) (line-there r g l hl) (slots-there r g l hl) in
-    subst (λ (x : List ℕ). wellFormedSlot x ≡ true)
-    (ap (take slotSize) (drop-drop (k * slotSize) lineHead (lineAt r l))
-    ∙ part-of-part slotSize (lineHead + k * slotSize) lineSize (drop (l * lineSize) r) (omega arith)
-    ∙ ap (take slotSize) (drop-drop (lineHead + k * slotSize) (l * lineSize) r))
+    subst (λ (x : List ℕ). wellFormedSlot x ≡ true) (slot-place r l k hk)
     (all-block wellFormedSlot slotSize slotCount (drop lineHead (lineAt r l)) k hk slots)
 
 -- the data of a slot is short

@@ -7,6 +7,7 @@ use native.Mathlib.Omega.{arith}
 use lib.ListN.{length, take, drop, set, length-set, length-append, length-drop}
 use lib.Seq.{take-suc-set, take-at, take-all, length-take-le}
 use borrow.Rule.Slice.PartMut.{putMid}
+use Rattle.wire.proofs.ListLaws.{length-part}
 
 pub record Written (n : ℕ) (s p : List ℕ) (a : ℕ) : Type 0 where
   pub long : length s ≡ n
@@ -17,13 +18,13 @@ start n s e = record { long = e; front = refl }
 
 module _ {n : ℕ} {s p : List ℕ} {a : ℕ} (w : Written n s p a) where
   -- one byte more
-  pub put-byte : (x : ℕ) → a < n → Written n (set s a x) (p ++ (x ∷ [])) (a + 1)
+  put-byte : (x : ℕ) → a < n → Written n (set s a x) (p ++ (x ∷ [])) (a + 1)
   put-byte x h =
       let b : a < length s = omega (arith, w .long) in
       record { long = length-set s a x ∙ w .long; front = rw add-one (take-suc-set s a x b ∙ ap (λ (q : List ℕ). q ++ (x ∷ [])) (w .front)) }
 
   -- a part more, as it comes back from a loan
-  pub put-part : (k : ℕ) (v : List ℕ) → a + k ≤ n → length v ≡ k → Written n (putMid a k s v) (p ++ v) (a + k)
+  put-part : (k : ℕ) (v : List ℕ) → a + k ≤ n → length v ≡ k → Written n (putMid a k s v) (p ++ v) (a + k)
   put-part k v h e =
       let b : a ≤ length s = omega (arith, w .long) in
       let t : length (take a s) ≡ a = length-take-le a s b in
@@ -48,4 +49,4 @@ module _ {n : ℕ} {s p : List ℕ} {a : ℕ} (w : Written n s p a) where
 
   -- the part that is lent has as many bytes as were asked
   pub part-length : (k : ℕ) → a + k ≤ n → length (take k (drop a s)) ≡ k
-  part-length k h = length-take-le k (drop a s) (let x : k ≤ length (drop a s) = rw length-drop (let y : k ≤ length s - a = omega (arith, w .long) in y) in x)
+  part-length k h = length-part s a k (omega (arith, w .long))

@@ -9,7 +9,7 @@ use lib.Dec.{ltb}
 use Rattle.wire.specs.Lists.{all, every, blocks}
 use Rattle.registry.specs.Names.{legalName, nameIn, indexFrom}
 use Rattle.registry.specs.Slots.{Key, Entry, free, held}
-use Rattle.registry.specs.Registry.{applicationNameMost, lineCount, lineSize, namesIn}
+use Rattle.registry.specs.Registry.{applicationNameMost, lineCount, namesIn}
 use Rattle.registry.specs.WellFormed.{slotsWellFormed, zerosBehindName, keysDistinct}
 use Rattle.registry.specs.Roster.{recordLength, valueIn, Roster, applications, faulty, rosterOf}
 use Rattle.registry.specs.declared.Line.{Line}

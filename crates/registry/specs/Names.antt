@@ -1,4 +1,4 @@
--- Names of keys and of applications, and where a name stands among others.
+-- Names of keys and of applications, and where a name stands among others ("Roster, registry, connection, tally").
 use Prim.Native.Nat.{ℕ, _+_}
 use mathlib.Core.Bool.{Bool, true, not, _&&_}
 use mathlib.Core.List.{List, [], _∷_}
@@ -24,11 +24,11 @@ indexFrom x [] i = i
 indexFrom x (y ∷ ys) i = if same x y then i else indexFrom x ys (i + 1)
 
 -- none of the names is x
-abbrev pub absent : List ℕ → List (List ℕ) → Bool
-absent x ys = all (λ y. not (same x y)) ys
+abbrev pub isNew : List ℕ → List (List ℕ) → Bool
+isNew x ys = all (λ y. not (same x y)) ys
 
 -- no name but the empty one stands twice
 unfoldable pub distinct : List (List ℕ) → Bool
 distinct [] = true
 distinct ([] ∷ names) = distinct names
-distinct ((b ∷ name) ∷ names) = absent (b ∷ name) names && distinct names
+distinct ((b ∷ name) ∷ names) = isNew (b ∷ name) names && distinct names

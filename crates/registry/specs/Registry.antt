@@ -1,8 +1,9 @@
--- The registry's bytes as applications and their slots, and what a change of a slot writes.
+-- The registry's bytes as applications and their slots, and what a change of a slot writes ("Roster, registry, connection,
+-- tally"; docs/LAYOUT.md).
 use Prim.Native.Nat.{ℕ, _+_, _*_}
-use mathlib.Core.Bool.{Bool, _&&_}
+use mathlib.Core.Bool.{_&&_}
 use mathlib.Core.Option.{Option, none, some}
-use mathlib.Core.List.{List, [], _∷_, _++_, map, flatten}
+use mathlib.Core.List.{List, _∷_, _++_, map, flatten}
 use lib.ListN.{length, take, drop, replicate}
 use lib.Dec.{ltb}
 use Rattle.wire.specs.Choice.{if_then_else_}

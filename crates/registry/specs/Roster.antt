@@ -1,4 +1,5 @@
--- The roster file: application names, read into a registry without keys, or the first fault.
+-- The roster file: application names, read into a registry without keys, or the first fault ("Roster, registry, connection,
+-- tally", R0 to R5).
 use Prim.Native.Nat.{ℕ, _+_}
 use mathlib.Core.Bool.{Bool, _||_, not}
 use mathlib.Core.Option.{Option, none, some}
@@ -8,7 +9,7 @@ use lib.Dec.{leb, ltb, eqb}
 use Rattle.wire.specs.Choice.{if_then_else_, firstOf}
 use Rattle.wire.specs.Numbers.{field}
 use Rattle.wire.specs.Scan.{Turn, on, out, scanAt}
-use Rattle.registry.specs.Names.{legalName, absent}
+use Rattle.registry.specs.Names.{legalName, isNew}
 use Rattle.registry.specs.Registry.{applicationNameMost, lineCount, registrySize, registryOf}
 use Rattle.registry.specs.declared.RosterFault.{RosterFault}
 use Rattle.registry.specs.declared.RosterFault.the-variants.{WrongMemorySize, CutRecord, UnknownTag, BadName, NinthName, RepeatedName}
@@ -36,7 +37,7 @@ recordFaults names bytes =
     ∷ (not (eqb (field 0 1 bytes) 1), UnknownTag)
     ∷ (not (legalName applicationNameMost (valueIn bytes)), BadName)
     ∷ (leb lineCount (length names), NinthName)
-    ∷ (not (absent (valueIn bytes) names), RepeatedName)
+    ∷ (not (isNew (valueIn bytes) names), RepeatedName)
     ∷ []
 
 pub data Roster : Type 0 where

@@ -36,9 +36,15 @@ dataMost = 600
 unfoldable pub legalData : List ℕ → Bool
 legalData bytes = every (leb 1 (length bytes) ∷ leb (length bytes) dataMost ∷ [])
 
--- 1,024 to 4,096 in multiples of 8
+-- 1,024 to 4,096 in multiples of 8: the registry's rule; Import has its own
+abbrev pub bitsLeast : ℕ
+bitsLeast = 1024
+
+abbrev pub bitsMost : ℕ
+bitsMost = 4096
+
 unfoldable pub legalBits : ℕ → Bool
-legalBits bits = every (leb 1024 bits ∷ leb bits 4096 ∷ eqb (bits % 8) 0 ∷ [])
+legalBits bits = every (leb bitsLeast bits ∷ leb bits bitsMost ∷ eqb (bits % 8) 0 ∷ [])
 
 -- ---- its bytes, and where each part lies
 

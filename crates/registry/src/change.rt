@@ -1,16 +1,15 @@
-// A slot filled with a key, or cleared. All other bytes of the registry stay.
-use crate::LINE_HEAD;
-use crate::LINE_SIZE;
+// A slot filled with a key, or cleared ("Operations and their fields"). All other bytes of the registry stay.
 use crate::Line;
 use crate::SLOT_SIZE;
 use crate::Slot;
+use crate::find::slot_at;
 use crate::slots::write_key;
 use wire::bytes::clear;
 ghost use mathlib.Core.Path.{_≡_};
 ghost use Prim.Native.Nat.{_≤_, _<_};
 ghost use lib.ListN.{length};
 ghost use Rattle.registry.specs.Slots.{keyNameMost, dataMost};
-ghost use Rattle.registry.specs.Registry.{lineCount, slotCount, registrySize, Change, changed};
+ghost use Rattle.registry.specs.Registry.{lineCount, slotCount, registrySize, changed};
 ghost use Rattle.registry.specs.Registry as registry_specs;
 ghost use Rattle.registry.specs.Check.{keyFrom};
 
@@ -27,9 +26,7 @@ pub fn fill_slot(
     requires { ⌜ (length (now registry) ≡ registrySize) × (line .0 < lineCount) × (slot .0 < slotCount) × (length (now name) ≤ keyNameMost) × (length (now bytes) ≤ dataMost) ⌝ }
     ensures { λ _. ⌜ now (registry .exit) ≡ changed (now (registry .entry)) line (registry_specs.fill slot (keyFrom (now (name .entry)) (now (bytes .entry)) bits exported verified)) ⌝ }
 {
-    let l = line.0;
-    let k = slot.0;
-    let a = l * LINE_SIZE + (LINE_HEAD + k * SLOT_SIZE);
+    let a = slot_at(line, slot);
     let e = a + SLOT_SIZE;
     write_key(&mut registry[a..e], name, bytes, bits, exported, verified);
 }
@@ -38,9 +35,7 @@ pub fn clear_slot(registry: &mut [u8], line: Line, slot: Slot)
     requires { ⌜ (length (now registry) ≡ registrySize) × (line .0 < lineCount) × (slot .0 < slotCount) ⌝ }
     ensures { λ _. ⌜ now (registry .exit) ≡ changed (now (registry .entry)) line (registry_specs.clear slot) ⌝ }
 {
-    let l = line.0;
-    let k = slot.0;
-    let a = l * LINE_SIZE + (LINE_HEAD + k * SLOT_SIZE);
+    let a = slot_at(line, slot);
     let e = a + SLOT_SIZE;
     clear(&mut registry[a..e]);
 }

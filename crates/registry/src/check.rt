@@ -1,4 +1,5 @@
-// Whether bytes are a registry: document 01's C4.
+// Whether bytes are a registry ("Roster, registry, connection, tally"): document 01's C4.
+use crate::APPLICATION_NAME_MOST;
 use crate::LINE_HEAD;
 use crate::LINE_SIZE;
 use crate::LINES;
@@ -13,10 +14,9 @@ use crate::slots::is_slot;
 use wire::bytes::all_zero;
 ghost use mathlib.Core.Path.{_≡_};
 ghost use Prim.Native.Nat.{_≤_};
-ghost use lib.ListN.{length, drop};
+ghost use lib.ListN.{length};
 ghost use Rattle.wire.specs.Lists.{all, blocks};
-ghost use Rattle.registry.specs.Slots.{slotSize, wellFormedSlot};
-ghost use Rattle.registry.specs.Registry.{lineCount, slotCount, lineHead, lineSize, registrySize};
+ghost use Rattle.registry.specs.Registry.{lineCount, lineSize, registrySize};
 ghost use Rattle.registry.specs.WellFormed.{slotsWellFormed, wellFormedRegistry};
 ghost use Rattle.registry.specs.Check.{wellFormedLine};
 
@@ -44,7 +44,7 @@ fn is_line(line: &[u8]) -> bool
 {
     let n = wide(line[0]);
     let e = 1 + n;
-    if !is_legal(&line[1..e], 64) {
+    if !is_legal(&line[1..e], APPLICATION_NAME_MOST) {
         return false;
     }
     if !all_zero(&line[e..LINE_HEAD]) {
@@ -80,6 +80,7 @@ pub fn is_well_formed(registry: &[u8]) -> bool
     if registry.len() != REGISTRY_SIZE {
         return false;
     }
+    // The empty name: an unused line.
     let n = scan(registry, 0, LINE_SIZE, LINES, 0, &registry[..0]);
     let a = n * LINE_SIZE;
     if !all_zero(&registry[a..]) {

@@ -1,4 +1,4 @@
-// Where an application, and one of its slots, lies in the registry.
+// Where an application, and one of its slots, lies in the registry ("Roster, registry, connection, tally").
 use crate::Application;
 use crate::Found;
 use crate::LINE_HEAD;
@@ -12,8 +12,18 @@ use crate::names::scan;
 ghost use mathlib.Core.Path.{_≡_};
 ghost use Prim.Native.Nat.{_<_};
 ghost use lib.ListN.{length};
-ghost use Rattle.registry.specs.Registry.{lineCount, lineSize, registrySize, applicationNamed, slotsOf, slotNamed};
+ghost use Rattle.registry.specs.Registry.{lineCount, slotCount, registrySize, place, applicationNamed, slotsOf, slotNamed};
 ghost use Rattle.registry.specs.Check.{applicationFound};
+
+// Where a slot begins in the registry.
+pub fn slot_at(line: Line, slot: Slot) -> usize
+    requires { ⌜ (line .0 < lineCount) × (slot .0 < slotCount) ⌝ }
+    ensures { λ r. ⌜ r ≡ place (line .0) (slot .0) ⌝ }
+{
+    let l = line.0;
+    let k = slot.0;
+    l * LINE_SIZE + (LINE_HEAD + k * SLOT_SIZE)
+}
 
 // The application with the name; none has the empty name.
 pub fn find_application(registry: &[u8], name: &[u8]) -> Application

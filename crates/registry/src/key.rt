@@ -1,9 +1,10 @@
-// What a slot holds, read where it lies.
-use crate::LINE_HEAD;
-use crate::LINE_SIZE;
+// What a slot holds, read where it lies ("Roster, registry, connection, tally").
+use crate::DATA_AT;
+use crate::DATA_LENGTH_AT;
+use crate::EXPORT_AT;
 use crate::Line;
-use crate::SLOT_SIZE;
 use crate::Slot;
+use crate::find::slot_at;
 use crate::slots::size_at;
 ghost use mathlib.Core.Path.{_≡_};
 ghost use mathlib.Core.Bool.{true};
@@ -19,11 +20,9 @@ pub fn key_data<'a>(registry: &'a [u8], line: Line, slot: Slot) -> &'a [u8]
     requires { ⌜ (wellFormedRegistry (now registry) ≡ true) × (line .0 < lineCount) × (slot .0 < slotCount) ⌝ }
     ensures { λ r. ⌜ now r ≡ bytesIn (getD (slotsOf (now (registry .entry)) line) (slot .0) free) ⌝ }
 {
-    let l = line.0;
-    let k = slot.0;
-    let a = l * LINE_SIZE + (LINE_HEAD + k * SLOT_SIZE);
-    let d = size_at(registry, a + 33);
-    let f = a + 35;
+    let a = slot_at(line, slot);
+    let d = size_at(registry, a + DATA_LENGTH_AT);
+    let f = a + DATA_AT;
     let e = f + d;
     &registry[f..e]
 }
@@ -33,8 +32,6 @@ pub fn is_exportable(registry: &[u8], line: Line, slot: Slot) -> bool
     requires { ⌜ (wellFormedRegistry (now registry) ≡ true) × (line .0 < lineCount) × (slot .0 < slotCount) ⌝ }
     ensures { λ r. ⌜ r ≡ exportIn (getD (slotsOf (now (registry .entry)) line) (slot .0) free) ⌝ }
 {
-    let l = line.0;
-    let k = slot.0;
-    let a = l * LINE_SIZE + (LINE_HEAD + k * SLOT_SIZE);
-    registry[a + 637] == 1
+    let a = slot_at(line, slot);
+    registry[a + EXPORT_AT] == 1
 }

@@ -1,4 +1,4 @@
-// The registry of applications and their keys, in memory that the caller lends.
+// The registry of applications and their keys, in lent memory ("Roster, registry, connection, tally").
 pub mod change;
 pub mod check;
 pub mod find;
@@ -7,11 +7,34 @@ pub mod names;
 pub mod roster;
 pub mod slots;
 
+pub const KEY_NAME_MOST: usize = 32;
+
+pub const DATA_MOST: usize = 600;
+
+// The bits of a key that a registry may hold: its rule; Import has its own.
+pub const BITS_LEAST: usize = 1024;
+
+pub const BITS_MOST: usize = 4096;
+
+pub const APPLICATION_NAME_MOST: usize = 64;
+
+// Where the parts of a slot lie: the name's length and the name come first.
+pub const DATA_LENGTH_AT: usize = 1 + KEY_NAME_MOST;
+
+pub const DATA_AT: usize = DATA_LENGTH_AT + 2;
+
+pub const BITS_AT: usize = DATA_AT + DATA_MOST;
+
+pub const EXPORT_AT: usize = BITS_AT + 2;
+
+pub const VERIFY_AT: usize = EXPORT_AT + 1;
+
+pub const SLOT_SIZE: usize = VERIFY_AT + 1;
+
 pub const SLOTS: usize = 4;
 
-pub const SLOT_SIZE: usize = 639;
-
-pub const LINE_HEAD: usize = 65;
+// A line: the name's length and the name, then the slots.
+pub const LINE_HEAD: usize = 1 + APPLICATION_NAME_MOST;
 
 pub const LINE_SIZE: usize = LINE_HEAD + SLOTS * SLOT_SIZE;
 

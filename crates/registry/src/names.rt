@@ -1,4 +1,5 @@
-// Names: which are legal, and where one stands among blocks that begin with names.
+// Names: which are legal, and where one stands among blocks that begin with names
+// ("Roster, registry, connection, tally").
 use wire::bytes::equal;
 ghost use mathlib.Core.Path.{_≡_};
 ghost use mathlib.Core.Bool.{not};
@@ -6,9 +7,10 @@ ghost use Prim.Native.Nat.{_+_, _*_, _≤_, _<_};
 ghost use lib.Dec.{eqb};
 ghost use lib.ListN.{length, drop};
 ghost use Rattle.wire.specs.Lists.{all};
-ghost use Rattle.registry.specs.Names.{isNameByte, legalName, indexFrom, absent, distinct};
+ghost use Rattle.registry.specs.Names.{isNameByte, legalName, indexFrom, isNew, distinct};
 ghost use Rattle.registry.specs.Check.{blockNames};
 
+// A byte as a size. The contract also says its bound, which proofs need of a name's length byte.
 pub fn wide(x: u8) -> usize
     ensures { λ r. ⌜ (r ≡ x) × (r < 256) ⌝ }
 {
@@ -87,7 +89,7 @@ pub fn scan(s: &[u8], head: usize, size: usize, count: usize, from: usize, name:
 // Whether one of the blocks from `from` on has the name.
 fn is_among(s: &[u8], head: usize, size: usize, count: usize, from: usize, name: &[u8]) -> bool
     requires { ⌜ (length (now s) ≡ head + count * size) × (256 ≤ size) × (from ≤ count) ⌝ }
-    ensures { λ r. ⌜ r ≡ not (absent (now (name .entry)) (drop from (blockNames head size count (now (s .entry))))) ⌝ }
+    ensures { λ r. ⌜ r ≡ not (isNew (now (name .entry)) (drop from (blockNames head size count (now (s .entry))))) ⌝ }
 {
     let mut i = from;
     while i < count {

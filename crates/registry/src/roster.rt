@@ -1,4 +1,5 @@
-// A roster file read into memory lent for the registry: document 01's R0 to R5.
+// A roster file read into memory lent for the registry ("Roster, registry, connection, tally"): document 01's R0 to R5.
+use crate::APPLICATION_NAME_MOST;
 use crate::LINE_SIZE;
 use crate::LINES;
 use crate::REGISTRY_SIZE;
@@ -15,15 +16,29 @@ ghost use Prim.Native.Nat.{_≤_, _<_};
 ghost use lib.ListN.{length, drop, getD};
 ghost use Rattle.wire.specs.Choice.{firstOf};
 ghost use Rattle.wire.specs.Lists.{all};
-ghost use Rattle.registry.specs.Names.{legalName, absent};
+ghost use Rattle.registry.specs.Names.{legalName, isNew};
 ghost use Rattle.registry.specs.Registry.{applicationNameMost, lineCount, lineSize, registrySize, lineOf, registryOf};
-ghost use Rattle.registry.specs.Roster.{recordLength, valueIn, recordFaults, loadRoster};
+ghost use Rattle.registry.specs.Roster.{faultNumber, recordLength, valueIn, recordFaults, loadRoster};
 ghost use Rattle.registry.specs.Check.{loadedOf, isWhole, namesAt, withName, Within, RosterKnown};
 
 // What loading a roster file gives.
 pub enum Loaded {
     Good,
     Faulty(RosterFault),
+}
+
+// Document 01's number of a fault: R0 to R5.
+pub fn fault_number(fault: RosterFault) -> u32
+    ensures { λ r. ⌜ r ≡ faultNumber fault ⌝ }
+{
+    match fault {
+        RosterFault::WrongMemorySize => 0,
+        RosterFault::CutRecord => 1,
+        RosterFault::UnknownTag => 2,
+        RosterFault::BadName => 3,
+        RosterFault::NinthName => 4,
+        RosterFault::RepeatedName => 5,
+    }
 }
 
 // Where the names' records begin in a roster file: the first `count` of `starts`.
@@ -81,7 +96,7 @@ fn name_at<'a>(file: &'a [u8], names: Names, i: usize) -> &'a [u8]
 // Whether a name is one of those before it.
 fn is_repeated(file: &[u8], names: Names, name: &[u8]) -> bool
     requires { ⌜ Within (now file) names ⌝ }
-    ensures { λ r. ⌜ r ≡ not (absent (now (name .entry)) (namesAt (now (file .entry)) names)) ⌝ }
+    ensures { λ r. ⌜ r ≡ not (isNew (now (name .entry)) (namesAt (now (file .entry)) names)) ⌝ }
 {
     let mut i = 0;
     while i < names.count {
@@ -106,7 +121,7 @@ fn check_record(file: &[u8], at: usize, names: Names) -> Loaded
         return Loaded::Faulty(RosterFault::UnknownTag);
     }
     let name = value_in(bytes);
-    if !is_legal(name, 64) {
+    if !is_legal(name, APPLICATION_NAME_MOST) {
         return Loaded::Faulty(RosterFault::BadName);
     }
     if LINES <= names.count {

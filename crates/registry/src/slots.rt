@@ -1,4 +1,13 @@
-// The bytes of a slot: whether they are well formed, and a key written into them.
+// The bytes of a slot, checked and written ("Roster, registry, connection, tally").
+use crate::BITS_AT;
+use crate::BITS_LEAST;
+use crate::BITS_MOST;
+use crate::DATA_AT;
+use crate::DATA_LENGTH_AT;
+use crate::DATA_MOST;
+use crate::EXPORT_AT;
+use crate::KEY_NAME_MOST;
+use crate::VERIFY_AT;
 use crate::names::is_legal;
 use crate::names::wide;
 use wire::bytes::all_zero;
@@ -22,14 +31,14 @@ pub fn size_at(s: &[u8], at: usize) -> usize
     read_u16(s, at) as usize
 }
 
-// Whether a key may have this many bits.
+// Whether a key in a registry may have this many bits.
 pub fn are_legal_bits(bits: usize) -> bool
     ensures { λ r. ⌜ r ≡ legalBits bits ⌝ }
 {
-    if bits < 1024 {
+    if bits < BITS_LEAST {
         return false;
     }
-    if 4096 < bits {
+    if BITS_MOST < bits {
         return false;
     }
     bits % 8 == 0
@@ -45,30 +54,30 @@ pub fn is_slot(s: &[u8]) -> bool
         return all_zero(s);
     }
     let e = 1 + n;
-    if !is_legal(&s[1..e], 32) {
+    if !is_legal(&s[1..e], KEY_NAME_MOST) {
         return false;
     }
-    if !all_zero(&s[e..33]) {
+    if !all_zero(&s[e..DATA_LENGTH_AT]) {
         return false;
     }
-    let d = size_at(s, 33);
+    let d = size_at(s, DATA_LENGTH_AT);
     if d == 0 {
         return false;
     }
-    if 600 < d {
+    if DATA_MOST < d {
         return false;
     }
-    let f = 35 + d;
-    if !all_zero(&s[f..635]) {
+    let f = DATA_AT + d;
+    if !all_zero(&s[f..BITS_AT]) {
         return false;
     }
-    if !are_legal_bits(size_at(s, 635)) {
+    if !are_legal_bits(size_at(s, BITS_AT)) {
         return false;
     }
-    if 1 < s[637] {
+    if 1 < s[EXPORT_AT] {
         return false;
     }
-    s[638] <= 1
+    s[VERIFY_AT] <= 1
 }
 
 // Writes the bytes of `src` and then zeros.
@@ -109,10 +118,13 @@ pub fn write_key(
     ensures { λ _. ⌜ now (slot .exit) ≡ keyBytes (keyFrom (now (name .entry)) (now (bytes .entry)) bits exported verified) ⌝ }
 {
     slot[0] = (name.len() % 256) as u8;
-    write_padded(&mut slot[1..33], name);
-    write_u16(&mut slot[33..35], (bytes.len() % 65536) as u16);
-    write_padded(&mut slot[35..635], bytes);
-    write_u16(&mut slot[635..637], bits);
-    slot[637] = flag_byte(exported);
-    slot[638] = flag_byte(verified);
+    write_padded(&mut slot[1..DATA_LENGTH_AT], name);
+    write_u16(
+        &mut slot[DATA_LENGTH_AT..DATA_AT],
+        (bytes.len() % 65536) as u16,
+    );
+    write_padded(&mut slot[DATA_AT..BITS_AT], bytes);
+    write_u16(&mut slot[BITS_AT..EXPORT_AT], bits);
+    slot[EXPORT_AT] = flag_byte(exported);
+    slot[VERIFY_AT] = flag_byte(verified);
 }

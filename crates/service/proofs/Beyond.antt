@@ -1,7 +1,7 @@
 -- Cases that the ★ table does not reach, in one table under one claim: a header with H = 30, an export of each of two
 -- keys, and one name held by two applications.
 use mathlib.Core.Path.{refl}
-use Prim.Native.Nat.{ℕ, _+_}
+use Prim.Native.Nat.{ℕ}
 use mathlib.Core.Bool.{true, false}
 use mathlib.Core.List.{List, [], _∷_, _++_}
 use lib.ListN.{length}

@@ -6,16 +6,17 @@ use mathlib.Core.Option.{Option, none, some}
 use mathlib.Core.List.{List, [], _∷_, _++_}
 use Prim.Native.Nat.{ℕ, _+_, _≤_}
 use native.Mathlib.Omega.{arith}
-use borrow.Author.Tests.{ltb-false}
+use borrow.Author.Tests.{ltb-false, not-false}
 use lib.ListN.{length, drop, length-append, length-drop}
 use lib.Dec.{leb}
 use Rattle.wire.specs.Choice.{firstOf}
-use Rattle.wire.proofs.TestLaws.{either, none-first, not-false, some≢none}
+use Rattle.wire.proofs.TestLaws.{either, some≢none, none-at}
 use Rattle.stream.specs.Frame.{Next, unfinished, badStart, skipped, whole, next}
 use Rattle.stream.specs.Rules.{Connection, opened, skipping, closed, State}
-use Rattle.stream.specs.Call.{Step, keep, respond, dropByte, openRule, skipRule, byteRule, Effect, callRule}
+use Rattle.stream.specs.Call.{Step, keep, respond, dropByte, openRule, skipRule, byteRule, callRule}
 use Rattle.stream.specs.Calls.{Call, refused, took, CallOutcome, callOn}
 use Rattle.stream.proofs.CallLaws.{call-responds, call-goes-on}
+use Rattle.stream.proofs.CallsLaws.{took-code}
 use Rattle.connection.specs.Connection.{wellFormedConnection}
 use Rattle.connection.proofs.ConnectionLaws.{store-load}
 use Rattle.registry.specs.WellFormed.{wellFormedRegistry}
@@ -24,8 +25,9 @@ use Rattle.judgement.specs.Judgement.{refusedEarly, judgement}
 use Rattle.judgement.proofs.ResponseLaws.{responseMost, bad-short, oversized-short, judge-short}
 use Rattle.service.specs.Counters.{totalsOf, countersOf, largestCounter}
 use Rattle.service.specs.Call.{Memory, stateIn, memoryOf, layout, bufferLeast, counterMost, refusalTests, codeOf, refusalOf, callOutcome}
-use Rattle.service.specs.Served.{Ready}
+use Rattle.service.specs.Served.{Ready, effectOf}
 use Rattle.service.specs.declared.Refusal.{Refusal}
+use Rattle.service.specs.declared.Refusal.the-variants.{ResponseBufferTooSmall, ChunkTooLong, ConnectionIllFormed, RegistryIllFormed, CounterTooHigh}
 use Rattle.service.proofs.KeptLaws.{keeps}
 
 abbrev Kept : Type 0
@@ -96,20 +98,17 @@ no-code (some r) e = absurd (some≢none _ e)
 pub passed : (m : Memory) (call : Call) → refusalOf m call ≡ none → Passed m call
 unfolding refusalOf refusalTests
 passed m call e =
-    let (c1, e₁) = none-first _ _ _ (no-code (firstOf (refusalTests m call)) e) in
-    let (c2, e₂) = none-first _ _ _ e₁ in
-    let (c3, e₃) = none-first _ _ _ e₂ in
-    let (c4, e₄) = none-first _ _ _ e₃ in
-    let (c5, e₅) = none-first _ _ _ e₄ in
+    let tests = refusalTests m call in
+    let n : firstOf (refusalTests m call) ≡ none = no-code (firstOf (refusalTests m call)) e in
     record {
       ready =
           record {
-            buffer-good = ltb-false _ _ c1;
-            chunk-good = ltb-false _ _ c2;
-            connection-good = not-false (wellFormedConnection (m .connection)) c3;
-            registry-good = not-false (wellFormedRegistry (m .registry)) c4;
+            buffer-good = ltb-false _ _ (none-at tests 0 ResponseBufferTooSmall n);
+            chunk-good = ltb-false _ _ (none-at tests 1 ChunkTooLong n);
+            connection-good = not-false (wellFormedConnection (m .connection)) (none-at tests 2 ConnectionIllFormed n);
+            registry-good = not-false (wellFormedRegistry (m .registry)) (none-at tests 3 RegistryIllFormed n);
           };
-      counters-good = ltb-false _ _ c5;
+      counters-good = ltb-false _ _ (none-at tests 4 CounterTooHigh n);
     }
 
 -- ---- any call
@@ -120,16 +119,13 @@ says none = 0
 says (some code) = code
 
 module _ (m : Memory) (call : Call) where
-  effect : Effect (List ℕ) Counts (List ℕ)
-  effect = callRule judgement (stateIn m) (call .chunk)
-
   pub refused-outcome : (code : ℕ) → refusalOf m call ≡ some code → callOutcome m call ≡ record { answer = refused code call; memory = m }
   unfolding callOutcome callOn
   refused-outcome code e = rw (e, callOn)
 
   pub taken-outcome : refusalOf m call ≡ none
       → callOutcome m call
-      ≡ record { answer = took (callRule judgement (stateIn m) (call .chunk) .taken) (callRule judgement (stateIn m) (call .chunk) .response) call; memory = memoryOf (callRule judgement (stateIn m) (call .chunk) .state) }
+      ≡ record { answer = took (effectOf m (call .chunk) .taken) (effectOf m (call .chunk) .response) call; memory = memoryOf (effectOf m (call .chunk) .state) }
   unfolding callOutcome callOn layout
   taken-outcome e = rw (e, callOn)
 
@@ -147,26 +143,22 @@ module _ (m : Memory) (call : Call) where
       record { written = s; buffer-length = a ∙ (let x : length r + length (drop (length r) (call .buffer)) ≡ length (call .buffer) = omega arith in x) }
 
   pub call-fits : Fits (callOutcome m call)
-  unfolding refused effect stateIn
+  unfolding refused stateIn
   call-fits = go (refusalOf m call) refl
     where
       go : (o : Option ℕ) → refusalOf m call ≡ o → Fits (callOutcome m call)
       go (some code) e = rw (refused-outcome code e) (record { written = omega arith; buffer-length = refl })
       go none e =
           let t = passed m call e in
-          rw (taken-outcome e) (took-fits (effect .taken) (effect .response) _ (call-short (stateIn m) (t .ready .registry-good) (call .chunk)) (t .ready .buffer-good))
+          rw (taken-outcome e) (took-fits (effectOf m (call .chunk) .taken) (effectOf m (call .chunk) .response) _ (call-short (stateIn m) (t .ready .registry-good) (call .chunk)) (t .ready .buffer-good))
 
   pub refused-exactly : callOutcome m call .answer .code ≡ says (refusalOf m call)
-  unfolding refused took effect
+  unfolding refused
   refused-exactly = go (refusalOf m call) refl
     where
-      taken : (n : ℕ) (o : Option (List ℕ)) → took n o call .code ≡ 0
-      taken n none = refl
-      taken n (some r) = refl
-
       go : (o : Option ℕ) → refusalOf m call ≡ o → callOutcome m call .answer .code ≡ says o
       go (some code) e = rw (refused-outcome code e)
-      go none e = rw (taken-outcome e) (taken (effect .taken) (effect .response))
+      go none e = rw (taken-outcome e) (took-code (effectOf m (call .chunk) .taken) (effectOf m (call .chunk) .response) call)
 
   -- a refused call takes nothing, writes nothing and alters nothing
   pub record Refused (code : ℕ) (o : CallOutcome Memory) : Type 0 where

@@ -1,9 +1,9 @@
 -- A call as the code says it, from the code of C1 to C5 and from what serving it has done.
 use Prim.Native.Nat.{ℕ}
-use Prim.{⊥}
 use mathlib.Core.Path.{_≡_, refl, sym, ap, subst, _∙_}
 use mathlib.Core.Option.{Option, none, some}
 use mathlib.Core.List.{List, [], _∷_}
+use native.Mathlib.Nat.{add-zero}
 use native.Mathlib.Omega.{arith}
 use denote.Enum.Declared.{tagOf}
 use types.Run.{OneOf}
@@ -12,32 +12,27 @@ use Rattle.stream.specs.Calls.{Answer, Call, CallOutcome, refused, took}
 use Rattle.service.specs.Refusals.{refusalNumber}
 use Rattle.service.specs.Call.{Memory, memoryOf, refusalTests, codeOf, refusalOf, callOutcome}
 use Rattle.service.specs.Counters.{totalsOf, countersOf}
-use Rattle.service.specs.Called.{lentMemory, callWith, codeFor, codeNumber, answerOf, refusedWith, outcomeOf, outcomeWith, CallContract}
+use Rattle.service.specs.Called.{lentMemory, callWith, codeFor, codeNumber, answerOf, refusedWith, outcomeWith, CallContract}
 use Rattle.service.specs.Counted.{countEvent, withCounts, countRequest, countTaken, countAnswered, countDropped, counted}
 use Rattle.service.specs.Served.{WroteAny, Carried, effectOf}
 use Rattle.service.specs.declared.Counters.{Counters}
 use Rattle.service.specs.declared.Refusal.{Refusal}
 use Rattle.service.specs.declared.Code.{Code}
-use Rattle.service.specs.declared.Code.the-variants.{Taken, Refused}
+use Rattle.service.specs.declared.Code.the-variants.{Taken}
 use Rattle.service.specs.declared.Handled.{Handled}
 use Rattle.service.proofs.Code.{the-type}
 use Rattle.service.proofs.CallLaws.{refused-outcome, taken-outcome}
-use Rattle.service.proofs.ServeLaws.{zero-right}
-
-kind : Code → ℕ
-kind Taken = 0
-kind (Refused refusal) = 1
 
 taken-none : (o : Option Refusal) → codeFor o ≡ Taken → codeOf o ≡ none
-unfolding codeFor codeOf kind
+unfolding codeFor codeOf
 taken-none none e = refl
-taken-none (some refusal) e = absurd (omega (arith, ap kind e))
+taken-none (some refusal) e = cc
 
 -- a refused call counts nothing
 nothing-counted : (c : Counters) (code : Code) → counted c (refusedWith code) ≡ c
 unfolding counted countRequest countEvent withCounts countTaken countAnswered countDropped totalsOf countersOf
 nothing-counted c code =
-    λ i. record { taken = zero-right (c .taken) i; answered = zero-right (c .answered) i; dropped = zero-right (c .dropped) i; served = c .served; unauthenticated = c .unauthenticated; refused = c .refused }
+    λ i. record { taken = add-zero (c .taken) i; answered = add-zero (c .answered) i; dropped = add-zero (c .dropped) i; served = c .served; unauthenticated = c .unauthenticated; refused = c .refused }
 
 module _ (connection registry : List ℕ) (counters : Counters) (chunk buffer : List ℕ) where
   abbrev m : Memory
@@ -58,10 +53,10 @@ module _ (connection registry : List ℕ) (counters : Counters) (chunk buffer : 
   refused-call code h e other says = ap outcome says ∙ ap (λ (x : Counters). leaves code x) (nothing-counted counters code) ∙ go (firstOf (refusalTests m call)) refl
     where
       leaves : Code → Counters → CallOutcome Memory
-      leaves c x = outcomeWith (record { code = c; taken = 0; written = 0; counters = x }) connection registry buffer
+      leaves c x = outcomeWith (codeNumber c) 0 0 (lentMemory connection registry x) buffer
 
       outcome : Handled → CallOutcome Memory
-      outcome x = outcomeWith (outcomeOf (answerOf x) (counted counters x)) connection registry buffer
+      outcome x = outcomeWith (codeNumber (x .code)) (x .taken) (x .written) (lentMemory connection registry (counted counters x)) buffer
 
       go : (f : Option Refusal) → firstOf (refusalTests m call) ≡ f → leaves code counters ≡ callOutcome m call
       go none q = absurd (clash (subst (λ (x : Code). OneOf (1 ∷ []) (tagOf the-type x)) (e ∙ ap codeFor q) other))

@@ -22,11 +22,11 @@ use Rattle.registry.specs.Roster.{faultNumber, recordFaults, Roster, applicatio
 use Rattle.stream.specs.Frame.{legalStart, oversized, next}
 use Rattle.stream.specs.Rules.{Outcome, heldBytes, answer, finish, judge, rulesWithin, rulesFrom, start, rules}
 use Rattle.judgement.specs.Status.{statusNumber}
-use Rattle.judgement.specs.Operations.{opcodesOf, readBody, operationOf, success, refuse, importBits, importable, performImport, performDestroy, exportOf, performExport, performListOpcodes, perform}
+use Rattle.judgement.specs.Operations.{opcodesOf, readBody, operationOf, success, refuse, importBits, importable, performImport, performDestroy, exportOf, performExport, performListOpcodes, perform, operated}
 use Rattle.judgement.specs.Counts.{Counts, noCounts, increment, indexOf, countRefused, countServed, count}
-use Rattle.judgement.specs.Judgement.{applicationOf, refusals, askersSlots, operate, resultOf, changedBy, verdictOf, refusedEarly, oversizedStatus, judgement}
+use Rattle.judgement.specs.Judgement.{applicationOf, refusals, askersSlots, resultOf, changedBy, verdictOf, refusedEarly, oversizedStatus, judgement}
 use Rattle.service.specs.Text.{ascii}
-use Rattle.service.specs.Bill.{digitsBefore, decimal, textLine, applicationLines, refusedLines, billOf, billFor, bill}
+use Rattle.service.specs.Bill.{digitsBefore, decimal, textLine, applicationLines, refusedLines, billOf, refusedRoster, billFor, bill}
 
 -- ---- what a case shows: the responses, the slots of application 0 afterwards, and the bill
 pub record Shown : Type 0 where
@@ -48,7 +48,7 @@ startOf (faulty fault) = []
 
 -- all that a case computes with
 unfoldable pub showing : (roster stream : List ℕ) → Shown
-unfolding rosterOf recordTurn recordFaults firstOf legalName field littleEndian registryOf lineOf flatten rules rulesFrom rulesWithin start answer finish judge next legalStart oversized judgement noCounts requestOf resultOf refusals oneOf opcodesOf isSome applicationOf applicationNamed indexFrom operate operationOf readBody scanAt scanFrom stepAt itemOf fieldAt contentAt numberAt spanAt fixedAt varintOf withValue perform performImport performDestroy performExport exportOf performListOpcodes success refuse numberField bytesField packedField flatMap varint varintWithin importable importBits legalData legalBits slotNamed keyBytes slotBytes askersSlots verdictOf refusedEarly oversizedStatus responseBytes responseHeader littleEndianOf statusNumber changedBy changed count countServed countRefused increment indexOf slotsOf slotOf billOf textLine decimal digitsBefore applicationLines refusedLines heldBytes ascii shownBy startOf bill billFor faultNumber
+unfolding rosterOf recordTurn recordFaults firstOf legalName field littleEndian registryOf lineOf flatten rules rulesFrom rulesWithin start answer finish judge next legalStart oversized judgement noCounts requestOf resultOf refusals oneOf opcodesOf isSome applicationOf applicationNamed indexFrom operated operationOf readBody scanAt scanFrom stepAt itemOf fieldAt contentAt numberAt spanAt fixedAt varintOf withValue perform performImport performDestroy performExport exportOf performListOpcodes success refuse numberField bytesField packedField flatMap varint varintWithin importable importBits legalData legalBits slotNamed keyBytes slotBytes askersSlots verdictOf refusedEarly oversizedStatus responseBytes responseHeader littleEndianOf statusNumber changedBy changed count countServed countRefused increment indexOf slotsOf slotOf billOf textLine decimal digitsBefore applicationLines refusedLines heldBytes ascii shownBy startOf bill billFor refusedRoster faultNumber
 showing roster stream = shownBy (rules judgement (startOf (rosterOf roster)) stream) (bill (some roster) (some stream))
 
 -- ---- a table holds

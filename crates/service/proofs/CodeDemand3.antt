@@ -1,21 +1,20 @@
 -- DEMAND 3 OF THE CODE, as one claim: any list of calls of `service::call::call`, each step being the contract of that function,
 -- the very definition (`CallContract`) that its `ensures` cites. Every function of a proved crate meets its contract, so that
 -- whatever the code does is such a list.
-use Prim.{⊥}
 use Prim.Native.Nat.{ℕ, zero, suc, _+_, _≤_}
 use mathlib.Core.Path.{_≡_, refl, sym, ap, subst, _∙_}
 use mathlib.Core.Bool.{true}
 use mathlib.Core.List.{List, [], _∷_, flatten}
 use lib.ListN.{length, drop}
 use Rattle.stream.specs.Calls.{Call, Answer, CallOutcome, CallsOutcome, callsOn, leaving, handOver}
-use Rattle.stream.proofs.DeliveryLaws.{within}
+use Rattle.stream.proofs.DeliveryLaws.{within, TakenWhole}
 use Rattle.registry.specs.WellFormed.{wellFormedRegistry}
 use Rattle.judgement.specs.Judgement.{judgement}
 use Rattle.service.specs.Call.{Memory, layout, fresh, bufferLeast, chunkMost, counterMost, refusalOf, callOutcome, callsOutcome}
 use Rattle.service.specs.Called.{lentMemory, callWith, codeNumber, CallContract}
 use Rattle.service.specs.declared.Counters.{Counters}
 use Rattle.service.specs.declared.CallAnswer.{CallAnswer}
-use Rattle.service.proofs.Demand3.{FollowsRules, TakenWhole, demand3}
+use Rattle.service.proofs.Demand3.{FollowsRules, demand3}
 
 -- ---- calls of the code
 
@@ -109,19 +108,20 @@ module _ (buffers : ℕ → List ℕ) where
 pub record CodeDemand3 (registry : List ℕ) : Type 0 where
   -- any list of calls, refused ones included
   pub follows : (calls : List Call) (runs : List Ran) → Runs (fresh registry) calls runs → FollowsRules registry calls (ranOutcome (fresh registry) runs)
-  -- a stream of at most 2^62 bytes, cut anywhere into chunks of at most 65,536, with buffers of at least 1,024 bytes
-  pub taken : (chunks : List (List ℕ)) (buffers : ℕ → List ℕ) (most : ℕ) (runs : List Ran)
+  -- a well-formed one, and a stream of at most 2^62 bytes, cut anywhere into chunks of at most 65,536, with buffers of at
+  -- least 1,024 bytes
+  pub taken : wellFormedRegistry registry ≡ true → (chunks : List (List ℕ)) (buffers : ℕ → List ℕ) (most : ℕ) (runs : List Ran)
       → length (flatten chunks) ≤ counterMost → within chunkMost chunks ≡ true → ((k : ℕ) → bufferLeast ≤ length (buffers k))
       → length (flatten chunks) + length chunks ≤ most
       → HandsOver most buffers (fresh registry) chunks runs
       → TakenWhole chunks (callsHanded most buffers chunks runs) (ranOutcome (fresh registry) runs)
 
-pub code-demand3 : (registry : List ℕ) → wellFormedRegistry registry ≡ true → CodeDemand3 registry
-code-demand3 registry w = record {
-  follows = λ calls runs p. subst (FollowsRules registry calls) (ran (fresh registry) calls runs p) (demand3 registry w .follows calls);
-  taken = λ chunks buffers most runs short small room enough p.
+pub code-demand3 : (registry : List ℕ) → CodeDemand3 registry
+code-demand3 registry = record {
+  follows = λ calls runs p. subst (FollowsRules registry calls) (ran (fresh registry) calls runs p) (demand3 registry .follows calls);
+  taken = λ w chunks buffers most runs short small room enough p.
       let (same, all) = handed buffers most (fresh registry) chunks runs p in
       let calls : List Call = callsHanded most buffers chunks runs in
       subst (TakenWhole chunks calls) (ran (fresh registry) calls runs all)
-      (subst (λ (x : List Call). TakenWhole chunks x (callsOutcome (fresh registry) x)) (sym same) (demand3 registry w .taken chunks buffers most short small room enough));
+      (subst (λ (x : List Call). TakenWhole chunks x (callsOutcome (fresh registry) x)) (sym same) (demand3 registry .taken w chunks buffers most short small room enough));
 }

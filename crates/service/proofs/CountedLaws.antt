@@ -3,7 +3,7 @@ use Prim.Native.Nat.{_≤_, _<_, _^_}
 use mathlib.Core.Path.{_≡_, sym, ap, subst}
 use native.Mathlib.Omega.{arith}
 use Rattle.judgement.specs.Counts.{count}
-use Rattle.judgement.specs.Decided.{lineOf}
+use Rattle.judgement.specs.Decided.{askersLine}
 use Rattle.judgement.specs.Answers.{AskerBelow}
 use Rattle.judgement.specs.declared.Status.{Status}
 use Rattle.judgement.specs.declared.Asker.{Asker}
@@ -26,7 +26,7 @@ unfolding countRequest countEvent withCounts totalsOf countersOf
 no-request c h e = ap (λ (x : Event). withCounts c (countEvent (totalsOf c .counts) x)) (sym e)
 
 module _ (c : Counters) (h : Handled) (asker : Asker) (status : Status) (e : h .event ≡ Request asker status) where
-  pub one-request : withCounts c (count (totalsOf c .counts) (lineOf asker) status) ≡ countRequest c h
+  pub one-request : withCounts c (count (totalsOf c .counts) (askersLine asker) status) ≡ countRequest c h
   unfolding countRequest countEvent
   one-request = ap (λ (x : Event). withCounts c (countEvent (totalsOf c .counts) x)) (sym e)
 

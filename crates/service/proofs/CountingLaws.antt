@@ -26,7 +26,7 @@ pub maximum-end : (l : List ℕ) (i : ℕ) → length l ≤ i → maximum (drop 
 unfolding maximum
 maximum-end l i h = rw (drop-of-length-le l h)
 
-pub at-most-maximum : (l : List ℕ) (i : ℕ) → getD l i 0 ≤ maximum l
+at-most-maximum : (l : List ℕ) (i : ℕ) → getD l i 0 ≤ maximum l
 unfolding maximum
 at-most-maximum [] i = omega arith
 at-most-maximum (n ∷ l) zero = omega arith

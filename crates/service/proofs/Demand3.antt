@@ -12,7 +12,7 @@ use Rattle.stream.specs.Rules.{heldBytes, State, rules}
 use Rattle.stream.specs.Calls.{Call, CallsOutcome, joinedResponses, takenStream, handOver, answersByRules}
 use Rattle.stream.proofs.KeptLaws.{rules-connection, rules-kept}
 use Rattle.stream.proofs.CallsLaws.{Lawful, follows-rules}
-use Rattle.stream.proofs.DeliveryLaws.{within, noneRefused, delivered}
+use Rattle.stream.proofs.DeliveryLaws.{within, TakenWhole, delivered}
 use Rattle.connection.specs.Connection.{connectionOf}
 use Rattle.connection.proofs.ConnectionLaws.{load-store, stored-good}
 use Rattle.registry.specs.WellFormed.{wellFormedRegistry}
@@ -65,30 +65,24 @@ pub record FollowsRules (registry : List ℕ) (calls : List Call) (o : CallsOutc
   pub accounted : o .memory .counters .taken
       ≡ o .memory .counters .answered + heldBytes (connectionOf (o .memory .connection)) + o .memory .counters .dropped
 
--- what a caller did that hands over what is left of a chunk again
-pub record TakenWhole (chunks : List (List ℕ)) (calls : List Call) (o : CallsOutcome Memory) : Type 0 where
-  pub neverRefused : noneRefused (o .answers) ≡ true
-  pub whole : takenStream calls (o .answers) ≡ flatten chunks
-
 -- from a fresh connection, zero counters and this registry
 pub record Demand3 (registry : List ℕ) : Type 0 where
   -- any list of calls, refused ones included
   pub follows : (calls : List Call) → FollowsRules registry calls (callsOutcome (fresh registry) calls)
-  -- a stream of at most 2^62 bytes, cut anywhere into chunks of at most 65,536, with buffers of at least 1,024 bytes
-  -- (`buffers k` when k more calls may follow; one call for each byte and each chunk is enough)
-  pub taken : (chunks : List (List ℕ)) (buffers : ℕ → List ℕ) (most : ℕ)
+  -- a well-formed one, and a stream of at most 2^62 bytes, cut anywhere into chunks of at most 65,536, with buffers of at
+  -- least 1,024 bytes (`buffers k` when k more calls may follow; one call for each byte and each chunk is enough)
+  pub taken : wellFormedRegistry registry ≡ true → (chunks : List (List ℕ)) (buffers : ℕ → List ℕ) (most : ℕ)
       → length (flatten chunks) ≤ counterMost → within chunkMost chunks ≡ true → ((k : ℕ) → bufferLeast ≤ length (buffers k))
       → length (flatten chunks) + length chunks ≤ most
       → (let calls : List Call = handOver judgement layout refusalOf most buffers (fresh registry) chunks in
       TakenWhole chunks calls (callsOutcome (fresh registry) calls))
 
-pub demand3 : (registry : List ℕ) → wellFormedRegistry registry ≡ true → Demand3 registry
+pub demand3 : (registry : List ℕ) → Demand3 registry
 unfolding callsOutcome fresh layout stateIn totalsOf
-demand3 registry w = record {
+demand3 registry = record {
   follows = λ calls.
       let f = follows-rules judgement layout lawful refusalOf registry calls in
       record { answers = f .answers; responses = f .responses; memory = f .memory; taken = f .taken; accounted = f .accounted };
-  taken = λ chunks buffers most short small room enough.
-      let d = delivered judgement layout lawful refusalOf registry counterMost chunkMost bufferLeast (accepts registry w) buffers room most chunks enough small short in
-      record { neverRefused = d .taken; whole = d .whole };
+  taken = λ w chunks buffers most short small room enough.
+      delivered judgement layout lawful refusalOf registry counterMost chunkMost bufferLeast (accepts registry w) buffers room most chunks enough small short;
 }

@@ -9,5 +9,4 @@ pub mod Demand3
 pub mod ServeLaws
 pub mod CalledLaws
 pub mod CodeDemand3
-pub mod BillLaws
 pub mod InPlace

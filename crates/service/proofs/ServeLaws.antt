@@ -3,6 +3,7 @@ use Prim.Native.Nat.{ℕ, _+_, _-_, _≤_, _<_, _^_}
 use mathlib.Core.Path.{_≡_, refl, sym, ap, _∙_, subst}
 use mathlib.Core.Bool.{Bool, true, false}
 use mathlib.Core.List.{List, []}
+use native.Mathlib.Nat.{add-zero}
 use native.Mathlib.Omega.{arith}
 use lib.ListN.{length}
 use lib.Dec.{ltb, lit<}
@@ -15,7 +16,8 @@ use Rattle.stream.specs.Effects.{waiting, answering, dropping}
 use Rattle.stream.specs.Call.{Effect, callRule}
 use Rattle.stream.proofs.ChunkLaws.{call-closed}
 use Rattle.connection.specs.Connection.{laidOut, connectionBytes, connectionOf}
-use Rattle.connection.proofs.StateLaws.{WholeHeader, header-there, header-long, header-size}
+use Rattle.connection.proofs.ConnectionLaws.{WholeHeader}
+use Rattle.connection.proofs.StateLaws.{header-there, header-long, header-size}
 use Rattle.judgement.specs.Counts.{Counts, noCounts}
 use Rattle.judgement.specs.Judgement.{judgement, refusedEarly, verdictOf}
 use Rattle.judgement.specs.Answers.{AskerBelow, AnsweredBy}
@@ -27,9 +29,6 @@ use Rattle.service.specs.Counted.{countEvent, withCounts, countRequest, 
 use Rattle.service.specs.Served.{Modest, waited, finished, droppedAll, Carried, SkipReady, effectOf, skipEffect}
 use Rattle.service.specs.declared.Counters.{Counters}
 use Rattle.service.specs.declared.Handled.{Handled}
-
-pub zero-right : (n : ℕ) → n + 0 ≡ n
-zero-right n = omega arith
 
 abbrev pub stateWith : Connection → (registry : List ℕ) → Counters → State (List ℕ) Counts
 stateWith k registry c = record { connection = k; registry = registry; totals = totalsOf c }
@@ -59,11 +58,11 @@ module _ (k : Connection) (registry : List ℕ) (c : Counters) where
     registry-is = refl;
     counters-is =
         ap (counted c) e
-        ∙ (λ i. countersOf (record { taken = c .taken + n; answered = zero-right (c .answered) i; dropped = zero-right (c .dropped) i; counts = totalsOf c .counts }));
+        ∙ (λ i. countersOf (record { taken = c .taken + n; answered = add-zero (c .answered) i; dropped = add-zero (c .dropped) i; counts = totalsOf c .counts }));
     modest = subst Modest (sym e) (modest-waited n few);
   }
 
-  pub carried-drop : (n : ℕ) (connection before after : List ℕ) (r : Handled)
+  carried-drop : (n : ℕ) (connection before after : List ℕ) (r : Handled)
       → n ≤ chunkMost → r ≡ droppedAll n
       → connection ≡ connectionBytes closed → after ≡ before
       → Carried c (dropping (stateWith k registry c) n) connection registry before after r
@@ -76,7 +75,7 @@ module _ (k : Connection) (registry : List ℕ) (c : Counters) where
     registry-is = refl;
     counters-is =
         ap (counted c) e
-        ∙ (λ i. countersOf (record { taken = c .taken + n; answered = zero-right (c .answered) i; dropped = c .dropped + n; counts = totalsOf c .counts }));
+        ∙ (λ i. countersOf (record { taken = c .taken + n; answered = add-zero (c .answered) i; dropped = c .dropped + n; counts = totalsOf c .counts }));
     modest = subst Modest (sym e) (modest-dropped n few);
   }
 
@@ -102,7 +101,7 @@ module _ (k : Connection) (registry : List ℕ) (c : Counters) where
     registry-is = by .kept ∙ same-registry;
     counters-is =
         ap (counted c) e
-        ∙ (λ i. countersOf (record { taken = c .taken + n; answered = c .answered + size; dropped = zero-right (c .dropped) i; counts = by .counts (totalsOf c .counts) i }));
+        ∙ (λ i. countersOf (record { taken = c .taken + n; answered = c .answered + size; dropped = add-zero (c .dropped) i; counts = by .counts (totalsOf c .counts) i }));
     modest = subst Modest (sym e) (modest-finished n size a few small (by .asker));
   }
 

@@ -8,6 +8,7 @@ use Rattle.wire.specs.Choice.{if_then_else_}
 use Rattle.stream.specs.Rules.{heldBytes, State, rules}
 use Rattle.registry.specs.Registry.{registryOf}
 use Rattle.registry.specs.Roster.{faultNumber, Roster, applications, faulty, rosterOf}
+use Rattle.registry.specs.declared.RosterFault.{RosterFault}
 use Rattle.judgement.specs.Status.{statusNumber, refusedStatuses}
 use Rattle.judgement.specs.Counts.{Counts}
 use Rattle.judgement.specs.Judgement.{judgement}
@@ -55,13 +56,20 @@ billOf names s =
     ++ (textLine (ascii "dropped") (decimal (s .totals .dropped) ∷ [])
     ++ textLine (ascii "held") (decimal (heldBytes (s .connection)) ∷ [])))))
 
+-- what is printed for a refused roster, as `roster R3`, and where a file can't be read
+unfoldable pub refusedRoster : RosterFault → List ℕ
+refusedRoster fault = ascii "roster R" ++ textLine (decimal (faultNumber fault)) []
+
+unfoldable pub noFile : List ℕ
+noFile = textLine (ascii "no file") []
+
 -- the start has the roster's names and no keys; a refused roster prints one line only
 unfoldable pub billFor : Roster → (stream : List ℕ) → List ℕ
 billFor (applications names) stream = billOf names (rules judgement (registryOf names) stream .state)
-billFor (faulty fault) stream = ascii "roster R" ++ textLine (decimal (faultNumber fault)) []
+billFor (faulty fault) stream = refusedRoster fault
 
 -- `none` is a file that can't be read
 unfoldable pub bill : (roster stream : Option (List ℕ)) → List ℕ
-bill none stream = textLine (ascii "no file") []
-bill (some roster) none = textLine (ascii "no file") []
+bill none stream = noFile
+bill (some roster) none = noFile
 bill (some roster) (some stream) = billFor (rosterOf roster) stream

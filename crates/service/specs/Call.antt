@@ -6,6 +6,7 @@ use mathlib.Core.List.{List, [], _∷_}
 use lib.ListN.{length}
 use lib.Dec.{ltb}
 use Rattle.wire.specs.Choice.{firstOf}
+pub use Rattle.wire.specs.Response.{bufferLeast}
 use Rattle.stream.specs.Rules.{State}
 use Rattle.stream.specs.Call as stream
 use Rattle.stream.specs.Calls.{Call, Layout, CallOutcome, CallsOutcome, callOn, callsOn}
@@ -38,10 +39,10 @@ layout = record { load = stateIn; store = memoryOf }
 unfoldable pub fresh : (registry : List ℕ) → Memory
 fresh registry = memoryOf (stream.fresh judgement registry)
 
--- ---- when a call is not taken
+unfoldable pub zeroCounters : Counters
+zeroCounters = fresh [] .counters
 
-abbrev pub bufferLeast : ℕ
-bufferLeast = 1024
+-- ---- when a call is not taken
 
 abbrev pub chunkMost : ℕ
 chunkMost = 65536

@@ -32,10 +32,10 @@ codeNumber Taken = 0
 codeNumber (Refused refusal) = refusalNumber refusal
 
 -- all that a call says and leaves
-abbrev pub outcomeWith : Outcome → (connection registry buffer : List ℕ) → CallOutcome Memory
-outcomeWith o connection registry buffer = record {
-  answer = record { code = codeNumber (o .code); taken = o .taken; written = o .written; buffer = buffer };
-  memory = lentMemory connection registry (o .counters);
+abbrev pub outcomeWith : (code taken written : ℕ) (after : Memory) (buffer : List ℕ) → CallOutcome Memory
+outcomeWith code taken written after buffer = record {
+  answer = record { code = code; taken = taken; written = written; buffer = buffer };
+  memory = after;
 }
 
 -- what a call that is handled says
@@ -54,4 +54,4 @@ outcomeOf a counters = record { code = a .code; taken = a .taken; written = a .w
 -- definition's outcome
 abbrev pub CallContract : (before : Memory) → Call → CallAnswer → (after : Memory) (buffer : List ℕ) → Type 0
 CallContract before call says after buffer =
-    outcomeWith (outcomeOf says (after .counters)) (after .connection) (after .registry) buffer ≡ callOutcome before call
+    outcomeWith (codeNumber (says .code)) (says .taken) (says .written) after buffer ≡ callOutcome before call

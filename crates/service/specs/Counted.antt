@@ -1,7 +1,7 @@
 -- The counters after a call, in the reading copy's terms. No part of the reading copy.
-use Prim.Native.Nat.{ℕ, _+_, _≤_, _<_, _^_}
-use Rattle.judgement.specs.Counts.{Counts, noCounts, count}
-use Rattle.judgement.specs.Decided.{lineOf}
+use Prim.Native.Nat.{_+_, _≤_, _<_, _^_}
+use Rattle.judgement.specs.Counts.{Counts, count}
+use Rattle.judgement.specs.Decided.{askersLine}
 use Rattle.judgement.specs.Answers.{AskerBelow}
 use Rattle.service.specs.Counters.{totalsOf, countersOf, largestCounter}
 use Rattle.service.specs.Call.{counterMost}
@@ -10,9 +10,6 @@ use Rattle.service.specs.declared.Event.{Event}
 use Rattle.service.specs.declared.Event.the-variants.{NoRequest, Request}
 use Rattle.service.specs.declared.Handled.{Handled}
 
-unfoldable pub zeroCounters : Counters
-zeroCounters = countersOf (record { taken = 0; answered = 0; dropped = 0; counts = noCounts })
-
 -- other counts of requests
 unfoldable pub withCounts : Counters → Counts → Counters
 withCounts c counts = countersOf (record { taken = c .taken; answered = c .answered; dropped = c .dropped; counts = counts })
@@ -20,7 +17,7 @@ withCounts c counts = countersOf (record { taken = c .taken; answered = c .answe
 -- one more request, if one was answered
 unfoldable pub countEvent : Counts → Event → Counts
 countEvent counts NoRequest = counts
-countEvent counts (Request asker status) = count counts (lineOf asker) status
+countEvent counts (Request asker status) = count counts (askersLine asker) status
 
 -- ---- what a call counts, counter by counter
 

@@ -1,4 +1,4 @@
--- Document 01's tally: the counters in memory.
+-- Document 01's tally: the counters in memory ("Roster, registry, connection, tally").
 use Prim.Native.Nat.{ℕ, max}
 use mathlib.Core.List.{List, [], _∷_}
 use Rattle.stream.specs.Rules.{Totals}

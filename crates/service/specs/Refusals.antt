@@ -1,4 +1,4 @@
--- The number of each refused call: document 01's C1 to C5.
+-- The number of each refused call: C1 to C5 of "When a call is not taken".
 use Prim.Native.Nat.{ℕ}
 use Rattle.service.specs.declared.Refusal.{Refusal}
 use Rattle.service.specs.declared.Refusal.the-variants.{ResponseBufferTooSmall, ChunkTooLong, ConnectionIllFormed, RegistryIllFormed, CounterTooHigh}

@@ -7,12 +7,12 @@ use mathlib.Core.List.{List, []}
 use lib.ListN.{length, take, drop}
 use lib.Dec.{ltb}
 use Rattle.wire.specs.Choice.{if_then_else_}
-use Rattle.wire.specs.Request.{headerLength, requestLength}
+use Rattle.wire.specs.Request.{requestLeast, headerLength, requestLength}
 use Rattle.wire.specs.Wrote.{Wrote}
-use Rattle.stream.specs.Rules.{Connection, opened, skipping, closed, State}
+use Rattle.stream.specs.Rules.{opened, skipping, closed, State}
 use Rattle.stream.specs.Effects.{waiting, answering}
 use Rattle.stream.specs.Call.{Effect, callRule}
-use Rattle.connection.specs.Connection.{connectionSize, laidOut, connectionBytes, wellFormedConnection}
+use Rattle.connection.specs.Connection.{bytesAt, connectionSize, laidOut, connectionBytes, wellFormedConnection}
 use Rattle.registry.specs.WellFormed.{wellFormedRegistry}
 use Rattle.judgement.specs.Counts.{Counts}
 use Rattle.judgement.specs.Judgement.{judgement}
@@ -85,14 +85,14 @@ skipEffect registry c header used here toGo =
 
 -- the header that a skipping connection holds
 abbrev pub headerAt : (connection : List ℕ) → List ℕ
-headerAt connection = take (headerLength (drop 9 connection)) (drop 9 connection)
+headerAt connection = take (headerLength (drop bytesAt connection)) (drop bytesAt connection)
 
 pub record SkipReady (connection buffer : List ℕ) (used here toGo : ℕ) : Type 0 where
   pub buffer-good : bufferLeast ≤ length buffer
   pub used-good : used + here ≤ chunkMost
   pub size-good : length connection ≡ connectionSize
-  pub long : 28 ≤ length (headerAt connection)
-  pub header-is : length (headerAt connection) ≡ headerLength (drop 9 connection)
+  pub long : requestLeast ≤ length (headerAt connection)
+  pub header-is : length (headerAt connection) ≡ headerLength (drop bytesAt connection)
   pub kind : ℕ
   pub number : ℕ
   pub laid : connection ≡ laidOut kind number (headerAt connection)

@@ -1,4 +1,4 @@
-// A call: refused by C1 to C5, or served, and counted.
+// A call: refused by C1 to C5 ("When a call is not taken"), or served, and counted.
 use crate::CallAnswer;
 use crate::Code;
 use crate::Counters;
@@ -11,7 +11,7 @@ use crate::refusals::judge_call;
 use crate::serve::serve;
 ghost use mathlib.Core.Path.{_≡_};
 ghost use Rattle.service.specs.Call.{callOutcome};
-ghost use Rattle.service.specs.Called.{lentMemory, callWith, outcomeWith, outcomeOf, answerOf, refusedWith, CallContract};
+ghost use Rattle.service.specs.Called.{lentMemory, callWith, codeNumber, outcomeWith, outcomeOf, answerOf, refusedWith, CallContract};
 ghost use Rattle.service.specs.Counted.{counted, Fits};
 
 // A refused call takes nothing, writes nothing and alters nothing.
@@ -76,7 +76,7 @@ pub fn call_by_value(
     counters: Counters,
     response: &mut [u8],
 ) -> Outcome
-    ensures { λ r. ⌜ outcomeWith r (now (connection .exit)) (now (registry .exit)) (now (response .exit)) ≡ callOutcome (lentMemory (now (connection .entry)) (now (registry .entry)) counters) (callWith (now (chunk .entry)) (now (response .entry))) ⌝ }
+    ensures { λ r. ⌜ outcomeWith (codeNumber (r .code)) (r .taken) (r .written) (lentMemory (now (connection .exit)) (now (registry .exit)) (r .counters)) (now (response .exit)) ≡ callOutcome (lentMemory (now (connection .entry)) (now (registry .entry)) counters) (callWith (now (chunk .entry)) (now (response .entry))) ⌝ }
 {
     let h = handle(chunk, connection, registry, counters, response);
     let after = with_all(counters, h);

@@ -1,21 +1,24 @@
-// What a call adds to the counters.
+// What a call adds to the counters, document 01's tally ("Roster, registry, connection, tally").
 use crate::Counters;
 use crate::Event;
 use crate::Handled;
+use crate::refusals::COUNTER_MOST;
 use judgement::Asker;
+use judgement::REFUSED_STATUSES;
 use judgement::Status;
 use judgement::statuses::refused_index;
 use judgement::statuses::status_number;
+use registry::LINES;
 ghost use mathlib.Core.Path.{_≡_};
 ghost use Prim.Native.Nat.{_≤_, _<_};
 ghost use lib.Dec.{ltb};
 ghost use Rattle.judgement.specs.Status.{statusNumber};
 ghost use Rattle.judgement.specs.Counts.{countServed, countRefused, count};
-ghost use Rattle.judgement.specs.Decided.{lineOf};
+ghost use Rattle.judgement.specs.Decided.{askersLine};
 ghost use Rattle.judgement.specs.Answers.{AskerBelow};
 ghost use Rattle.service.specs.Counters.{totalsOf, largestCounter, maximum};
-ghost use Rattle.service.specs.Call.{counterMost};
-ghost use Rattle.service.specs.Counted.{zeroCounters, withCounts, countRequest, countTaken, countAnswered, countDropped, counted, RequestFits, TakenFits, AnsweredFits, DroppedFits, Fits};
+ghost use Rattle.service.specs.Call.{counterMost, zeroCounters};
+ghost use Rattle.service.specs.Counted.{withCounts, countRequest, countTaken, countAnswered, countDropped, counted, RequestFits, TakenFits, AnsweredFits, DroppedFits, Fits};
 
 // Nothing is counted yet.
 pub fn zero_counters() -> Counters
@@ -25,9 +28,9 @@ pub fn zero_counters() -> Counters
         taken: 0,
         answered: 0,
         dropped: 0,
-        served: [0; 8],
+        served: [0; LINES],
         unauthenticated: 0,
-        refused: [0; 17],
+        refused: [0; REFUSED_STATUSES],
     }
 }
 
@@ -46,35 +49,34 @@ fn largest(counters: &[u64]) -> u64
     most
 }
 
-// Whether a counter is above 2^62: document 01's C5.
+// Whether a counter is too high: document 01's C5.
 pub fn is_too_high(c: Counters) -> bool
     ensures { λ r. ⌜ r ≡ ltb counterMost (largestCounter c) ⌝ }
 {
-    let limit = 4611686018427387904;
-    if limit < c.taken {
+    if COUNTER_MOST < c.taken {
         return true;
     }
-    if limit < c.answered {
+    if COUNTER_MOST < c.answered {
         return true;
     }
-    if limit < c.dropped {
+    if COUNTER_MOST < c.dropped {
         return true;
     }
-    if limit < c.unauthenticated {
+    if COUNTER_MOST < c.unauthenticated {
         return true;
     }
     let served = c.served;
-    if limit < largest(&served) {
+    if COUNTER_MOST < largest(&served) {
         return true;
     }
     let refused = c.refused;
-    limit < largest(&refused)
+    COUNTER_MOST < largest(&refused)
 }
 
 // One more request served: for an application, or for nobody that is named.
 fn with_served(c: Counters, asker: Asker) -> Counters
     requires { ⌜ (largestCounter c ≤ counterMost) × AskerBelow asker ⌝ }
-    ensures { λ r. ⌜ r ≡ withCounts c (countServed (totalsOf c .counts) (lineOf asker)) ⌝ }
+    ensures { λ r. ⌜ r ≡ withCounts c (countServed (totalsOf c .counts) (askersLine asker)) ⌝ }
 {
     let mut next = c;
     match asker {
@@ -103,7 +105,7 @@ fn with_refused(c: Counters, status: Status) -> Counters
 // One more request by its status.
 fn with_answer(c: Counters, asker: Asker, status: Status) -> Counters
     requires { ⌜ (largestCounter c ≤ counterMost) × AskerBelow asker ⌝ }
-    ensures { λ r. ⌜ r ≡ withCounts c (count (totalsOf c .counts) (lineOf asker) status) ⌝ }
+    ensures { λ r. ⌜ r ≡ withCounts c (count (totalsOf c .counts) (askersLine asker) status) ⌝ }
 {
     if status_number(status) == 0 {
         return with_served(c, asker);
@@ -133,7 +135,7 @@ pub fn with_taken(c: Counters, h: Handled) -> Counters
     next
 }
 
-// The bytes of the request that it answered.
+// The bytes of the request that a call answered.
 pub fn with_answered(c: Counters, h: Handled) -> Counters
     requires { ⌜ AnsweredFits c h ⌝ }
     ensures { λ r. ⌜ r ≡ countAnswered c h ⌝ }
@@ -143,7 +145,7 @@ pub fn with_answered(c: Counters, h: Handled) -> Counters
     next
 }
 
-// The bytes that it dropped.
+// The bytes that a call dropped.
 pub fn with_dropped(c: Counters, h: Handled) -> Counters
     requires { ⌜ DroppedFits c h ⌝ }
     ensures { λ r. ⌜ r ≡ countDropped c h ⌝ }

@@ -1,4 +1,4 @@
-// The counters changed in place: one counter for each event of a call.
+// The counters changed in place: one counter for each event of a call ("Roster, registry, connection, tally").
 use crate::Counters;
 use crate::Handled;
 use crate::counting::with_answered;
@@ -9,7 +9,7 @@ ghost use mathlib.Core.Path.{_≡_};
 ghost use Rattle.service.specs.Counted.{countRequest, countTaken, countAnswered, countDropped, counted, RequestFits, TakenFits, AnsweredFits, DroppedFits, Fits};
 
 // The request that a call answered, if it answered one.
-pub fn count_request(counters: &mut Counters, h: Handled)
+fn count_request(counters: &mut Counters, h: Handled)
     requires { ⌜ RequestFits (now counters) h ⌝ }
     ensures { λ _. ⌜ now (counters .exit) ≡ countRequest (now (counters .entry)) h ⌝ }
 {
@@ -17,23 +17,23 @@ pub fn count_request(counters: &mut Counters, h: Handled)
 }
 
 // The bytes that a call took.
-pub fn count_taken(counters: &mut Counters, h: Handled)
+fn count_taken(counters: &mut Counters, h: Handled)
     requires { ⌜ TakenFits (now counters) h ⌝ }
     ensures { λ _. ⌜ now (counters .exit) ≡ countTaken (now (counters .entry)) h ⌝ }
 {
     *counters = with_taken(*counters, h);
 }
 
-// The bytes of the request that it answered.
-pub fn count_answered(counters: &mut Counters, h: Handled)
+// The bytes of the request that a call answered.
+fn count_answered(counters: &mut Counters, h: Handled)
     requires { ⌜ AnsweredFits (now counters) h ⌝ }
     ensures { λ _. ⌜ now (counters .exit) ≡ countAnswered (now (counters .entry)) h ⌝ }
 {
     *counters = with_answered(*counters, h);
 }
 
-// The bytes that it dropped.
-pub fn count_dropped(counters: &mut Counters, h: Handled)
+// The bytes that a call dropped.
+fn count_dropped(counters: &mut Counters, h: Handled)
     requires { ⌜ DroppedFits (now counters) h ⌝ }
     ensures { λ _. ⌜ now (counters .exit) ≡ countDropped (now (counters .entry)) h ⌝ }
 {

@@ -1,6 +1,8 @@
-// The call: refused by C1 to C5 or served, and what it counts.
+// The call: refused by C1 to C5 ("When a call is not taken") or served, and what it counts.
 use judgement::Asker;
+use judgement::REFUSED_STATUSES;
 use judgement::Status;
+use registry::LINES;
 
 pub mod call;
 pub mod counting;
@@ -30,9 +32,9 @@ pub struct Counters {
     pub taken: u64,
     pub answered: u64,
     pub dropped: u64,
-    pub served: [u64; 8],
+    pub served: [u64; LINES],
     pub unauthenticated: u64,
-    pub refused: [u64; 17],
+    pub refused: [u64; REFUSED_STATUSES],
 }
 
 // The request that a call answered, as it is counted: for whom, and with which status.

@@ -1,4 +1,4 @@
-// A call that is taken, by what its connection is.
+// A call that is taken, by what its connection is ("A whole stream under the rules", up to one response).
 use crate::Code;
 use crate::Event;
 use crate::Handled;
@@ -12,22 +12,17 @@ use connection::check::read_state;
 use connection::gather::gather;
 use judgement::Answered;
 use judgement::answer::answer_bad_start;
-use judgement::answer::answer_oversized;
+use judgement::answer::answer_skipped;
 use judgement::answer::answer_whole;
 use stream::frame::Frame;
 use stream::frame::read_frame;
 use stream::frame::request_length;
-use wire::number::read_u16;
 ghost use mathlib.Core.Path.{_≡_};
 ghost use mathlib.Core.List.{List, []};
-ghost use Prim.Native.Nat.{ℕ, _≤_};
-ghost use lib.ListN.{length, take};
+ghost use Prim.Native.Nat.{ℕ};
 ghost use Rattle.connection.specs.Connection.{connectionOf};
 ghost use Rattle.connection.specs.State.{stateOf};
 ghost use Rattle.stream.specs.Rules.{opened};
-ghost use Rattle.wire.specs.Request.{headerLength};
-ghost use Rattle.judgement.specs.Judgement.{judgement};
-ghost use Rattle.judgement.specs.Answers.{AnsweredBy};
 ghost use Rattle.service.specs.Called.{lentMemory};
 ghost use Rattle.service.specs.Served.{Ready, Carried, effectOf, skipEffect, SkipReady, headerAt, waited, finished, droppedAll};
 ghost use Rattle.service.specs.declared.Counters.{Counters};
@@ -60,15 +55,6 @@ fn finish(n: usize, size: u64, a: Answered) -> Handled
         dropped: 0,
         event: Event::Request { asker, status },
     }
-}
-
-// The response to an oversized request, whose header the bytes begin with.
-fn answer_skipped(out: &mut [u8], bytes: &[u8]) -> Answered
-    requires { ⌜ (28 ≤ headerLength (now bytes)) × (headerLength (now bytes) ≤ length (now bytes)) × (1024 ≤ length (now out)) ⌝ }
-    ensures { λ r. ⌜ ((registry : List ℕ) → AnsweredBy (λ c. judgement .onOversized registry c (take (headerLength (now (bytes .entry))) (now (bytes .entry)))) registry (now (out .entry)) (now (out .exit)) r) ⌝ }
-{
-    let end = 6 + read_u16(bytes, 4) as usize;
-    answer_oversized(out, &bytes[..end])
 }
 
 // An oversized request, its header held: `to_go` bytes are missing, and `here` are at hand behind the `used` first of the chunk.
@@ -160,7 +146,7 @@ fn drop_all(n: usize) -> Handled
     }
 }
 
-// A call that none of C1 to C5 refuses.
+// A call that none of C1 to C4 refuses. C5 is for who counts: no counter is looked at here.
 pub fn serve(connection: &mut [u8], registry: &mut [u8], out: &mut [u8], chunk: &[u8]) -> Handled
     requires { ⌜ Ready (now connection) (now registry) (now chunk) (now out) ⌝ }
     ensures { λ r. ⌜ ((c : Counters) → Carried c (effectOf (lentMemory (now (connection .entry)) (now (registry .entry)) c) (now (chunk .entry))) (now (connection .exit)) (now (registry .exit)) (now (out .entry)) (now (out .exit)) r) ⌝ }

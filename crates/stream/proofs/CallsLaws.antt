@@ -35,6 +35,11 @@ unfolding took
 took-taken n none call = refl
 took-taken n (some r) call = refl
 
+pub took-code : (n : ℕ) (o : Option (List ℕ)) (call : Call) → took n o call .code ≡ 0
+unfolding took
+took-code n none call = refl
+took-code n (some r) call = refl
+
 module _ {Memory Reg Count : Type 0} (J : Judgement Reg Count (List ℕ)) (L : Layout Memory Reg Count) (lawful : Lawful L)
     (refusal : Memory → Call → Option ℕ) (registry : Reg) where
   -- what is kept after a stream, and how it lies in memory
@@ -57,7 +62,7 @@ module _ {Memory Reg Count : Type 0} (J : Judgement Reg Count (List ℕ)) (L : L
     abbrev pub seenThen : List ℕ
     seenThen = seen ++ take (effect .taken) (call .chunk)
 
-    pub call-refused : (code : ℕ) → refusal (after seen) call ≡ some code
+    call-refused : (code : ℕ) → refusal (after seen) call ≡ some code
         → callOn J L refusal (after seen) call ≡ record { answer = refused code call; memory = after seen }
     unfolding callOn
     call-refused code e = rw (e, callOn)

@@ -5,100 +5,68 @@ use mathlib.Core.Bool.{Bool, true, false, true≢false, _&&_}
 use mathlib.Core.Option.{Option, none, some}
 use mathlib.Core.List.{List, [], _∷_, _++_, append-assoc, append-nil}
 use native.Mathlib.Omega.{arith}
-use lib.ListN.{length, take, length-append}
+use lib.ListN.{length, take}
 use lib.Seq.{take-append-le, take-append-add, take-length}
 use lib.Dec.{leb, eqb}
-use borrow.Author.Tests.{leb-true, leb-false, lt-leb, le-leb}
-use Rattle.wire.specs.Request.{headerSize, contentLength, authLength, headerLength, requestLength}
+use borrow.Author.Tests.{leb-true, leb-false, lt-leb, le-leb, eqb-true}
+use Rattle.wire.specs.Request.{contentLength, authLength, headerLength, requestLength}
 use Rattle.wire.proofs.TestLaws.{and-left, and-right}
 use Rattle.stream.specs.Frame.{legalStart, oversized, Next, unfinished, badStart, skipped, whole, next}
 use Rattle.stream.specs.Rules.{Verdict, Judgement, Connection, opened, skipping, closed, State, judge}
 use Rattle.stream.specs.Effects.{waiting, answering, dropping}
 use Rattle.stream.specs.Call.{isBeginning, wellFormed, Step, keep, respond, dropByte, openRule, skipRule, byteRule, Effect, callRule}
-use Rattle.stream.proofs.FrameLaws.{Unfinished, short, inHeader, inBody, Skipped, Shape, isUnfinished, isBad, isSkipped, isWhole, shape, next-unfinished, next-bad, next-skipped, next-whole, legal-size, legalStart-append, headerSize-append, requestLength-append, oversized-append, whole-append, bad-append, length-snoc, whole-last, bad-last, header-length}
+use Rattle.stream.proofs.FrameLaws.{Unfinished, Skipped, Shape, isUnfinished, isBad, isSkipped, isWhole, shape, next-unfinished, next-bad, next-skipped, next-whole, legal-size, whole-append, bad-append, bad-behind, whole-behind, length-snoc, whole-last, bad-last, header-length, skipped-stays, skipped-ends, judge-large}
 use Rattle.stream.proofs.CallLaws.{call-responds, call-goes-on}
 
 -- ---- what `next` tells, turned round
 
-kind : Next → ℕ
-kind unfinished = 0
-kind badStart = 1
-kind (skipped header missing) = 2
-kind (whole size) = 3
-
-sizeIn : Next → ℕ
-sizeIn unfinished = 0
-sizeIn badStart = 0
-sizeIn (skipped header missing) = 0
-sizeIn (whole size) = size
-
-headerIn : Next → List ℕ
-headerIn unfinished = []
-headerIn badStart = []
-headerIn (skipped header missing) = header
-headerIn (whole size) = []
-
-missingIn : Next → ℕ
-missingIn unfinished = 0
-missingIn badStart = 0
-missingIn (skipped header missing) = missing
-missingIn (whole size) = 0
-
 pub unfinished-held : (s : List ℕ) → next s ≡ unfinished → Unfinished s
-unfolding kind
 unfinished-held s e = go (shape s)
   where
     go : Shape s → Unfinished s
     go (isUnfinished u) = u
-    go (isBad h l) = absurd (omega (arith, ap kind (sym (next-bad s h l) ∙ e)))
-    go (isSkipped k) = absurd (omega (arith, ap kind (sym (next-skipped s (k .legal) (k .header) (k .more) (k .large)) ∙ e)))
-    go (isWhole l m) = absurd (omega (arith, ap kind (sym (next-whole s l m) ∙ e)))
+    go (isBad h l) = absurd (let n = next-bad s h l in let z : _≡_ {A = ℕ} 0 1 = cc in omega arith)
+    go (isSkipped k) = absurd (let n = next-skipped s (k .legal) (k .header) (k .more) (k .large) in let z : _≡_ {A = ℕ} 0 1 = cc in omega arith)
+    go (isWhole l m) = absurd (let n = next-whole s l m in let z : _≡_ {A = ℕ} 0 1 = cc in omega arith)
 
 pub bad-found : (s : List ℕ) → next s ≡ badStart → (6 ≤ length s) × (legalStart s ≡ false)
-unfolding kind
 bad-found s e = go (shape s)
   where
     go : Shape s → (6 ≤ length s) × (legalStart s ≡ false)
-    go (isUnfinished u) = absurd (omega (arith, ap kind (sym (next-unfinished s u) ∙ e)))
+    go (isUnfinished u) = absurd (let n = next-unfinished s u in let z : _≡_ {A = ℕ} 0 1 = cc in omega arith)
     go (isBad h l) = (h, l)
-    go (isSkipped k) = absurd (omega (arith, ap kind (sym (next-skipped s (k .legal) (k .header) (k .more) (k .large)) ∙ e)))
-    go (isWhole l m) = absurd (omega (arith, ap kind (sym (next-whole s l m) ∙ e)))
+    go (isSkipped k) = absurd (let n = next-skipped s (k .legal) (k .header) (k .more) (k .large) in let z : _≡_ {A = ℕ} 0 1 = cc in omega arith)
+    go (isWhole l m) = absurd (let n = next-whole s l m in let z : _≡_ {A = ℕ} 0 1 = cc in omega arith)
 
 pub whole-found : (s : List ℕ) (size : ℕ) → next s ≡ whole size
     → (legalStart s ≡ true) × (requestLength s ≡ size) × (size ≤ length s)
-unfolding kind sizeIn
 whole-found s size e = go (shape s)
   where
     go : Shape s → (legalStart s ≡ true) × (requestLength s ≡ size) × (size ≤ length s)
-    go (isUnfinished u) = absurd (omega (arith, ap kind (sym (next-unfinished s u) ∙ e)))
-    go (isBad h l) = absurd (omega (arith, ap kind (sym (next-bad s h l) ∙ e)))
-    go (isSkipped k) = absurd (omega (arith, ap kind (sym (next-skipped s (k .legal) (k .header) (k .more) (k .large)) ∙ e)))
+    go (isUnfinished u) = absurd (let n = next-unfinished s u in let z : _≡_ {A = ℕ} 0 1 = cc in omega arith)
+    go (isBad h l) = absurd (let n = next-bad s h l in let z : _≡_ {A = ℕ} 0 1 = cc in omega arith)
+    go (isSkipped k) = absurd (let n = next-skipped s (k .legal) (k .header) (k .more) (k .large) in let z : _≡_ {A = ℕ} 0 1 = cc in omega arith)
     go (isWhole l m) =
-        let n : requestLength s ≡ size = ap sizeIn (sym (next-whole s l m) ∙ e) in
+        let same = next-whole s l m in
+        let n : requestLength s ≡ size = cc in
         (l, n, omega arith)
 
-pub skipped-found : (s h : List ℕ) (m : ℕ) → next s ≡ skipped h m
-    → (h ≡ take (headerLength s) s) × (headerLength s ≤ length s) × (oversized s ≡ true) × (legalStart s ≡ true)
-unfolding kind headerIn
-skipped-found s h m e = go (shape s)
+-- a request to skip that has begun
+pub record Skip (s header : List ℕ) (missing : ℕ) : Type 0 where
+  pub header-is : header ≡ take (headerLength s) s
+  pub missing-is : missing ≡ requestLength s - length s
+  pub skipped-is : Skipped s
+
+pub skip-found : (s h : List ℕ) (m : ℕ) → next s ≡ skipped h m → Skip s h m
+skip-found s h m e = go (shape s)
   where
-    go : Shape s → (h ≡ take (headerLength s) s) × (headerLength s ≤ length s) × (oversized s ≡ true) × (legalStart s ≡ true)
-    go (isUnfinished u) = absurd (omega (arith, ap kind (sym (next-unfinished s u) ∙ e)))
-    go (isBad q l) = absurd (omega (arith, ap kind (sym (next-bad s q l) ∙ e)))
+    go : Shape s → Skip s h m
+    go (isUnfinished u) = absurd (let n = next-unfinished s u in let z : _≡_ {A = ℕ} 0 1 = cc in omega arith)
+    go (isBad q l) = absurd (let n = next-bad s q l in let z : _≡_ {A = ℕ} 0 1 = cc in omega arith)
     go (isSkipped k) =
         let same = next-skipped s (k .legal) (k .header) (k .more) (k .large) in
-        (ap headerIn (sym e ∙ same), k .header, k .large, k .legal)
-    go (isWhole l m) = absurd (omega (arith, ap kind (sym (next-whole s l m) ∙ e)))
-
-pub missing-found : (s h : List ℕ) (m : ℕ) → next s ≡ skipped h m → (m ≡ requestLength s - length s) × (length s < requestLength s)
-unfolding kind missingIn
-missing-found s h m e = go (shape s)
-  where
-    go : Shape s → (m ≡ requestLength s - length s) × (length s < requestLength s)
-    go (isUnfinished u) = absurd (omega (arith, ap kind (sym (next-unfinished s u) ∙ e)))
-    go (isBad q l) = absurd (omega (arith, ap kind (sym (next-bad s q l) ∙ e)))
-    go (isSkipped k) = (ap missingIn (sym e ∙ next-skipped s (k .legal) (k .header) (k .more) (k .large)), k .more)
-    go (isWhole l m) = absurd (omega (arith, ap kind (sym (next-whole s l m) ∙ e)))
+        record { header-is = cc; missing-is = cc; skipped-is = k }
+    go (isWhole l m) = absurd (let n = next-whole s l m in let z : _≡_ {A = ℕ} 0 1 = cc in omega arith)
 
 pub unfinished-next : (s : List ℕ) → isBeginning s ≡ true → next s ≡ unfinished
 unfolding isBeginning
@@ -279,68 +247,11 @@ module _ {Reg Count Out : Type 0} (J : Judgement Reg Count Out) where
           ∙ later-answering s (skipping header (toGo - 1)) (opened []) (toGo - 1) (requestLength header) v
           ∙ ap (λ (n : ℕ). answering s n (requestLength header) v (opened [])) n
 
--- ---- beginnings of a request, and any bytes behind them
-
--- a bad start lies behind fewer than six bytes
-bad-behind : (s x : List ℕ) → Unfinished s → legalStart (s ++ x) ≡ false → length s < 6
-bad-behind s x (short h) l = h
-bad-behind s x (inHeader h l₀ k₀) l = absurd (true≢false (sym l₀ ∙ sym (legalStart-append s x h) ∙ l))
-bad-behind s x (inBody l₀ k₀ m₀ o₀) l = absurd (true≢false (sym l₀ ∙ sym (legalStart-append s x (omega arith)) ∙ l))
-
--- a request ends behind its unfinished beginnings
-whole-behind : (s x : List ℕ) → Unfinished s → legalStart (s ++ x) ≡ true → length s < requestLength (s ++ x)
-whole-behind s x u l = go u (legal-size _ l)
-  where
-    go : Unfinished s → 22 ≤ headerSize (s ++ x) → length s < requestLength (s ++ x)
-    go (short h) big = omega arith
-    go (inHeader h l₀ k₀) big =
-        let e : headerSize (s ++ x) ≡ headerSize s = headerSize-append s x h in
-        omega arith
-    go (inBody l₀ k₀ m₀ o₀) big =
-        let big₀ : 22 ≤ headerSize s = legal-size s l₀ in
-        let e : requestLength (s ++ x) ≡ requestLength s = requestLength-append s x (omega arith) in
-        omega arith
-
-module _ (s x : List ℕ) (k : Skipped s) where
-  skipped-append : (legalStart (s ++ x) ≡ true) × (headerSize (s ++ x) ≡ headerSize s)
-      × (requestLength (s ++ x) ≡ requestLength s) × (oversized (s ++ x) ≡ true)
-      × (take (headerLength (s ++ x)) (s ++ x) ≡ take (headerLength s) s)
-  skipped-append =
-      let big : 22 ≤ headerSize s = legal-size s (k .legal) in
-      let h : headerLength s ≤ length s = k .header in
-      let e : headerSize (s ++ x) ≡ headerSize s = headerSize-append s x (omega arith) in (
-        legalStart-append s x (omega arith) ∙ k .legal,
-        e,
-        requestLength-append s x (omega arith),
-        oversized-append s x (omega arith) ∙ k .large,
-        ap (λ (n : ℕ). take (6 + n) (s ++ x)) e ∙ take-append-le (headerLength s) s x h,
-      )
-
-  -- bytes of an oversized request, the last not among them, and among them
-  pub skipped-stays : length x < requestLength s - length s
-      → next (s ++ x) ≡ skipped (take (headerLength s) s) (requestLength s - length s - length x)
-  skipped-stays m =
-      let (l, e, r, o, t) = skipped-append in
-      let n : length (s ++ x) ≡ length s + length x = length-append s x in
-      let h : headerLength s ≤ length s = k .header in
-      next-skipped (s ++ x) l (omega arith) (omega arith) o ∙ ap₂ skipped t (omega arith)
-
-  pub skipped-ends : requestLength s - length s ≤ length x → next (s ++ x) ≡ whole (requestLength s)
-  skipped-ends m =
-      let (l, e, r, o, t) = skipped-append in
-      let n : length (s ++ x) ≡ length s + length x = length-append s x in
-      let h : length s < requestLength s = k .more in
-      next-whole (s ++ x) l (omega arith) ∙ ap whole r
+-- ---- an open connection, by what it holds with the chunk begins with
 
 module _ {Reg Count Out : Type 0} (J : Judgement Reg Count Out) where
-  pub judge-large : (registry : Reg) (counts : Count) (s x : List ℕ) → Skipped s
-      → judge J registry counts (s ++ x) ≡ J .onOversized registry counts (take (headerLength s) s)
-  unfolding judge
-  judge-large registry counts s x k =
-      rw (skipped-append s x k .3, judge) (ap (J .onOversized registry counts) (skipped-append s x k .4))
-
   -- what a call does on an open connection that holds `h` bytes, by what these and the `n` bytes of the chunk begin with
-  unfoldable pub openEffect : State Reg Count → (h n : ℕ) → List ℕ → Next → Effect Reg Count Out
+  openEffect : State Reg Count → (h n : ℕ) → List ℕ → Next → Effect Reg Count Out
   openEffect s h n all unfinished = waiting s n (opened all)
   openEffect s h n all badStart = answering s (6 - h) 6 (J .onBadStart (s .registry) (s .totals .counts)) closed
   openEffect s h n all (skipped header missing) = waiting s n (skipping header missing)
@@ -420,7 +331,7 @@ module _ {Reg Count Out : Type 0} (J : Judgement Reg Count Out) where
             = ap (λ (n : ℕ). take n (x ++ chunk)) (sym at) ∙ take-append-add x chunk (requestLength x - length x) in
             let verdict : judge J (s .registry) (s .totals .counts) (take (requestLength x) (x ++ chunk)) ≡ v
             = ap (judge J (s .registry) (s .totals .counts)) same
-            ∙ judge-large (s .registry) (s .totals .counts) x (take (requestLength x - length x) chunk) k in
+            ∙ judge-large J (s .registry) (s .totals .counts) x (take (requestLength x - length x) chunk) k in
             rw (skipped-ends x chunk k fits)
             (call-keeps J s b chunk _ e
             ∙ ap later (call-skipped J (keep J s (skipping (take (headerLength x) x) (requestLength x - length x)) .state) (take (headerLength x) x) (requestLength x - length x) chunk refl (omega arith) fits)
@@ -436,7 +347,7 @@ module _ {Reg Count Out : Type 0} (J : Judgement Reg Count Out) where
 
   -- ---- LAW 3: an open connection
 
-  pub call-open : (s : State Reg Count) (held chunk : List ℕ) → s .connection ≡ opened held → Unfinished held
+  call-open : (s : State Reg Count) (held chunk : List ℕ) → s .connection ≡ opened held → Unfinished held
       → callRule J s chunk ≡ openEffect s (length held) (length chunk) (held ++ chunk) (next (held ++ chunk))
   unfolding keep openEffect
   call-open s held [] e u =
@@ -489,10 +400,32 @@ module _ {Reg Count Out : Type 0} (J : Judgement Reg Count Out) where
     call-whole n q =
         call-open s held chunk e (unfinished-held held u) ∙ ap (openEffect s (length held) (length chunk) (held ++ chunk)) q
 
--- a well-formed connection that skips has bytes to go
-pub skipping-more : (header : List ℕ) (toGo : ℕ) → wellFormed (skipping header toGo) ≡ true → 1 ≤ toGo
+-- ---- a well-formed connection that skips
+
+pub record WellSkipping (header : List ℕ) (toGo : ℕ) : Type 0 where
+  pub many : 28 ≤ length header
+  pub legal : legalStart header ≡ true
+  pub exact : length header ≡ headerLength header
+  pub large : oversized header ≡ true
+  pub least : 1 ≤ toGo
+  pub most : toGo ≤ contentLength header + authLength header
+
+pub well-skipping : (header : List ℕ) (toGo : ℕ) → wellFormed (skipping header toGo) ≡ true → WellSkipping header toGo
 unfolding wellFormed
-skipping-more header toGo h =
-    leb-true 1 toGo (and-right (leb 6 (length header) && legalStart header && eqb (length header) (headerLength header) && oversized header) (leb 1 toGo)
-    (and-left (leb 6 (length header) && legalStart header && eqb (length header) (headerLength header) && oversized header && leb 1 toGo)
-    (leb toGo (contentLength header + authLength header)) h))
+well-skipping header toGo w =
+    let six : Bool = leb 6 (length header) in
+    let size : Bool = eqb (length header) (headerLength header) in
+    let w₄ = and-left (six && legalStart header && size && oversized header && leb 1 toGo) _ w in
+    let w₃ = and-left (six && legalStart header && size && oversized header) _ w₄ in
+    let w₂ = and-left (six && legalStart header && size) _ w₃ in
+    let w₁ = and-left (six && legalStart header) _ w₂ in
+    let legal : legalStart header ≡ true = and-right six _ w₁ in
+    let exact : length header ≡ headerLength header = eqb-true _ _ (and-right (six && legalStart header) _ w₂) in
+    record {
+      many = omega (arith, legal-size header legal);
+      legal = legal;
+      exact = exact;
+      large = and-right (six && legalStart header && size) _ w₃;
+      least = leb-true _ _ (and-right (six && legalStart header && size && oversized header) _ w₄);
+      most = leb-true _ _ (and-right (six && legalStart header && size && oversized header && leb 1 toGo) _ w);
+    }

@@ -1,6 +1,6 @@
 -- LIVENESS: a stream handed over chunk by chunk, what is left of a chunk again, is taken whole and no call is refused.
 use mathlib.Core.Path.{_≡_, refl, sym, ap, ap₂, _∙_, subst}
-use Prim.Native.Nat.{ℕ, zero, suc, _+_, _-_, _≤_, _<_}
+use Prim.Native.Nat.{ℕ, zero, suc, _+_, _≤_, _<_}
 use mathlib.Core.Bool.{Bool, true, _&&_}
 use mathlib.Core.Option.{Option, none, some}
 use mathlib.Core.List.{List, [], _∷_, _++_, flatten, append-assoc}
@@ -15,7 +15,7 @@ use Rattle.stream.specs.Rules.{Judgement, State, rules}
 use Rattle.stream.specs.Call.{byteRule, callRule, fresh}
 use Rattle.stream.specs.Calls.{Call, Answer, took, Layout, CallsOutcome, callsOn, leaving, handOver, takenStream}
 use Rattle.stream.proofs.CallLaws.{call-responds, call-goes-on, call-facts}
-use Rattle.stream.proofs.CallsLaws.{Lawful, after, call-took, fresh-memory, took-taken}
+use Rattle.stream.proofs.CallsLaws.{Lawful, after, call-took, fresh-memory, took-taken, took-code}
 
 -- every chunk has at most so many bytes
 abbrev pub within : (most : ℕ) → List (List ℕ) → Bool
@@ -25,9 +25,10 @@ within most chunks = all (λ chunk. leb (length chunk) most) chunks
 abbrev pub noneRefused : List Answer → Bool
 noneRefused answers = all (λ (a : Answer). eqb (a .code) 0) answers
 
-pub record Delivered {Memory : Type 0} (chunks : List (List ℕ)) (calls : List Call) (o : CallsOutcome Memory) : Type 0 where
+-- what a caller did that hands over what is left of a chunk again
+pub record TakenWhole {Memory : Type 0} (chunks : List (List ℕ)) (calls : List Call) (o : CallsOutcome Memory) : Type 0 where
+  pub neverRefused : noneRefused (o .answers) ≡ true
   pub whole : takenStream calls (o .answers) ≡ flatten chunks
-  pub taken : noneRefused (o .answers) ≡ true
 
 -- ---- what is left
 
@@ -49,11 +50,6 @@ count-leaving (x ∷ left) chunks = omega arith
 -- how many calls are enough: one for each byte and one for each chunk
 abbrev enough : List (List ℕ) → ℕ
 enough chunks = length (flatten chunks) + length chunks
-
-took-code : (n : ℕ) (o : Option (List ℕ)) (call : Call) → took n o call .code ≡ 0
-unfolding took
-took-code n none call = refl
-took-code n (some r) call = refl
 
 module _ {Reg Count Out : Type 0} (J : Judgement Reg Count Out) where
   -- a call on a chunk with a byte takes a byte
@@ -90,7 +86,7 @@ module _ {Memory Reg Count : Type 0} (J : Judgement Reg Count (List ℕ)) (L : L
   abbrev Delivers : ℕ → Memory → List (List ℕ) → Type 0
   Delivers most m chunks =
       let calls : List Call = handOver J L refusal most buffers m chunks in
-      Delivered chunks calls (callsOn J L refusal m calls)
+      TakenWhole chunks calls (callsOn J L refusal m calls)
 
   module _ (most : ℕ) (seen chunk : List ℕ) (chunks : List (List ℕ)) where
     abbrev call : Call
@@ -110,19 +106,19 @@ module _ {Memory Reg Count : Type 0} (J : Judgement Reg Count (List ℕ)) (L : L
         let c : answer .code ≡ 0 = took-code n (callRule J (rules J registry seen .state) chunk .response) call in
         rw (call-took J L lawful refusal registry seen call ok, t)
         (record {
+          neverRefused = ap₂ _&&_ (ap (λ (k : ℕ). eqb k 0) c) (ih .neverRefused);
           whole =
               ap (λ (x : List ℕ). take n chunk ++ x) (ih .whole ∙ flatten-leaving (drop n chunk) chunks)
               ∙ sym (append-assoc (take n chunk) (drop n chunk) (flatten chunks))
               ∙ ap (λ (x : List ℕ). x ++ flatten chunks) (take-append-drop n chunk);
-          taken = ap₂ _&&_ (ap (λ (k : ℕ). eqb k 0) c) (ih .taken);
         })
 
   delivers : (most : ℕ) (seen : List ℕ) (chunks : List (List ℕ)) → enough chunks ≤ most → within chunkMost chunks ≡ true
       → length seen + length (flatten chunks) ≤ streamMost → Delivers most (then seen) chunks
   unfolding handOver callsOn takenStream flatten
-  delivers zero seen [] h w t = record { whole = refl; taken = refl }
+  delivers zero seen [] h w t = record { neverRefused = refl; whole = refl }
   delivers zero seen (chunk ∷ chunks) h w t = absurd (omega arith)
-  delivers (suc most) seen [] h w t = record { whole = refl; taken = refl }
+  delivers (suc most) seen [] h w t = record { neverRefused = refl; whole = refl }
   delivers (suc most) seen (chunk ∷ chunks) h w t =
       let small : length chunk ≤ chunkMost = leb-true _ _ (and-left (leb (length chunk) chunkMost) _ w) in
       let k : ℕ = n most seen chunk chunks in

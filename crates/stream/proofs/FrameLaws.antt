@@ -1,5 +1,5 @@
 -- What a request's beginning tells stays so when more bytes follow.
-use mathlib.Core.Path.{_≡_, refl, sym, ap, ap₂, _∙_}
+use mathlib.Core.Path.{_≡_, refl, sym, ap, ap₂, _∙_, subst}
 use Prim.Native.Nat.{ℕ, suc, _+_, _-_, _≤_, _<_}
 use mathlib.Core.Bool.{Bool, true, false, true≢false}
 use mathlib.Core.List.{List, [], _∷_, _++_}
@@ -8,10 +8,11 @@ use lib.ListN.{length, take, drop, length-append, take-append-drop}
 use lib.Seq.{take-append-le, length-take-le}
 use lib.Dec.{leb, ltb, eqb}
 use borrow.Author.Tests.{ltb-true, ltb-false, lt-ltb, le-ltb, leb-true}
-use Rattle.wire.specs.Request.{magicNumber, magic, headerSize, headerLength, requestLength}
+use Rattle.wire.specs.Request.{magicNumber, magic, headerSize, contentLength, authLength, headerLength, requestLength}
 use Rattle.wire.proofs.TestLaws.{and-left, and-right}
 use Rattle.wire.proofs.NumberLaws.{field-append}
 use Rattle.stream.specs.Frame.{legalStart, oversized, unfinished, badStart, skipped, whole, next}
+use Rattle.stream.specs.Rules.{Judgement, judge}
 
 -- ---- fields
 
@@ -112,7 +113,7 @@ next-unfinished s (short h) = next-short s h
 next-unfinished s (inHeader h l k) = next-header s h l k
 next-unfinished s (inBody l k m o) = next-body s l k m o
 
--- ---- one byte more
+-- ---- more bytes behind
 
 -- a request that is whole stays so
 pub whole-append : (s x : List ℕ) → legalStart s ≡ true → requestLength s ≤ length s → next (s ++ x) ≡ whole (requestLength s)
@@ -128,6 +129,26 @@ bad-append s x h l =
     let k : length (s ++ x) ≡ length s + length x = length-append s x in
     next-bad (s ++ x) (omega arith) (legalStart-append s x h ∙ l)
 
+-- a bad start lies behind fewer than six bytes
+pub bad-behind : (s x : List ℕ) → Unfinished s → legalStart (s ++ x) ≡ false → length s < 6
+bad-behind s x (short h) l = h
+bad-behind s x (inHeader h l₀ k₀) l = absurd (true≢false (sym l₀ ∙ sym (legalStart-append s x h) ∙ l))
+bad-behind s x (inBody l₀ k₀ m₀ o₀) l = absurd (true≢false (sym l₀ ∙ sym (legalStart-append s x (omega arith)) ∙ l))
+
+-- a request ends behind its unfinished beginnings
+pub whole-behind : (s x : List ℕ) → Unfinished s → legalStart (s ++ x) ≡ true → length s < requestLength (s ++ x)
+whole-behind s x u l = go u (legal-size _ l)
+  where
+    go : Unfinished s → 22 ≤ headerSize (s ++ x) → length s < requestLength (s ++ x)
+    go (short h) big = omega arith
+    go (inHeader h l₀ k₀) big =
+        let e : headerSize (s ++ x) ≡ headerSize s = headerSize-append s x h in
+        omega arith
+    go (inBody l₀ k₀ m₀ o₀) big =
+        let big₀ : 22 ≤ headerSize s = legal-size s l₀ in
+        let e : requestLength (s ++ x) ≡ requestLength s = requestLength-append s x (omega arith) in
+        omega arith
+
 module _ (s : List ℕ) (b : ℕ) where
   pub length-snoc : length (s ++ (b ∷ [])) ≡ suc (length s)
   length-snoc = length-append s (b ∷ []) ∙ omega arith
@@ -135,66 +156,69 @@ module _ (s : List ℕ) (b : ℕ) where
   -- an unfinished request becomes whole at its last byte
   pub whole-last : Unfinished s → legalStart (s ++ (b ∷ [])) ≡ true → requestLength (s ++ (b ∷ [])) ≤ length (s ++ (b ∷ []))
       → requestLength (s ++ (b ∷ [])) ≡ length (s ++ (b ∷ []))
-  whole-last u l m =
-      let big : 22 ≤ headerSize (s ++ (b ∷ [])) = legal-size _ l in
-      let k : length (s ++ (b ∷ [])) ≡ suc (length s) = length-snoc in
-      go u big k
-    where
-      go : Unfinished s → 22 ≤ headerSize (s ++ (b ∷ [])) → length (s ++ (b ∷ [])) ≡ suc (length s)
-          → requestLength (s ++ (b ∷ [])) ≡ length (s ++ (b ∷ []))
-      go (short h) big k = omega arith
-      go (inHeader h l₀ k₀) big k =
-          let e : headerSize (s ++ (b ∷ [])) ≡ headerSize s = headerSize-append s (b ∷ []) h in
-          omega arith
-      go (inBody l₀ k₀ m₀ o₀) big k =
-          let big₀ : 22 ≤ headerSize s = legal-size s l₀ in
-          let e : requestLength (s ++ (b ∷ [])) ≡ requestLength s = requestLength-append s (b ∷ []) (omega arith) in
-          omega arith
+  whole-last u l m = omega (arith, whole-behind s (b ∷ []) u l, length-snoc)
 
   -- a bad start shows at the sixth byte
   pub bad-last : Unfinished s → 6 ≤ length (s ++ (b ∷ [])) → legalStart (s ++ (b ∷ [])) ≡ false → length (s ++ (b ∷ [])) ≡ 6
-  bad-last (short h) m l = let k : length (s ++ (b ∷ [])) ≡ suc (length s) = length-snoc in omega arith
-  bad-last (inHeader h l₀ k₀) m l = absurd (true≢false (sym l₀ ∙ sym (legalStart-append s (b ∷ []) h) ∙ l))
-  bad-last (inBody l₀ k₀ m₀ o₀) m l =
-      absurd (true≢false (sym l₀ ∙ sym (legalStart-append s (b ∷ []) (omega arith)) ∙ l))
+  bad-last u m l = omega (arith, bad-behind s (b ∷ []) u l, length-snoc)
+
+-- ---- what a whole header says
+
+-- stays so whatever follows
+pub record Told (x y : List ℕ) : Type 0 where
+  pub legal : legalStart x ≡ legalStart y
+  pub large : oversized x ≡ oversized y
+  pub long : headerLength x ≡ headerLength y
+  pub more : contentLength x + authLength x ≡ contentLength y + authLength y
+
+pub told : (s x : List ℕ) → 28 ≤ length s → Told (s ++ x) s
+told s x h = record {
+  legal = legalStart-append s x (omega arith);
+  large = oversized-append s x h;
+  long = ap (λ (n : ℕ). 6 + n) (headerSize-append s x (omega arith));
+  more = ap₂ _+_ (field-append 20 4 s x (omega arith)) (field-append 24 2 s x (omega arith));
+}
+
+pub header-told : (s : List ℕ) → legalStart s ≡ true → headerLength s ≤ length s → Told s (take (headerLength s) s)
+header-told s l h =
+    let big : 22 ≤ headerSize s = legal-size s l in
+    let n : length (take (headerLength s) s) ≡ headerLength s = length-take-le (headerLength s) s h in
+    subst (λ (x : List ℕ). Told x (take (headerLength s) s)) (take-append-drop (headerLength s) s)
+    (told (take (headerLength s) s) (drop (headerLength s) s) (omega arith))
 
 -- the header of an oversized request tells its length
 pub header-length : (s : List ℕ) → Skipped s → requestLength (take (headerLength s) s) ≡ requestLength s
-header-length s k =
-    let big : 22 ≤ headerSize s = legal-size s (k .legal) in
-    let h : headerLength s ≤ length s = k .header in
-    let n : length (take (headerLength s) s) ≡ headerLength s = length-take-le (headerLength s) s h in
-    sym (requestLength-append (take (headerLength s) s) (drop (headerLength s) s) (omega arith))
-    ∙ ap requestLength (take-append-drop (headerLength s) s)
+header-length s k = let t = header-told s (k .legal) (k .header) in omega (arith, t .long, t .more)
 
--- one more byte of an oversized request, not the last, and the last
-module _ (s : List ℕ) (b : ℕ) (k : Skipped s) where
-  pub skipped-kept : (legalStart (s ++ (b ∷ [])) ≡ true) × (headerSize (s ++ (b ∷ [])) ≡ headerSize s)
-      × (requestLength (s ++ (b ∷ [])) ≡ requestLength s) × (oversized (s ++ (b ∷ [])) ≡ true)
-      × (take (headerLength (s ++ (b ∷ []))) (s ++ (b ∷ [])) ≡ take (headerLength s) s)
-  skipped-kept =
-      let big : 22 ≤ headerSize s = legal-size s (k .legal) in
+module _ (s x : List ℕ) (k : Skipped s) where
+  skipped-told : Told (s ++ x) s
+  skipped-told = told s x (omega (arith, legal-size s (k .legal), k .header))
+
+  skipped-header : take (headerLength (s ++ x)) (s ++ x) ≡ take (headerLength s) s
+  skipped-header = ap (λ (n : ℕ). take n (s ++ x)) (skipped-told .long) ∙ take-append-le (headerLength s) s x (k .header)
+
+  -- bytes of an oversized request, the last not among them, and among them
+  pub skipped-stays : length x < requestLength s - length s
+      → next (s ++ x) ≡ skipped (take (headerLength s) s) (requestLength s - length s - length x)
+  skipped-stays m =
+      let t = skipped-told in
+      let long = t .long in
+      let more = t .more in
+      let n : length (s ++ x) ≡ length s + length x = length-append s x in
       let h : headerLength s ≤ length s = k .header in
-      let e : headerSize (s ++ (b ∷ [])) ≡ headerSize s = headerSize-append s (b ∷ []) (omega arith) in (
-        legalStart-append s (b ∷ []) (omega arith) ∙ k .legal,
-        e,
-        requestLength-append s (b ∷ []) (omega arith),
-        oversized-append s (b ∷ []) (omega arith) ∙ k .large,
-        ap (λ (n : ℕ). take (6 + n) (s ++ (b ∷ []))) e ∙ take-append-le (headerLength s) s (b ∷ []) h,
-      )
+      next-skipped (s ++ x) (t .legal ∙ k .legal) (omega arith) (omega arith) (t .large ∙ k .large) ∙ ap₂ skipped skipped-header (omega arith)
 
-  pub skipped-more : 1 < requestLength s - length s
-      → next (s ++ (b ∷ [])) ≡ skipped (take (headerLength s) s) (requestLength s - length s - 1)
-  skipped-more m =
-      let (l, e, r, o, t) = skipped-kept in
-      let n : length (s ++ (b ∷ [])) ≡ suc (length s) = length-snoc s b in
-      let h : headerLength s ≤ length s = k .header in
-      next-skipped (s ++ (b ∷ [])) l (omega arith) (omega arith) o ∙ ap₂ skipped t (omega arith)
-
-  pub skipped-last : requestLength s - length s ≤ 1
-      → (next (s ++ (b ∷ [])) ≡ whole (length (s ++ (b ∷ [])))) × (requestLength s ≡ length (s ++ (b ∷ [])))
-  skipped-last m =
-      let (l, e, r, o, t) = skipped-kept in
-      let n : length (s ++ (b ∷ [])) ≡ suc (length s) = length-snoc s b in
+  pub skipped-ends : requestLength s - length s ≤ length x → next (s ++ x) ≡ whole (requestLength s)
+  skipped-ends m =
+      let t = skipped-told in
+      let long = t .long in
+      let more = t .more in
+      let n : length (s ++ x) ≡ length s + length x = length-append s x in
       let h : length s < requestLength s = k .more in
-      (next-whole (s ++ (b ∷ [])) l (omega arith) ∙ ap whole (omega arith), omega arith)
+      next-whole (s ++ x) (t .legal ∙ k .legal) (omega arith) ∙ ap whole (omega arith)
+
+pub judge-large : {Reg Count Out : Type 0} (J : Judgement Reg Count Out) (registry : Reg) (counts : Count) (s x : List ℕ) → Skipped s
+    → judge J registry counts (s ++ x) ≡ J .onOversized registry counts (take (headerLength s) s)
+unfolding judge
+judge-large J registry counts s x k =
+    rw (skipped-told s x k .large, k .large, judge) (ap (J .onOversized registry counts) (skipped-header s x k))

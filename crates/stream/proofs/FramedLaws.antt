@@ -9,49 +9,27 @@ use lib.Seq.{length-take-le}
 use Rattle.wire.specs.Request.{headerLength, requestLength}
 use Rattle.stream.specs.Frame.{legalStart, Next, unfinished, badStart, skipped, whole, next}
 use Rattle.stream.specs.Framed.{frameOf}
-use Rattle.stream.specs.declared.frame.Frame.{Frame}
 use Rattle.stream.specs.declared.frame.Frame.the-variants.{Unfinished, BadStart, Skipped, Whole}
-use Rattle.stream.proofs.ChunkLaws.{skipped-found, whole-found}
+use Rattle.stream.proofs.ChunkLaws.{skip-found, whole-found}
 use Rattle.stream.proofs.FrameLaws.{legal-size, legalStart-append, requestLength-append}
 
-kind : Frame → ℕ
-kind Unfinished = 0
-kind BadStart = 1
-kind (Skipped header missing) = 2
-kind (Whole n) = 3
-
-headerIn : Frame → ℕ
-headerIn Unfinished = 0
-headerIn BadStart = 0
-headerIn (Skipped header missing) = header
-headerIn (Whole n) = 0
-
-sizeIn : Frame → ℕ
-sizeIn Unfinished = 0
-sizeIn BadStart = 0
-sizeIn (Skipped header missing) = missing
-sizeIn (Whole n) = n
-
 pub frame-unfinished : (n : Next) → frameOf n ≡ Unfinished → n ≡ unfinished
-unfolding kind
 frame-unfinished unfinished e = refl
-frame-unfinished badStart e = absurd (omega (arith, ap kind e))
-frame-unfinished (skipped header missing) e = absurd (omega (arith, ap kind e))
-frame-unfinished (whole size) e = absurd (omega (arith, ap kind e))
+frame-unfinished badStart e = cc
+frame-unfinished (skipped header missing) e = cc
+frame-unfinished (whole size) e = cc
 
 pub frame-bad : (n : Next) → frameOf n ≡ BadStart → n ≡ badStart
-unfolding kind
-frame-bad unfinished e = absurd (omega (arith, ap kind e))
+frame-bad unfinished e = cc
 frame-bad badStart e = refl
-frame-bad (skipped header missing) e = absurd (omega (arith, ap kind e))
-frame-bad (whole size) e = absurd (omega (arith, ap kind e))
+frame-bad (skipped header missing) e = cc
+frame-bad (whole size) e = cc
 
 pub frame-whole : (n : Next) (size : ℕ) → frameOf n ≡ Whole size → n ≡ whole size
-unfolding kind sizeIn
-frame-whole unfinished k e = absurd (omega (arith, ap kind e))
-frame-whole badStart k e = absurd (omega (arith, ap kind e))
-frame-whole (skipped header missing) k e = absurd (omega (arith, ap kind e))
-frame-whole (whole size) k e = ap whole (ap sizeIn e)
+frame-whole unfinished k e = cc
+frame-whole badStart k e = cc
+frame-whole (skipped header missing) k e = cc
+frame-whole (whole size) k e = cc
 
 -- a header of k bytes, and so many bytes missing
 pub record FrameSkipped (n : Next) (k missing : ℕ) : Type 0 where
@@ -60,20 +38,20 @@ pub record FrameSkipped (n : Next) (k missing : ℕ) : Type 0 where
   pub is : n ≡ skipped header missing
 
 pub frame-skipped : (n : Next) (k missing : ℕ) → frameOf n ≡ Skipped k missing → FrameSkipped n k missing
-unfolding kind headerIn sizeIn
-frame-skipped unfinished k m e = absurd (omega (arith, ap kind e))
-frame-skipped badStart k m e = absurd (omega (arith, ap kind e))
+frame-skipped unfinished k m e = absurd (let z : _≡_ {A = ℕ} 0 1 = cc in omega arith)
+frame-skipped badStart k m e = absurd (let z : _≡_ {A = ℕ} 0 1 = cc in omega arith)
 frame-skipped (skipped header missing) k m e =
-    record { header = header; long = ap headerIn e; is = ap (skipped header) (ap sizeIn e) }
-frame-skipped (whole size) k m e = absurd (omega (arith, ap kind e))
+    record { header = header; long = cc; is = cc }
+frame-skipped (whole size) k m e = absurd (let z : _≡_ {A = ℕ} 0 1 = cc in omega arith)
 
 -- the header is so many first bytes
 pub header-part : (s header : List ℕ) (missing : ℕ) → next s ≡ skipped header missing
     → (length header ≤ length s) × (take (length header) s ≡ header)
 header-part s header missing e =
-    let (h, fits, large, legal) = skipped-found s header missing e in
-    let long : length header ≡ headerLength s = ap length h ∙ length-take-le (headerLength s) s fits in
-    (omega arith, ap (λ (n : ℕ). take n s) long ∙ sym h)
+    let k = skip-found s header missing e in
+    let fits = k .skipped-is .header in
+    let long : length header ≡ headerLength s = ap length (k .header-is) ∙ length-take-le (headerLength s) s fits in
+    (omega arith, ap (λ (n : ℕ). take n s) long ∙ sym (k .header-is))
 
 -- the request is so many first bytes
 pub record WholePart (s : List ℕ) (n : ℕ) : Type 0 where

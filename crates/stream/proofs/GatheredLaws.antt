@@ -5,37 +5,22 @@ use mathlib.Core.List.{List, [], _++_, append-assoc}
 use native.Mathlib.Omega.{arith}
 use lib.ListN.{length, take, drop, length-append, length-drop, take-append-drop}
 use lib.Seq.{take-all, take-append-seam, take-append-add, length-take-le}
-use Rattle.wire.specs.Request.{headerLength, requestLength}
+use Rattle.wire.specs.Request.{requestLength}
 use Rattle.stream.specs.Frame.{unfinished, badStart, skipped, whole, next}
 use Rattle.stream.specs.Rules.{Verdict, Judgement, opened, skipping, closed, State, judge}
 use Rattle.stream.specs.Effects.{waiting, answering}
 use Rattle.stream.specs.Call.{callRule}
-use Rattle.stream.proofs.FrameLaws.{Skipped, whole-append, bad-append, header-length}
-use Rattle.stream.proofs.ChunkLaws.{bad-found, whole-found, skipped-found, missing-found, skipped-stays, skipped-ends, judge-large, call-unfinished, call-bad, call-large, call-whole}
+use Rattle.stream.proofs.FrameLaws.{whole-append, bad-append, header-length, skipped-stays, skipped-ends, judge-large}
+use Rattle.stream.proofs.ChunkLaws.{bad-found, whole-found, Skip, skip-found, call-unfinished, call-bad, call-large, call-whole}
 
--- a request to skip that has begun
-pub record Skip (s header : List ℕ) (missing : ℕ) : Type 0 where
-  pub header-is : header ≡ take (headerLength s) s
-  pub missing-is : missing ≡ requestLength s - length s
-  pub skipped-is : Skipped s
-
-pub skip-found : (s h : List ℕ) (m : ℕ) → next s ≡ skipped h m → Skip s h m
-skip-found s h m e =
-    let f = skipped-found s h m e in
-    let n = missing-found s h m e in
-    record {
-      header-is = f .0;
-      missing-is = n .0;
-      skipped-is = record { legal = f .3; header = f .1; more = n .1; large = f .2 };
-    }
+-- so many bytes are gathered
+pub length-gathered : (held chunk : List ℕ) (used : ℕ) → used ≤ length chunk → length (held ++ take used chunk) ≡ length held + used
+length-gathered held chunk used few = omega (arith, length-append held (take used chunk), length-take-le used chunk few)
 
 module _ {Reg Count Out : Type 0} (J : Judgement Reg Count Out) (s : State Reg Count) (held chunk : List ℕ) (e : s .connection ≡ opened held) (u : next held ≡ unfinished) (used : ℕ) (few : used ≤ length chunk) where
   -- the bytes gathered, and behind them the rest of the chunk
   seam : (held ++ take used chunk) ++ drop used chunk ≡ held ++ chunk
   seam = append-assoc held (take used chunk) (drop used chunk) ∙ ap (λ (x : List ℕ). held ++ x) (take-append-drop used chunk)
-
-  long : length (held ++ take used chunk) ≡ length held + used
-  long = length-append held (take used chunk) ∙ ap (λ (n : ℕ). length held + n) (length-take-le used chunk few)
 
   pub after-unfinished : next (held ++ take used chunk) ≡ unfinished → used ≡ length chunk
       → callRule J s chunk ≡ waiting s used (opened (held ++ take used chunk))
@@ -58,7 +43,7 @@ module _ {Reg Count Out : Type 0} (J : Judgement Reg Count Out) (s : State Reg C
       let now : next (held ++ chunk) ≡ whole n
       = ap next (sym seam) ∙ whole-append (held ++ take used chunk) (drop used chunk) l (let x : requestLength (held ++ take used chunk) ≤ length (held ++ take used chunk) = omega arith in x) ∙ ap whole r in
       let same : take n (held ++ chunk) ≡ held ++ take used chunk
-      = ap₂ (λ (k : ℕ) (x : List ℕ). take k x) (sym all ∙ sym long) (sym seam) ∙ take-append-seam (held ++ take used chunk) (drop used chunk) in
+      = ap₂ (λ (k : ℕ) (x : List ℕ). take k x) (sym all ∙ sym (length-gathered held chunk used few)) (sym seam) ∙ take-append-seam (held ++ take used chunk) (drop used chunk) in
       call-whole J s held chunk e u n now
       ∙ ap₂ (λ (k : ℕ) (x : List ℕ). answering s k n (judge J (s .registry) (s .totals .counts) x) (opened [])) (let x : n - length held ≡ used = omega arith in x) same
 
@@ -95,5 +80,5 @@ module _ {Reg Count Out : Type 0} (J : Judgement Reg Count Out) (s : State Reg C
         ∙ judge-large J (s .registry) (s .totals .counts) x (take m (drop used chunk)) (found .skipped-is)
         ∙ ap (J .onOversized (s .registry) (s .totals .counts)) (sym (found .header-is)) in
         call-whole J s held chunk e u (requestLength x) now
-        ∙ ap₂ (λ (k n : ℕ). answering s k n (judge J (s .registry) (s .totals .counts) (take (requestLength x) (held ++ chunk))) (opened [])) (let l = long in (let y : requestLength x - length held ≡ used + m = omega arith in y)) (sym size)
+        ∙ ap₂ (λ (k n : ℕ). answering s k n (judge J (s .registry) (s .totals .counts) (take (requestLength x) (held ++ chunk))) (opened [])) (let l = length-gathered held chunk used few in (let y : requestLength x - length held ≡ used + m = omega arith in y)) (sym size)
         ∙ ap (λ (v : Verdict Reg Count Out). answering s (used + m) (requestLength h) v (opened [])) verdict

@@ -1,19 +1,17 @@
 -- What the rules keep after a stream: a well-formed connection, and, by a judgement that keeps them, a good registry and
 -- counters that are at most the stream's length.
-use mathlib.Core.Path.{_≡_, refl, sym, ap, _∙_}
+use mathlib.Core.Path.{_≡_, refl, sym, _∙_}
 use Prim.Native.Nat.{ℕ, suc, _+_, _-_, _≤_, _<_}
 use mathlib.Core.Bool.{Bool, true}
-use mathlib.Core.List.{List, _++_}
+use mathlib.Core.List.{List}
 use native.Mathlib.Omega.{arith}
-use lib.ListN.{length, take, drop, take-append-drop}
+use lib.ListN.{length, take}
 use lib.Seq.{length-take-le}
 use borrow.Author.Tests.{le-leb, eq-eqb}
-use Rattle.wire.specs.Request.{headerSize, contentLength, authLength, headerLength, requestLength}
-use Rattle.wire.proofs.NumberLaws.{field-append}
-use Rattle.stream.specs.Frame.{legalStart, oversized}
+use Rattle.wire.specs.Request.{contentLength, authLength, headerLength, requestLength}
 use Rattle.stream.specs.Rules.{Judgement, skipping, State, Outcome, Progress, answer, finish, judge, rulesFrom, start, rules}
 use Rattle.stream.specs.Call.{isBeginning, wellFormed}
-use Rattle.stream.proofs.FrameLaws.{Unfinished, Skipped, next-unfinished, legal-size, legalStart-append, oversized-append}
+use Rattle.stream.proofs.FrameLaws.{Unfinished, Skipped, next-unfinished, legal-size, header-told}
 use Rattle.stream.proofs.AccountingLaws.{by-requests, rules-accounted}
 
 unfinished-request : (s : List ℕ) → Unfinished s → isBeginning s ≡ true
@@ -24,22 +22,18 @@ skipped-well : (s : List ℕ) → Skipped s → wellFormed (skipping (take (head
 unfolding wellFormed
 skipped-well s k =
     let header : List ℕ = take (headerLength s) s in
-    let rest : List ℕ = drop (headerLength s) s in
     let size = legal-size s (k .legal) in
     let fits : headerLength s ≤ length s = k .header in
     let more : length s < requestLength s = k .more in
     let n : length header ≡ headerLength s = length-take-le (headerLength s) s fits in
-    let joined : header ++ rest ≡ s = take-append-drop (headerLength s) s in
-    let legal : legalStart header ≡ true = sym (legalStart-append header rest (omega arith)) ∙ ap legalStart joined ∙ k .legal in
-    let large : oversized header ≡ true = sym (oversized-append header rest (omega arith)) ∙ ap oversized joined ∙ k .large in
-    let h : headerSize header ≡ headerSize s = sym (field-append 4 2 header rest (omega arith)) ∙ ap headerSize joined in
-    let c : contentLength header ≡ contentLength s = sym (field-append 20 4 header rest (omega arith)) ∙ ap contentLength joined in
-    let a : authLength header ≡ authLength s = sym (field-append 24 2 header rest (omega arith)) ∙ ap authLength joined in
+    let t = header-told s (k .legal) fits in
+    let h = t .long in
+    let c = t .more in
     rw (
       le-leb 6 (length header) (omega arith),
-      legal,
+      sym (t .legal) ∙ k .legal,
       eq-eqb (length header) (headerLength header) (omega arith),
-      large,
+      sym (t .large) ∙ k .large,
       le-leb 1 (requestLength s - length s) (omega arith),
       le-leb (requestLength s - length s) (contentLength header + authLength header) (omega arith),
     )

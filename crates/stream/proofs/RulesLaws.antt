@@ -1,6 +1,6 @@
 -- One byte more on the stream: the rules give what the byte rule gives after them.
 use mathlib.Core.Path.{_≡_, refl, sym, ap, ap₂, _∙_}
-use Prim.Native.Nat.{ℕ, zero, suc, _+_, _-_, _≤_, _<_}
+use Prim.Native.Nat.{ℕ, zero, suc, _-_, _≤_, _<_}
 use mathlib.Core.Bool.{Bool, true, false}
 use mathlib.Core.Option.{Option, none, some}
 use mathlib.Core.List.{List, [], _∷_, _++_}
@@ -14,7 +14,7 @@ use Rattle.wire.specs.Request.{headerLength, requestLength}
 use Rattle.stream.specs.Frame.{legalStart, unfinished, badStart, skipped, whole, next}
 use Rattle.stream.specs.Rules.{Verdict, Judgement, opened, skipping, closed, Outcome, Progress, answer, finish, judge, rulesWithin, rulesFrom, start, rules}
 use Rattle.stream.specs.Call.{keep, respond, dropByte, openRule, skipRule, byteRule, fresh}
-use Rattle.stream.proofs.FrameLaws.{Unfinished, Skipped, Shape, isUnfinished, isBad, isSkipped, isWhole, shape, next-unfinished, next-bad, next-skipped, next-whole, next-short, whole-append, bad-append, length-snoc, whole-last, bad-last, header-length, skipped-kept, skipped-more, skipped-last}
+use Rattle.stream.proofs.FrameLaws.{Unfinished, Skipped, Shape, isUnfinished, isBad, isSkipped, isWhole, shape, next-unfinished, next-bad, next-skipped, next-whole, next-short, whole-append, bad-append, length-snoc, whole-last, bad-last, header-length, skipped-stays, skipped-ends, judge-large}
 
 -- responses, and one more if there is one
 unfoldable pub withResponse : {Out : Type 0} → List Out → Option Out → List Out
@@ -179,10 +179,6 @@ module _ {Reg Count Out : Type 0} (J : Judgement Reg Count Out) where
         let e = next-whole _ l m ∙ ap whole (whole-last s b u l m) in
         rules-ends (suc taken) p (s ++ (b ∷ [])) e (omega (arith, length-snoc s b)) ∙ sym (open-whole taken p s b _ e)
 
-    judge-skipped : (k : Skipped s) → judge J (p .registry) (p .counts) (s ++ (b ∷ [])) ≡ J .onOversized (p .registry) (p .counts) (take (headerLength s) s)
-    unfolding judge
-    judge-skipped k = rw (skipped-kept s b k .3, judge) (ap (J .onOversized (p .registry) (p .counts)) (skipped-kept s b k .4))
-
     one-skipped : (k : Skipped s)
         → rulesFrom J (suc taken) p (s ++ (b ∷ []))
         ≡ after (finish p taken 0 (skipping (take (headerLength s) s) (requestLength s - length s))) b
@@ -192,14 +188,15 @@ module _ {Reg Count Out : Type 0} (J : Judgement Reg Count Out) where
             → rulesFrom J (suc taken) p (s ++ (b ∷ []))
             ≡ after (finish p taken 0 (skipping (take (headerLength s) s) (requestLength s - length s))) b
         go true t =
-            let h = leb-true _ _ t in
-            let (e, n) = skipped-last s b k h in
+            let h : requestLength s - length s ≤ 1 = leb-true _ _ t in
+            let n : requestLength s ≡ length (s ++ (b ∷ [])) = omega (arith, length-snoc s b, k .more) in
+            let e = skipped-ends s (b ∷ []) k h ∙ ap whole n in
             rules-ends (suc taken) p (s ++ (b ∷ [])) e (omega (arith, length-snoc s b))
-            ∙ ap₂ (λ (m : ℕ) (v : Verdict Reg Count Out). finish (answer p m v) (suc taken) 0 (opened [])) (sym n ∙ sym (header-length s k)) (judge-skipped k)
+            ∙ ap₂ (λ (m : ℕ) (v : Verdict Reg Count Out). finish (answer p m v) (suc taken) 0 (opened [])) (sym n ∙ sym (header-length s k)) (judge-large J _ _ s (b ∷ []) k)
             ∙ sym (skip-last taken p (take (headerLength s) s) (requestLength s - length s) b h)
         go false t =
             let h = leb-false _ _ t in
-            rules-skipped (suc taken) p (s ++ (b ∷ [])) _ _ (skipped-more s b k h)
+            rules-skipped (suc taken) p (s ++ (b ∷ [])) _ _ (skipped-stays s (b ∷ []) k h)
             ∙ sym (skip-more taken p (take (headerLength s) s) (requestLength s - length s) b h)
 
     one-bad : 6 ≤ length s → legalStart s ≡ false

@@ -1,5 +1,6 @@
--- One call that is not refused: it takes bytes up to and with the one that brings a response, or all of them.
-use Prim.Native.Nat.{ℕ, zero, suc, _+_, _-_}
+-- One call that is not refused: it takes bytes up to and with the one that brings a response, or all of them ("When a call is
+-- not taken").
+use Prim.Native.Nat.{ℕ, suc, _+_, _-_}
 use mathlib.Core.Bool.{Bool, true, false, _&&_}
 use mathlib.Core.Option.{Option, none, some}
 use mathlib.Core.List.{List, [], _∷_, _++_}

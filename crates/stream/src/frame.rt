@@ -1,10 +1,11 @@
 // Framing: what the bytes not yet read begin with ("A whole stream under the rules").
+use wire::header::header_length;
 use wire::number::read_u16;
 use wire::number::read_u32;
 ghost use mathlib.Core.Path.{_≡_};
 ghost use Prim.Native.Nat.{_≤_, _<_, _^_};
 ghost use lib.ListN.{length};
-ghost use Rattle.wire.specs.Request.{requestLength};
+ghost use Rattle.wire.specs.Request.{requestLeast, requestLength};
 ghost use Rattle.stream.specs.Frame.{legalStart, oversized, next};
 ghost use Rattle.stream.specs.Framed.{frameOf};
 
@@ -44,7 +45,7 @@ pub fn is_legal_start(bytes: &[u8]) -> bool
 
 // Whether C or A of a whole header is too large.
 pub fn is_oversized(bytes: &[u8]) -> bool
-    requires { ⌜ 28 ≤ length (now bytes) ⌝ }
+    requires { ⌜ requestLeast ≤ length (now bytes) ⌝ }
     ensures { λ r. ⌜ r ≡ oversized (now (bytes .entry)) ⌝ }
 {
     if CONTENT_MOST < read_u32(bytes, 20) {
@@ -55,7 +56,7 @@ pub fn is_oversized(bytes: &[u8]) -> bool
 
 // How long the request of a whole header is.
 pub fn request_length(bytes: &[u8]) -> u64
-    requires { ⌜ 28 ≤ length (now bytes) ⌝ }
+    requires { ⌜ requestLeast ≤ length (now bytes) ⌝ }
     ensures { λ r. ⌜ (r ≡ requestLength (now (bytes .entry))) × (r < 2 ^ 40) ⌝ }
 {
     let size = read_u16(bytes, 4) as u64;
@@ -73,7 +74,7 @@ pub fn read_frame(bytes: &[u8]) -> Frame
     if !is_legal_start(bytes) {
         return Frame::BadStart;
     }
-    let header = 6 + read_u16(bytes, 4) as usize;
+    let header = header_length(bytes);
     if bytes.len() < header {
         return Frame::Unfinished;
     }

@@ -62,13 +62,13 @@ fn clients(random: &mut Random) -> Vec<Client> {
     let client = |stream, manner| Client { stream, manner };
     vec![
         client(archive.repeat(3), Manner::Prompt),
-        client(backup, Manner::Pieces(1)),
+        client(backup, Manner::Chunks(1)),
         client(console.repeat(2), Manner::ReadsLate),
         client(
             [&printer, &oversized, &ping].map(|part| &part[..]).concat(),
-            Manner::Pieces(777),
+            Manner::Chunks(777),
         ),
-        client(bad_start, Manner::Pieces(13)),
+        client(bad_start, Manner::Chunks(13)),
         client(in_mid_request(&router), Manner::Leaves),
         client(in_mid_request(&viewer), Manner::LeavesUnread),
         client(in_mid_skip, Manner::Leaves),
@@ -99,9 +99,9 @@ fn generated(random: &mut Random) -> Vec<Client> {
             let stream = requests(random, &applications(&registry), 60).concat();
             let manner = random.pick(&[
                 Manner::Prompt,
-                Manner::Pieces(1),
-                Manner::Pieces(29),
-                Manner::Pieces(1_000),
+                Manner::Chunks(1),
+                Manner::Chunks(29),
+                Manner::Chunks(1_000),
                 Manner::ReadsLate,
                 Manner::Leaves,
                 Manner::LeavesUnread,

@@ -37,10 +37,9 @@ use denote.Triple.Statement.{Contract, Triple}
 use denote.Triple.Table.{entered, cited}
 use denote.Triple.Walked.{says, Stays, stay-dropped, gave-ref, gave-slice, walkOf, AllGo, goes-dropped, goes-gave-ref, goes-gave-slice, Walks, ends-at, walked, walk-meets}
 use denote.Exit.{yes}
-use Rattle.stream.specs.Calls.{CallOutcome}
+use Rattle.stream.specs.Calls.{Call as LentCall}
 use Rattle.service.specs.Call.{Memory as CallMemory, callOutcome}
-use Rattle.service.specs.Called as called
-use Rattle.service.specs.Called.{lentMemory, callWith, outcomeOf}
+use Rattle.service.specs.Called.{lentMemory, callWith, outcomeWith, CallContract}
 use Rattle.service.specs.declared.Counters.{Counters}
 use Rattle.service.specs.declared.CallAnswer.{CallAnswer}
 use Rattle.service.proofs.Counters as T
@@ -50,7 +49,7 @@ use Rattle.service.proofs.call.call as g
 use Rattle.service.proofs.call.call.Symbol as g-def
 use Rattle.service.proofs.call.call.Symbol.{name as #call}
 use Rattle.service.proofs.call.call.Met as g-thm
-use Rattle.abi.specs.Numbers.{numbered, outcomeWith}
+use Rattle.abi.specs.Numbers.{numbered}
 use Rattle.abi.specs.declared.Answer.{Answer}
 use Rattle.abi.proofs.Answer as R
 use Rattle.abi.proofs.Answer.Laws as R′
@@ -70,9 +69,9 @@ abbrev stayed : Stays (f.ended .signature .params) (f.ended .kept)
 stayed = (stay-dropped (shrSliceOf (0 ∷ []) tt (plain (λ _. u8))) yes, (gave-slice (1 ∷ []) tt (plain (λ _. u8)), (gave-slice (2 ∷ []) tt (plain (λ _. u8)), (gave-ref (3 ∷ []) tt (plain (λ _. T.the-row)), (gave-slice (4 ∷ []) tt (plain (λ _. u8)), tt)))))
 
 -- what is ensured, from what `call` and `number` ensure
-said : (s : Answer) (a : CallAnswer) (t : Counters) (c d e : List ℕ) (x : CallOutcome CallMemory) → called.outcomeWith (outcomeOf a t) c d e ≡ x
-    → s ≡ numbered a → outcomeWith s c d t e ≡ x
-said s a t c d e x p q = rw q p
+said : (s : Answer) (a : CallAnswer) (t : Counters) (c d e : List ℕ) (m : CallMemory) (k : LentCall) → CallContract m k a (lentMemory c d t) e
+    → s ≡ numbered a → outcomeWith (s .code) (s .taken) (s .written) (lentMemory c d t) e ≡ callOutcome m k
+said s a t c d e m k p q = rw q p
 
 module _ {M : Type 1} (𝓤 : URA M) (H : Heap 𝓤) (A : Atoms 𝓤) (at-mem : Memory → SProp 𝓤) (run : Routine → Fun 𝓤) where
   -- the contracts that the proof cites
@@ -140,8 +139,7 @@ module _ {M : Type 1} (𝓤 : URA M) (H : Heap 𝓤) (A : Atoms 𝓤) (W : Given
 
   -- what `call` ensures, at the last values
   abbrev Ensured : CallAnswer → List ℕ → List ℕ → Counters → List ℕ → Type 0
-  Ensured a c d t e = called.outcomeWith (outcomeOf a t) c d e ≡ callOutcome (lentMemory (connection .now) (registry .now) h) (callWith (chunk .now)
-      (response .now))
+  Ensured a c d t e = CallContract (lentMemory (connection .now) (registry .now) h) (callWith (chunk .now) (response .now)) a (lentMemory c d t) e
 
   abbrev at-exit : Answer → List ℕ → List ℕ → Counters → List ℕ → Val → List (Item 𝓤)
   at-exit s c d t e z = ‵ (R.the-row .own s (z ∷ [])) ∷ tokens ∷ ‵ (finally u8 (response .name) e) ∷ ‵ (fres γ (T.the-row .coded .code t))
@@ -154,7 +152,7 @@ module _ {M : Type 1} (𝓤 : URA M) (H : Heap 𝓤) (A : Atoms 𝓤) (W : Given
       qed W (at-exit s c d t e z) ∵
       suffices ! _ (ends-at 𝓤 H A f.ended stayed (f.clauses 𝓤 H A at-mem run) W bound z s (tt, (c, (d, (t, (e, tt)))))
       (tt, (lc, (ld, (tt, (le, tt)))))) $
-      says ! (said s a t c d e _ p q) $ move ! (1 ∷ []) $ frame ! $
+      says ! (said s a t c d e _ _ p q) $ move ! (1 ∷ []) $ frame ! $
       -- what is had of the parameters, and the result
       nothing ! $ move ! (2 ∷ 0 ∷ []) $ fjoin ! $ move ! (2 ∷ 0 ∷ []) $ fjoin ! $ move ! (2 ∷ 0 ∷ []) $ fjoin ! $ move ! (2 ∷ 0 ∷ []) $ fjoin ! $
       nothing ! $ fjoin ! $ done !

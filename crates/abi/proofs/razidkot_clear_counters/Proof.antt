@@ -37,7 +37,7 @@ use denote.Triple.Walked.{says, Stays, stay-ref, walkOf, AllGo, goes-ref, Walks,
 use Rattle.service.specs.declared.Counters.{Counters}
 use Rattle.service.proofs.Counters as T
 use Rattle.service.proofs.Counters.Laws as T′
-use Rattle.service.specs.Counted.{zeroCounters}
+use Rattle.service.specs.Call.{zeroCounters}
 use Rattle.service.proofs.counting.zero_counters as g
 use Rattle.service.proofs.counting.zero_counters.Symbol as g-def
 use Rattle.service.proofs.counting.zero_counters.Symbol.{name as #zero-counters}

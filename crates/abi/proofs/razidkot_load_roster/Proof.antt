@@ -1,5 +1,6 @@
 -- `abi::razidkot_load_roster` meets its contract.
-use Prim.Native.Nat.{ℕ, _+_}
+use Prim.Native.Nat.{ℕ, _+_, _≤_}
+use native.Mathlib.Omega.{arith}
 use mathlib.Core.Path.{_≡_, refl, sym, ap, _∙_}
 use mathlib.Core.Option.{Option, none, some}
 use Rattle.registry.specs.Roster.{faultNumber}
@@ -7,6 +8,7 @@ use Rattle.registry.specs.Check.{loadedOf}
 use Rattle.registry.specs.declared.RosterFault.{RosterFault}
 use Rattle.registry.specs.declared.roster.Loaded.{Loaded}
 use Rattle.registry.specs.declared.roster.Loaded.the-variants.{Good, Faulty}
+use Rattle.registry.proofs.RosterLaws.{fault-small}
 use Rattle.abi.specs.Numbers.{loadedNumber}
 use borrow.Author.Needs.{needs}
 use Rattle.abi.proofs.razidkot_load_roster.Statement.{statement}
@@ -22,6 +24,9 @@ unfolding said loadedOf loadedNumber
 said-of none = refl
 said-of (some fault) = refl
 
+small : (n : ℕ) (fault : RosterFault) → n ≡ faultNumber fault → n ≤ 5
+small n fault e = rw e (fault-small fault)
+
 load-roster-requires : tie.Need-load-roster-requires
 load-roster-requires c κs = search needs
 
@@ -33,6 +38,9 @@ enum-known-fault c = search needs
 
 fault-number-requires : tie.Need-fault-number-requires
 fault-number-requires c κs = search needs
+
+add-result : tie.Need-add-result
+add-result c = omega (arith, small _ _ (c .fault-number .ensures))
 
 same-length : tie.Need-same-length
 same-length c = search needs
@@ -51,7 +59,7 @@ unfolding said
 returns-2 c =
     let known = c .before .before in
     let loaded = known .before .before .before .before in
-    (c .fault-number .ensures ∙ (ap said (sym (known .fault .given .1) ∙ loaded .load-roster .ensures .0) ∙ said-of _), loaded .load-roster .ensures .1)
+    (ap (λ (n : ℕ). 1 + n) (c .fault-number .ensures) ∙ (ap said (sym (known .fault .given .1) ∙ loaded .load-roster .ensures .0) ∙ said-of _), loaded .load-roster .ensures .1)
 
 pub razidkot-load-roster-spec : {M : Type 1} → statement M
 razidkot-load-roster-spec =
@@ -61,6 +69,7 @@ razidkot-load-roster-spec =
     enum-told
     enum-known-fault
     fault-number-requires
+    add-result
     same-length
     returns
     same-length-2

@@ -56,8 +56,8 @@ pub fn connect(path: &Path) -> UnixStream {
 pub enum Manner {
     /// Sends all at once, and reads meanwhile.
     Prompt,
-    /// Sends pieces of this size, and reads meanwhile.
-    Pieces(usize),
+    /// Sends chunks of this size, and reads meanwhile.
+    Chunks(usize),
     /// Sends all, and reads a few bytes at a time when that is done.
     ReadsLate,
     /// Waits for its responses, and is gone without a word.
@@ -71,7 +71,7 @@ pub fn converse(path: &Path, stream: &[u8], manner: Manner) -> Vec<u8> {
     let socket = &connect(path);
     match manner {
         Manner::Prompt => send_and_read(socket, stream, stream.len().max(1)),
-        Manner::Pieces(size) => send_and_read(socket, stream, size),
+        Manner::Chunks(size) => send_and_read(socket, stream, size),
         Manner::ReadsLate => {
             send(socket, stream, 5_000);
             end_sending(socket);

@@ -7,7 +7,7 @@ use lib.ListN.{length, take, drop}
 use Rattle.wire.proofs.BufferLaws.{lent}
 use Rattle.stream.specs.Calls.{CallOutcome}
 use Rattle.service.specs.Call.{Memory, callOutcome}
-use Rattle.service.specs.Called.{lentMemory, callWith, outcomeWith}
+use Rattle.service.specs.Called.{lentMemory, callWith, codeNumber, outcomeWith}
 use Rattle.service.specs.declared.Counters.{Counters}
 use Rattle.bill.specs.Stream.{Takes}
 use Rattle.bill.proofs.FeedLaws.{takes-none, takes-all, takes-more, takes-fits}
@@ -24,7 +24,10 @@ abbrev μ-loop : tie.MeasureT-loop
 
 -- all that the call says and leaves
 abbrev outcome : (c : tie.After-call-by-value Inv-loop μ-loop) → CallOutcome Memory
-outcome c = let call = c .call-by-value in outcomeWith (call .result) (call .last .1 .0) (call .last .1 .1 .0) (call .last .1 .1 .1 .1 .0)
+outcome c =
+    let call = c .call-by-value in
+    let r = call .result in
+    outcomeWith (codeNumber (r .code)) (r .taken) (r .written) (lentMemory (call .last .1 .0) (call .last .1 .1 .0) (r .counters)) (call .last .1 .1 .1 .1 .0)
 
 called : (c : tie.After-call-by-value Inv-loop μ-loop)
     → (let l = c .before .before .before .before .before .before .loop in

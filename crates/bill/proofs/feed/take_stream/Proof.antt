@@ -1,22 +1,22 @@
 -- `bill::feed::take_stream` meets its contract. The loop's invariant: memory is as the rules leave it after some stream, of at most
--- 65,536 bytes for each turn.
+-- a chunk for each turn.
 use Prim.Native.Nat.{_-_, _*_, _≤_}
 use mathlib.Core.Path.{_≡_, refl, sym, _∙_}
 use native.Mathlib.Omega.{arith}
 use borrow.Author.Needs.{needs}
 use lib.ListN.{length, take}
 use lib.Seq.{length-take-le}
-use Rattle.service.specs.Call.{counterMost}
+use Rattle.service.specs.Call.{chunkMost, counterMost}
 use Rattle.service.specs.Called.{lentMemory}
-use Rattle.bill.specs.Stream.{After}
+use Rattle.bill.specs.Stream.{turnsMost, After}
 use Rattle.bill.proofs.FeedLaws.{read-bytes, starts, follows, after-more, after-most}
 use Rattle.bill.proofs.feed.take_stream.Statement.{statement}
 use Rattle.bill.proofs.feed.take_stream.Tie as tie
 
 abbrev Inv-loop : tie.InvT-loop
 Inv-loop fd connection₀ registry₀ chunk₀ response₀ counters₀ turns₀ connection registry chunk response counters turns =
-    After registry₀ ((70368744177664 - turns) * 65536) (lentMemory connection registry counters) × (turns ≤ 70368744177664)
-    × (length connection ≡ length connection₀) × (length registry ≡ length registry₀) × (length chunk ≡ 65536) × (length response ≡ 4096)
+    After registry₀ ((turnsMost - turns) * chunkMost) (lentMemory connection registry counters) × (turns ≤ turnsMost)
+    × (length connection ≡ length connection₀) × (length registry ≡ length registry₀) × (length chunk ≡ chunkMost) × (length response ≡ 4096)
 
 abbrev μ-loop : tie.MeasureT-loop
 μ-loop fd connection₀ registry₀ chunk₀ response₀ counters₀ turns₀ connection registry chunk response counters turns = turns
@@ -58,7 +58,7 @@ enum-known-n c = search needs
 read : (c : tie.After-known-told Inv-loop μ-loop)
     → (let n = c .before .n .given .0 .0 in
     let chunk = c .before .before .before .before .read-some .last .1 .0 in
-    (n ≤ 65536) × (length chunk ≡ 65536) × (length (take n chunk) ≡ n))
+    (n ≤ chunkMost) × (length chunk ≡ chunkMost) × (length (take n chunk) ≡ n))
 read c =
     let r = c .before .before .before .before in
     let l = r .before .before .before .loop in

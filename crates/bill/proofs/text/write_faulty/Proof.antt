@@ -1,9 +1,9 @@
 -- `bill::text::write_faulty` meets its contract.
-use Rattle.wire.proofs.TestLaws.{not-true, not-false}
+use borrow.Author.Tests.{not-true, not-false}
 use Rattle.service.specs.Text.{ascii}
-use Rattle.service.specs.Bill.{textLine}
+use Rattle.service.specs.Bill.{textLine, refusedRoster}
 use Rattle.billing.proofs.PlacedLaws.{placed-on, placed-front}
-use Rattle.bill.specs.Printed.{refusedRoster, faultyText}
+use Rattle.bill.specs.Printed.{faultyText}
 use borrow.Author.Needs.{needs}
 use Rattle.bill.proofs.text.write_faulty.Statement.{statement}
 use Rattle.bill.proofs.text.write_faulty.Tie as tie
@@ -26,6 +26,9 @@ write-word-requires c κs = search needs
 
 fault-number-requires : tie.Need-fault-number-requires
 fault-number-requires c κs = search needs
+
+cast-write-decimal : tie.Need-cast-write-decimal
+cast-write-decimal c = search needs
 
 write-decimal-requires : tie.Need-write-decimal-requires
 write-decimal-requires c κs = search needs
@@ -59,6 +62,7 @@ write-faulty-spec =
     slice-aggregate-write-word
     write-word-requires
     fault-number-requires
+    cast-write-decimal
     write-decimal-requires
     slice-aggregate-write-word-2
     write-word-requires-2

@@ -1,8 +1,7 @@
 -- `bill::text::write_no_file` meets its contract.
 use Rattle.service.specs.Text.{ascii}
-use Rattle.service.specs.Bill.{textLine}
+use Rattle.service.specs.Bill.{textLine, noFile}
 use Rattle.billing.proofs.PlacedLaws.{placed-front}
-use Rattle.bill.specs.Printed.{noFile}
 use borrow.Author.Needs.{needs}
 use Rattle.bill.proofs.text.write_no_file.Statement.{statement}
 use Rattle.bill.proofs.text.write_no_file.Tie as tie

@@ -1,5 +1,5 @@
 -- `bill::text::write_taken` meets its contract.
-use Rattle.wire.proofs.TestLaws.{not-true, not-false}
+use borrow.Author.Tests.{not-true, not-false}
 use Rattle.bill.specs.Printed.{takenText}
 use Rattle.bill.proofs.PrintLaws.{bill-wrote, always-written}
 use borrow.Author.Needs.{needs}

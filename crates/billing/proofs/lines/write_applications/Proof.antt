@@ -9,6 +9,7 @@ use lib.ListN.{length, getD}
 use Rattle.registry.specs.Registry.{lineCount, lineSize, registrySize}
 use Rattle.registry.specs.WellFormed.{wellFormedRegistry}
 use Rattle.registry.proofs.WellFormedLaws.{good-of}
+use Rattle.billing.specs.Text.{applicationLineMost}
 use Rattle.billing.proofs.PlacedLaws.{Leaves, leaves-all, leaves-rest, leaves-none}
 use Rattle.billing.proofs.LineLaws.{linesFrom, lines-end, lines-none, lines-next, name-short}
 use Rattle.billing.proofs.lines.write_applications.Statement.{statement}
@@ -16,10 +17,10 @@ use Rattle.billing.proofs.lines.write_applications.Tie as tie
 
 abbrev Inv-loop : tie.InvT-loop
 Inv-loop out₀ at registry served end₀ i₀ out end i =
-    Leaves (linesFrom registry served 0) out₀ at (linesFrom registry served i) out end × (i ≤ 8) × (end ≤ at + 112 * i)
+    Leaves (linesFrom registry served 0) out₀ at (linesFrom registry served i) out end × (i ≤ lineCount) × (end ≤ at + applicationLineMost * i)
 
 abbrev μ-loop : tie.MeasureT-loop
-μ-loop out₀ at registry served end₀ i₀ out end i = 8 - i
+μ-loop out₀ at registry served end₀ i₀ out end i = lineCount - i
 
 good : (l : tie.At-loop Inv-loop μ-loop) → wellFormedRegistry (l .before .before .before .before .args .registry .now) ≡ true
 good l = l .before .before .before .before .pre .0

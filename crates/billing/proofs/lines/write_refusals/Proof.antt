@@ -3,6 +3,8 @@
 use Prim.Native.Nat.{_+_, _-_, _*_, _≤_}
 use native.Mathlib.Omega.{arith}
 use borrow.Author.Needs.{needs}
+use Rattle.judgement.specs.Status.{refusedCount}
+use Rattle.billing.specs.Text.{refusedLineMost}
 use Rattle.billing.proofs.PlacedLaws.{Leaves, leaves-all, leaves-rest, leaves-none}
 use Rattle.billing.proofs.LineLaws.{refusedFrom, refused-next, refused-end}
 use Rattle.billing.proofs.lines.write_refusals.Statement.{statement}
@@ -10,10 +12,10 @@ use Rattle.billing.proofs.lines.write_refusals.Tie as tie
 
 abbrev Inv-loop : tie.InvT-loop
 Inv-loop out₀ at refused end₀ i₀ out end i =
-    Leaves (refusedFrom refused 0) out₀ at (refusedFrom refused i) out end × (i ≤ 17) × (end ≤ at + 50 * i)
+    Leaves (refusedFrom refused 0) out₀ at (refusedFrom refused i) out end × (i ≤ refusedCount) × (end ≤ at + refusedLineMost * i)
 
 abbrev μ-loop : tie.MeasureT-loop
-μ-loop out₀ at refused end₀ i₀ out end i = 17 - i
+μ-loop out₀ at refused end₀ i₀ out end i = refusedCount - i
 
 loop-holds : tie.Need-loop-holds Inv-loop μ-loop
 loop-holds c = let a = c .before .before .args in (leaves-all _ (a .out .now) (a .at) (omega arith), omega arith, omega arith)

@@ -5,6 +5,7 @@ use mathlib.Core.Path.{ap}
 use native.Mathlib.Omega.{arith}
 use borrow.Author.Needs.{needs}
 use lib.ListN.{length, length-replicate}
+use Rattle.billing.specs.Text.{digitsMost}
 use Rattle.billing.proofs.DecimalLaws.{Found, found-none, found-more, found-all, found-short}
 use Rattle.billing.proofs.text.write_decimal.Statement.{statement}
 use Rattle.billing.proofs.text.write_decimal.Tie as tie
@@ -16,7 +17,7 @@ abbrev μ-loop : tie.MeasureT-loop
 μ-loop out at n digits₀ from₀ rest₀ digits from rest = rest
 
 loop-holds : tie.Need-loop-holds Inv-loop μ-loop
-loop-holds c = found-none (c .before .args .n) _ (omega arith) (length-replicate {A = ℕ} 20 0)
+loop-holds c = found-none (c .before .args .n) _ (omega arith) (length-replicate {A = ℕ} digitsMost 0)
 
 sub-from : tie.Need-sub-from Inv-loop μ-loop
 sub-from c = omega arith

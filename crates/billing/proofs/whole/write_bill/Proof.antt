@@ -1,9 +1,8 @@
 -- `billing::whole::write_bill` meets its contract: each way out is rewritten by the tests that led there.
 use mathlib.Core.Path.{sym, _∙_}
 use native.Mathlib.Omega.{arith}
-use borrow.Author.Tests.{lt-ltb, le-ltb}
+use borrow.Author.Tests.{lt-ltb, le-ltb, not-false}
 use borrow.Author.Needs.{needs}
-use Rattle.wire.proofs.TestLaws.{not-false}
 use Rattle.wire.specs.Choice.{firstOf}
 use Rattle.billing.specs.Outcome.{refusalTests, outcomeOf, billOutcome}
 use Rattle.billing.proofs.whole.write_bill.Statement.{statement}

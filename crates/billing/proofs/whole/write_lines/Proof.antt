@@ -1,11 +1,14 @@
 -- `billing::whole::write_lines` meets its contract.
-use Prim.Native.Nat.{_≤_}
+use Prim.Native.Nat.{_+_, _*_, _≤_}
 use native.Mathlib.Omega.{arith}
 use borrow.Author.Needs.{needs}
+use Rattle.registry.specs.Registry.{lineCount}
+use Rattle.judgement.specs.Status.{refusedCount}
 use Rattle.service.specs.Text.{ascii}
 use Rattle.service.specs.Counters.{totalsOf}
 use Rattle.service.specs.Call.{stateIn}
 use Rattle.service.specs.Bill.{billOf}
+use Rattle.billing.specs.Text.{countLineMost, applicationLineMost, refusedLineMost}
 use Rattle.billing.specs.Outcome.{billIn}
 use Rattle.billing.proofs.PlacedLaws.{placed-on, placed-front}
 use Rattle.billing.proofs.whole.write_lines.Statement.{statement}
@@ -32,14 +35,14 @@ slice-aggregate-write-count-2 c = search needs
 write-count-requires-2 : tie.Need-write-count-requires-2
 write-count-requires-2 c κs = search needs
 
--- the lines so far: 29 bytes at most for a count, 896 for the applications and 850 for the statuses
-unauthenticated-most : (c : tie.After-write-count2) → c .write-count2 .result ≤ 954
+-- the lines so far, each of its longest
+unauthenticated-most : (c : tie.After-write-count2) → c .write-count2 .result ≤ 2 * countLineMost + lineCount * applicationLineMost
 unauthenticated-most c =
     let served = c .before .before .before .before .before in
     let taken = served .before .before .before .before .before in
     omega (arith, taken .write-count .ensures .1, served .write-applications .ensures .1, c .write-count2 .ensures .1)
 
-dropped-most : (c : tie.After-write-count3) → c .write-count3 .result ≤ 1833
+dropped-most : (c : tie.After-write-count3) → c .write-count3 .result ≤ 3 * countLineMost + lineCount * applicationLineMost + refusedCount * refusedLineMost
 dropped-most c =
     let refused = c .before .before .before .before .before in
     let unauthenticated = refused .before .before .before .before .before in

@@ -13,7 +13,7 @@ use Rattle.wire.specs.Numbers.{field}
 use Rattle.wire.specs.Request.{contentLength, authLength, headerLength}
 use Rattle.wire.proofs.BufferLaws.{lent}
 use Rattle.stream.specs.Frame.{legalStart, oversized}
-use Rattle.connection.specs.Connection.{wellFormedConnection}
+use Rattle.connection.specs.Connection.{heldMost, wellFormedConnection}
 use Rattle.connection.proofs.ConnectionLaws.{legal-most}
 use Rattle.connection.proofs.CheckLaws.{all-bytes, skipping-tests}
 use Rattle.connection.proofs.check.skipping_well_formed.Statement.{statement}
@@ -106,23 +106,23 @@ returns-4 c =
     = omega (arith, c .before .before .read-u32 .ensures, c .before .read-u16 .ensures) in
     rw (tests (l .before .before), legal l, large o, ← i .before .read-u64 .ensures, le-leb _ _ least, lt-leb _ _ many)
 
-read-u16-requires-2 : tie.Need-read-u16-requires-2
-read-u16-requires-2 c κs = search needs
+header-length-requires : tie.Need-header-length-requires
+header-length-requires c κs = search needs
 
-cast-header : tie.Need-cast-header
-cast-header c = search needs
-
-add-header : tie.Need-add-header
-add-header c = search needs
+-- there is room for the header
+room : (c : tie.After-header-length) → c .header-length .result ≤ heldMost
+room c =
+    let l = c .before .before .before .before .before .before .before .before in
+    let memory : List ℕ = l .before .before .before .before .args .memory .now in
+    omega (arith, legal-most (behind memory) (legal l), c .header-length .ensures)
 
 add-is-zero-from : tie.Need-add-is-zero-from
-add-is-zero-from c = search needs
+add-is-zero-from c = omega (arith, room c)
 
 is-zero-from-requires : tie.Need-is-zero-from-requires
 is-zero-from-requires c κs =
-    let l = c .before .before .before .before .before .before .before .before in
-    let memory : List ℕ = l .before .before .before .before .args .memory .now in
-    omega (arith, legal-most (behind memory) (legal l), c .read-u162 .ensures, l .before .before .before .before .pre .0)
+    let s = c .before .before .before .before .before .before .before .before .before .before .before .before in
+    omega (arith, room c, s .pre .0)
 
 returns-5 : tie.Need-returns-5
 returns-5 c =
@@ -136,7 +136,7 @@ returns-5 c =
     let few : n ≤ contentLength (behind memory) + authLength (behind memory)
     = omega (arith, u .before .read-u32 .ensures, u .read-u16 .ensures) in
     rw (tests (l .before .before), legal l, large o, ← i .before .read-u64 .ensures, le-leb _ _ least, le-leb _ _ few)
-    (c .is-zero-from .ensures ∙ rw (c .before .read-u162 .ensures))
+    (c .is-zero-from .ensures ∙ rw (c .before .header-length .ensures))
 
 pub skipping-well-formed-spec : {M : Type 1} → statement M
 skipping-well-formed-spec =
@@ -158,9 +158,7 @@ skipping-well-formed-spec =
     cast-past-2
     add-past-2
     returns-4
-    read-u16-requires-2
-    cast-header
-    add-header
+    header-length-requires
     add-is-zero-from
     is-zero-from-requires
     returns-5)

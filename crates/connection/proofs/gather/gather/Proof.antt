@@ -1,5 +1,5 @@
+-- `connection::gather::gather` meets its contract. The loop's invariant: `Part`, the bytes used so far stand behind those held.
 use Prim.Native.Nat.{ℕ, _+_, _-_, _<_}
-use Prim.{⊥}
 use mathlib.Core.Logic.{inl, inr}
 use mathlib.Core.Path.{_≡_, sym, ap, subst, _∙_}
 use mathlib.Core.List.{List, [], _∷_}

@@ -4,7 +4,7 @@ use mathlib.Core.Path.{_≡_, sym}
 use mathlib.Core.List.{List}
 use native.Mathlib.Omega.{arith}
 use lib.ListN.{length}
-use Rattle.wire.specs.Request.{headerSize, headerLength}
+use Rattle.wire.specs.Request.{headerLength}
 use Rattle.stream.proofs.FrameLaws.{Unfinished, short, inHeader, inBody, legal-size}
 use Rattle.stream.proofs.ChunkLaws.{unfinished-held}
 use Rattle.connection.proofs.GatherLaws.{wanted-short, wanted-header, wanted-body, wanted-more, wanted-few}
@@ -23,20 +23,14 @@ returns c =
     let s = c .before .before in
     (sym (wanted-short (s .args .bytes .now) (c .if1 .taken)), c .if1 .taken, omega arith)
 
-read-u16-requires : tie.Need-read-u16-requires
-read-u16-requires c κs = search needs
-
-cast-header : tie.Need-cast-header
-cast-header c = search needs
-
-add-header : tie.Need-add-header
-add-header c = search needs
+header-length-requires : tie.Need-header-length-requires
+header-length-requires c κs = search needs
 
 returns-2 : tie.Need-returns-2
 returns-2 c =
     let s = c .before .before .before .before in
     let b : List ℕ = s .args .bytes .now in
-    let size : c .before .read-u16 .result ≡ headerSize b = c .before .read-u16 .ensures in
+    let size : c .before .header-length .result ≡ headerLength b = c .before .header-length .ensures in
     let six : 6 ≤ length b = omega arith in
     let short : length b < headerLength b = omega arith in
     let w = wanted-header b six short in
@@ -47,7 +41,7 @@ request-length-requires : tie.Need-request-length-requires
 request-length-requires c κs =
     let s = c .before .before .before .before in
     let b : List ℕ = s .args .bytes .now in
-    let size : c .before .read-u16 .result ≡ headerSize b = c .before .read-u16 .ensures in
+    let size : c .before .header-length .result ≡ headerLength b = c .before .header-length .ensures in
     let six : 6 ≤ length b = omega arith in
     long b (unfinished-held b (s .pre)) six (let x : headerLength b ≤ length b = omega arith in x)
 
@@ -55,7 +49,7 @@ returns-3 : tie.Need-returns-3
 returns-3 c =
     let s = c .before .before .before .before .before in
     let b : List ℕ = s .args .bytes .now in
-    let size : c .before .before .read-u16 .result ≡ headerSize b = c .before .before .read-u16 .ensures in
+    let size : c .before .before .header-length .result ≡ headerLength b = c .before .before .header-length .ensures in
     let six : 6 ≤ length b = omega arith in
     let past : headerLength b ≤ length b = omega arith in
     let w = wanted-body b six past in
@@ -69,9 +63,7 @@ wanted-spec =
     tie.close
     (tie.spec
     returns
-    read-u16-requires
-    cast-header
-    add-header
+    header-length-requires
     returns-2
     request-length-requires
     returns-3)

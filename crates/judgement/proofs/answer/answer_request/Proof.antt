@@ -11,7 +11,7 @@ use Rattle.stream.proofs.FrameLaws.{legal-size}
 use Rattle.registry.proofs.WellFormedLaws.{good-of}
 use Rattle.judgement.specs.Status.{statusNumber}
 use Rattle.judgement.specs.Judgement.{changedBy}
-use Rattle.judgement.specs.Decided.{lineOf}
+use Rattle.judgement.specs.Decided.{askersLine}
 use Rattle.judgement.specs.Answers.{PassedHeader}
 use Rattle.judgement.specs.declared.Asker.the-variants.{Nobody, Named}
 use Rattle.judgement.specs.declared.Auth.the-variants.{Accepted}
@@ -177,7 +177,7 @@ same-length-5 : tie.Need-same-length-5
 same-length-5 c = search needs
 
 returns-3 : tie.Need-returns-3
-unfolding headerOf lineOf changedBy
+unfolding headerOf askersLine changedBy
 returns-3 c =
     let n = c .before .before in
     let t = n .before .before .before .before in
@@ -193,7 +193,7 @@ same-length-7 : tie.Need-same-length-7
 same-length-7 c = search needs
 
 returns-4 : tie.Need-returns-4
-unfolding headerOf lineOf changedBy
+unfolding headerOf askersLine changedBy
 returns-4 c =
     let n = c .before .before .before .before in
     let t = n .before .before .before .before in

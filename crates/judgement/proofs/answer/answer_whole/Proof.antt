@@ -1,12 +1,10 @@
 -- `judgement::answer::answer_whole` meets its contract.
-use Prim.Native.Nat.{_+_, _≤_}
+use Prim.Native.Nat.{_≤_}
 use mathlib.Core.Path.{_≡_, sym, _∙_}
 use mathlib.Core.Bool.{true, false}
 use native.Mathlib.Omega.{arith}
 use borrow.Author.Needs.{needs}
-use lib.ListN.{length, take}
-use lib.Seq.{length-take-le}
-use Rattle.wire.specs.Header.{headerOf}
+use lib.ListN.{length}
 use Rattle.stream.specs.Rules.{judge}
 use Rattle.stream.specs.Frame.{oversized}
 use Rattle.stream.proofs.FrameLaws.{legal-size}
@@ -19,45 +17,21 @@ long c = omega (arith, c .pre .1, legal-size (c .args .request .now) (c .pre .0)
 is-oversized-requires : tie.Need-is-oversized-requires
 is-oversized-requires c κs = long (c .before .before .before)
 
-read-header-requires : tie.Need-read-header-requires
-read-header-requires c κs = long (c .before .before .before .before .before)
-
--- the header of a whole request
-front : (c : tie.After-read-header)
-    → (28 ≤ 6 + c .read-header .result .size)
-    × (length (take (6 + c .read-header .result .size) (c .before .before .before .before .before .before .args .request .now)) ≡ 6 + c .read-header .result .size)
-unfolding headerOf
-front c =
+answer-skipped-requires : tie.Need-answer-skipped-requires
+answer-skipped-requires c κs =
     let s = c .before .before .before .before .before .before in
-    rw (c .read-header .ensures)
-    (omega (arith, legal-size (s .args .request .now) (s .pre .0)), length-take-le _ _ (omega (arith, s .pre .1)))
-
-cast-n : tie.Need-cast-n
-cast-n c = search needs
-
-add-n : tie.Need-add-n
-add-n c = search needs
-
-slice-aggregate-answer-oversized : tie.Need-slice-aggregate-answer-oversized
-slice-aggregate-answer-oversized c = sym (front (c .before .before .before) .1)
-
-answer-oversized-requires : tie.Need-answer-oversized-requires
-answer-oversized-requires c κs =
-    let h = c .before .before .before in
-    (rw (front h .1) (front h .0), h .before .before .before .before .before .before .pre .3)
+    (omega (arith, legal-size (s .args .request .now) (s .pre .0)), omega (arith, s .pre .1), s .pre .3)
 
 same-length : tie.Need-same-length
 same-length c = search needs
 
 returns : tie.Need-returns
-unfolding judge headerOf
+unfolding judge
 returns c =
-    let n = c .before .before in
-    let h = n .before .before .before .before in
-    let t = h .before in
+    let t = c .before .before .before .before in
     let s = t .before .before .before .before .before in
     let large : oversized (s .args .request .now) ≡ true = sym (t .before .is-oversized .ensures) ∙ t .if1 .taken in
-    rw large (rw (h .read-header .ensures) at (n .answer-oversized .ensures (s .args .registry .now)))
+    rw large (c .before .before .answer-skipped .ensures (s .args .registry .now))
 
 small : (c : tie.Else1) → oversized (c .before .before .before .before .before .args .request .now) ≡ false
 small c = sym (c .before .is-oversized .ensures) ∙ c .if1 .left
@@ -85,11 +59,7 @@ answer-whole-spec =
     tie.close
     (tie.spec
     is-oversized-requires
-    read-header-requires
-    cast-n
-    add-n
-    slice-aggregate-answer-oversized
-    answer-oversized-requires
+    answer-skipped-requires
     same-length
     returns
     answer-request-requires

@@ -5,8 +5,9 @@ use borrow.Author.Needs.{needs}
 use borrow.Author.Tests.{not-true, not-false}
 use Rattle.registry.specs.Names.{legalName}
 use Rattle.registry.specs.Slots.{keyNameMost}
+use Rattle.registry.proofs.RegistryLaws.{slot-below}
 use Rattle.judgement.specs.declared.Status.the-variants.{PsaErrorInvalidArgument, PsaErrorDoesNotExist}
-use Rattle.judgement.proofs.DecidedLaws.{refusal, clearing, slot-below, bad-destroyed, none-destroyed, destroyed}
+use Rattle.judgement.proofs.DecidedLaws.{refusal, clearing, bad-destroyed, none-destroyed, destroyed}
 use Rattle.judgement.proofs.operations.destroy.Statement.{statement}
 use Rattle.judgement.proofs.operations.destroy.Tie as tie
 

@@ -8,10 +8,11 @@ use Rattle.registry.specs.Names.{legalName}
 use Rattle.registry.specs.Slots.{keyNameMost}
 use Rattle.registry.specs.Registry.{slotCount, slotsOf, slotNamed}
 use Rattle.registry.specs.declared.Found.the-variants.{At}
+use Rattle.registry.proofs.RegistryLaws.{slot-below}
 use Rattle.registry.proofs.WellFormedLaws.{good-of}
 use Rattle.judgement.specs.declared.Output.the-variants.{Data}
 use Rattle.judgement.specs.declared.Status.the-variants.{PsaErrorNotPermitted, PsaErrorInvalidArgument, PsaErrorDoesNotExist}
-use Rattle.judgement.proofs.DecidedLaws.{refusal, listing, slot-below, bad-exported, none-exported, exported, not-exported}
+use Rattle.judgement.proofs.DecidedLaws.{refusal, listing, bad-exported, none-exported, exported, not-exported}
 use Rattle.judgement.proofs.operations.export.Statement.{statement}
 use Rattle.judgement.proofs.operations.export.Tie as tie
 

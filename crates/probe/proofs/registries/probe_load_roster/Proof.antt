@@ -17,6 +17,9 @@ enum-known-fault c = search needs
 fault-number-requires : tie.Need-fault-number-requires
 fault-number-requires c κs = search needs
 
+cast-result : tie.Need-cast-result
+cast-result c = search needs
+
 same-length : tie.Need-same-length
 same-length c = search needs
 
@@ -42,6 +45,7 @@ probe-load-roster-spec =
     enum-told
     enum-known-fault
     fault-number-requires
+    cast-result
     same-length
     returns
     same-length-2

@@ -1,3 +1,4 @@
+-- `protobuf::field::has_room` meets its contract.
 use denote.Ref.{now}
 use lib.ListN.{length}
 use Prim.Native.Nat.{_+_}

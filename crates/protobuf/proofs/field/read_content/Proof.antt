@@ -1,3 +1,4 @@
+-- `protobuf::field::read_content` meets its contract.
 use borrow.Author.Tests.{eq-eqb, ne-eqb}
 use Rattle.protobuf.specs.Field.{contentAt}
 use borrow.Author.Needs.{needs}

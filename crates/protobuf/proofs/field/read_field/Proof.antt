@@ -1,3 +1,4 @@
+-- `protobuf::field::read_field` meets its contract.
 use Rattle.protobuf.specs.Field.{fieldAt}
 use Prim.Native.Nat.{_≤_, _<_, _^_}
 use borrow.Author.Tests.{lt-ltb, le-ltb, eq-eqb, ne-eqb}

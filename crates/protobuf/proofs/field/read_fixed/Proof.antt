@@ -1,3 +1,4 @@
+-- `protobuf::field::read_fixed` meets its contract.
 use Rattle.protobuf.specs.Field.{fixedAt}
 use denote.Ref.{now}
 use lib.ListN.{length}

@@ -1,3 +1,4 @@
+-- `protobuf::field::read_number` meets its contract.
 use Rattle.protobuf.specs.Field.{numberAt}
 use mathlib.Core.Path.{sym, _∙_}
 use borrow.Author.Needs.{needs}

@@ -1,3 +1,4 @@
+-- `protobuf::field::read_span` meets its contract.
 use Rattle.protobuf.specs.Field.{spanAt}
 use denote.Ref.{now}
 use lib.ListN.{length}

@@ -1,3 +1,4 @@
+-- `protobuf::message::item_of` meets its contract.
 use Rattle.protobuf.specs.Message.{itemOf}
 use borrow.Author.Needs.{needs}
 use Rattle.protobuf.proofs.message.item_of.Statement.{statement}

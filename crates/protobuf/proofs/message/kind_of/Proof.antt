@@ -1,3 +1,4 @@
+-- `protobuf::message::kind_of` meets its contract.
 use borrow.Author.Tests.{eq-eqb, ne-eqb}
 use Rattle.protobuf.proofs.message.kind_of.Statement.{statement}
 use Rattle.protobuf.proofs.message.kind_of.Tie as tie

@@ -1,3 +1,4 @@
+-- `protobuf::message::of_number` meets its contract.
 use borrow.Author.Tests.{eq-eqb, ne-eqb}
 use borrow.Author.Needs.{needs}
 use Rattle.protobuf.proofs.message.of_number.Statement.{statement}

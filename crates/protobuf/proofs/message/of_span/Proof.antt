@@ -1,3 +1,4 @@
+-- `protobuf::message::of_span` meets its contract.
 use borrow.Author.Needs.{needs}
 use Rattle.protobuf.proofs.message.of_span.Statement.{statement}
 use Rattle.protobuf.proofs.message.of_span.Tie as tie

@@ -1,3 +1,4 @@
+-- `protobuf::message::read_step` meets its contract.
 use Rattle.protobuf.specs.Message.{itemOf, stepAt}
 use mathlib.Core.Path.{ap, sym, _∙_}
 use borrow.Author.Needs.{needs}

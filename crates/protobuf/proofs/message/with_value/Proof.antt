@@ -1,3 +1,4 @@
+-- `protobuf::message::with_value` meets its contract.
 use Rattle.protobuf.specs.Message.{withValue}
 use borrow.Author.Tests.{eq-eqb, ne-eqb}
 use Rattle.protobuf.proofs.message.with_value.Statement.{statement}

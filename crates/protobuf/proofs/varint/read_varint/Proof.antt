@@ -1,5 +1,5 @@
--- `proto::read_varint` meets its contract. The loop's invariant: the varint of the bytes ahead, times the scale and on top of the value, is
--- the varint at `at`; the value is below the scale. Assumes nothing.
+-- `protobuf::varint::read_varint` meets its contract. The loop's invariant: the varint of the bytes ahead, times the scale and on top of the value, is
+-- the varint at `at`; the value is below the scale.
 use Prim.Native.Nat.{_≤_, _<_, _*_, _-_, _^_}
 use mathlib.Core.Path.{_≡_, refl}
 use native.Mathlib.Omega.{arith}

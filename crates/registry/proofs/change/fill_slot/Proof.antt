@@ -1,29 +1,20 @@
 -- `registry::change::fill_slot` meets its contract.
-use Prim.Native.Nat.{ℕ, _-_}
+use Prim.Native.Nat.{ℕ}
 use mathlib.Core.Path.{ap, _∙_}
 use mathlib.Core.List.{List}
 use lib.ListN.{length}
 use Rattle.wire.specs.Lists.{put}
 use Rattle.wire.proofs.BufferLaws.{put-part}
-use Rattle.registry.specs.Slots.{slotSize}
+use Rattle.registry.specs.Slots.{keyBytes, slotSize}
 use Rattle.registry.specs.Check.{keyFrom}
 use Rattle.registry.proofs.SlotLaws.{length-key}
-use Rattle.registry.specs.Registry.{place, changed}
+use Rattle.registry.specs.Registry.{changed}
 use borrow.Author.Needs.{needs}
 use Rattle.registry.proofs.change.fill_slot.Statement.{statement}
 use Rattle.registry.proofs.change.fill_slot.Tie as tie
 
-mul-a : tie.Need-mul-a
-mul-a c = search needs
-
-mul-a-2 : tie.Need-mul-a-2
-mul-a-2 c = search needs
-
-add-a : tie.Need-add-a
-add-a c = search needs
-
-add-a-2 : tie.Need-add-a-2
-add-a-2 c = search needs
+slot-at-requires : tie.Need-slot-at-requires
+slot-at-requires c κs = search needs
 
 add-e : tie.Need-add-e
 add-e c = search needs
@@ -46,22 +37,20 @@ same-length c = search needs
 returns : tie.Need-returns
 unfolding changed
 returns c =
-    let s = c .before .before .before .before .before .before .before in
+    let s = c .before .before .before .before .before .before .before .before in
+    let slot-at = c .before .before .before .before .slot-at in
     let r : List ℕ = s .args .registry .now in
-    let at : ℕ = place (s .args .line .0) (s .args .slot .0) in
+    let at : ℕ = slot-at .result in
     let w = c .before .before .write-key in
     let key = keyFrom (s .args .name .now) (s .args .bytes .now) (s .args .bits) (s .args .exported) (s .args .verified) in
     put-part r (w .last .0) at slotSize (ap length (w .ensures) ∙ length-key key (s .pre .3) (s .pre .4))
-    ∙ ap (put r at) (w .ensures)
+    ∙ ap (put r at) (w .ensures) ∙ ap (λ (k : ℕ). put r k (keyBytes key)) (slot-at .ensures)
 
 pub fill-slot-spec : {M : Type 1} → statement M
 fill-slot-spec =
     tie.close
     (tie.spec
-    mul-a
-    mul-a-2
-    add-a
-    add-a-2
+    slot-at-requires
     add-e
     sub-write-key
     part-write-key-start

@@ -1,11 +1,9 @@
 -- `registry::check::are_lines` meets its contract.
-use Rattle.wire.specs.Lists.{all}
+use Rattle.wire.specs.Lists.{all, blocks}
 use Rattle.wire.proofs.BlockLaws.{blocks-pass, blocks-fail, blocks-end}
 use Rattle.registry.specs.Registry.{lineSize}
 use Rattle.registry.specs.Check.{wellFormedLine}
-use Rattle.wire.specs.Lists.{blocks}
 use mathlib.Core.Path.{_≡_, refl, sym, ap, _∙_}
-use mathlib.Core.List.{[]}
 use Prim.Native.Nat.{ℕ, _+_, _*_, _-_, _≤_}
 use native.Mathlib.Omega.{arith}
 use borrow.Author.Needs.{needs}

@@ -6,7 +6,7 @@ use Rattle.registry.specs.Registry.{slotCount, lineHead}
 use Rattle.wire.specs.Lists.{blocks}
 use lib.Seq.{drop-drop}
 use mathlib.Core.Path.{_≡_, refl, sym, ap, _∙_}
-use mathlib.Core.List.{List, []}
+use mathlib.Core.List.{List}
 use Prim.Native.Nat.{ℕ, _+_, _*_, _-_, _≤_}
 use native.Mathlib.Omega.{arith}
 use borrow.Author.Needs.{needs}

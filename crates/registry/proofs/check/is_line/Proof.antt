@@ -1,13 +1,12 @@
 -- `registry::check::is_line` meets its contract: the tests that are left, behind each test that passed.
 use Prim.Native.Nat.{ℕ, _+_, _-_, _≤_, min}
 use mathlib.Core.Path.{_≡_, sym, ap, _∙_}
-use mathlib.Core.Bool.{true}
+use mathlib.Core.Bool.{true, and-true}
 use mathlib.Core.List.{List}
 use native.Mathlib.Omega.{arith}
 use borrow.Author.Tests.{not-true, not-false}
 use lib.ListN.{length, take, drop, getD, length-take, length-drop}
 use Rattle.wire.specs.Lists.{all, every, isZero}
-use Rattle.wire.proofs.TestLaws.{and-true}
 use Rattle.registry.specs.Names.{legalName, nameIn}
 use Rattle.registry.specs.Registry.{applicationNameMost, lineHead}
 use Rattle.registry.specs.WellFormed.{zerosBehindName}

@@ -7,8 +7,8 @@ use borrow.Author.Needs.{needs}
 use borrow.Author.Tests.{eq-eqb, ne-eqb, not-true, not-false}
 use lib.ListN.{length, drop, length-drop}
 use lib.Seq.{take-all}
+use mathlib.Core.Bool.{and-true}
 use Rattle.wire.specs.Lists.{all, every, isZero, blocks}
-use Rattle.wire.proofs.TestLaws.{and-true}
 use Rattle.registry.specs.Registry.{lineSize, registrySize}
 use Rattle.registry.specs.WellFormed.{wellFormedRegistry}
 use Rattle.registry.specs.Check.{blockNames, wellFormedLine, usedLines}

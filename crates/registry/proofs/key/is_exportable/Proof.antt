@@ -1,9 +1,10 @@
 -- `registry::key::is_exportable` meets its contract.
-use Prim.Native.Nat.{ℕ, _+_, _-_, _≤_}
-use mathlib.Core.Path.{sym}
+use Prim.Native.Nat.{ℕ, _+_, _≤_}
+use mathlib.Core.Path.{sym, ap, _∙_}
 use native.Mathlib.Omega.{arith}
-use lib.ListN.{length}
-use Rattle.registry.specs.Slots.{slotSize}
+use lib.ListN.{length, getD}
+use lib.Dec.{eqb}
+use Rattle.registry.specs.Slots.{exportAt, slotSize}
 use Rattle.registry.specs.Registry.{place}
 use Rattle.registry.proofs.KeyLaws.{export-there}
 use Rattle.registry.proofs.WellFormedLaws.{good-of}
@@ -17,29 +18,21 @@ at c = place (c .args .line .0) (c .args .slot .0)
 room : (c : tie.Start) → at c + slotSize ≤ length (c .args .registry .now)
 room c = omega (arith, good-of (c .args .registry .now) (c .pre .0) .size, c .pre .1, c .pre .2)
 
-mul-a : tie.Need-mul-a
-mul-a c = search needs
-
-mul-a-2 : tie.Need-mul-a-2
-mul-a-2 c = search needs
-
-add-a : tie.Need-add-a
-add-a c = search needs
-
-add-a-2 : tie.Need-add-a-2
-add-a-2 c = search needs
+slot-at-requires : tie.Need-slot-at-requires
+slot-at-requires c κs = search needs
 
 add-result : tie.Need-add-result
 add-result c = search needs
 
 shared-slice-read-result : tie.Need-shared-slice-read-result
-shared-slice-read-result c = omega (arith, room (c .before))
+shared-slice-read-result c = omega (arith, c .before .slot-at .ensures, room (c .before .before .before))
 
 returns : tie.Need-returns
 returns c =
-    let s = c .before in
-    sym (export-there (s .args .registry .now) (s .pre .0) (s .args .line) (s .pre .1) (s .args .slot .0) (s .pre .2) (room s))
+    let s = c .before .before .before in
+    ap (λ (k : ℕ). eqb (getD (s .args .registry .now) (k + exportAt) 0) 1) (c .before .slot-at .ensures)
+    ∙ sym (export-there (s .args .registry .now) (s .pre .0) (s .args .line) (s .pre .1) (s .args .slot .0) (s .pre .2) (room s))
 
 pub is-exportable-spec : {M : Type 1} → statement M
 is-exportable-spec =
-    tie.close (tie.spec mul-a mul-a-2 add-a add-a-2 add-result shared-slice-read-result returns)
+    tie.close (tie.spec slot-at-requires add-result shared-slice-read-result returns)

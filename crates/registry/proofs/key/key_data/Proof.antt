@@ -22,23 +22,14 @@ room c = omega (arith, good-of (c .args .registry .now) (c .pre .0) .size, c .pr
 small : (c : tie.Start) → field (at c + dataLengthAt) 2 (c .args .registry .now) ≤ dataMost
 small c = size-small (c .args .registry .now) (c .pre .0) (c .args .line) (c .pre .1) (c .args .slot .0) (c .pre .2) (room c)
 
-mul-a : tie.Need-mul-a
-mul-a c = search needs
-
-mul-a-2 : tie.Need-mul-a-2
-mul-a-2 c = search needs
-
-add-a : tie.Need-add-a
-add-a c = search needs
-
-add-a-2 : tie.Need-add-a-2
-add-a-2 c = search needs
+slot-at-requires : tie.Need-slot-at-requires
+slot-at-requires c κs = search needs
 
 add-size-at : tie.Need-add-size-at
 add-size-at c = search needs
 
 size-at-requires : tie.Need-size-at-requires
-size-at-requires c κs = omega (arith, room (c .before))
+size-at-requires c κs = omega (arith, c .slot-at .ensures, room (c .before .before))
 
 add-f : tie.Need-add-f
 add-f c = search needs
@@ -54,26 +45,28 @@ part-result-start c = search needs
 
 part-result-end : tie.Need-part-result-end
 part-result-end c =
-    let s = c .before .before in
-    omega (arith, room s, small s, c .size-at .ensures .0)
+    let s = c .before .before .before in
+    let at-place = c .before .slot-at .ensures in
+    let size : c .size-at .result ≡ field (at s + dataLengthAt) 2 (s .args .registry .now)
+    = c .size-at .ensures .0 ∙ ap (λ (k : ℕ). field (k + dataLengthAt) 2 (s .args .registry .now)) at-place in
+    omega (arith, room s, small s, at-place, size)
 
 returns : tie.Need-returns
 returns c =
-    let s = c .before .before .before in
+    let s = c .before .before .before .before in
+    let p = c .before .before .slot-at .result in
     let d = c .before .size-at .result in
     let r : List ℕ = s .args .registry .now in
-    let n : at s + dataAt + d - (at s + dataAt) ≡ d = omega arith in
-    ap (λ (m : ℕ). take m (drop (at s + dataAt) r)) (n ∙ c .before .size-at .ensures .0)
+    let n : p + dataAt + d - (p + dataAt) ≡ d = omega arith in
+    ap (λ (m : ℕ). take m (drop (p + dataAt) r)) (n ∙ c .before .size-at .ensures .0)
+    ∙ ap (λ (k : ℕ). take (field (k + dataLengthAt) 2 r) (drop (k + dataAt) r)) (c .before .before .slot-at .ensures)
     ∙ sym (data-there r (s .pre .0) (s .args .line) (s .pre .1) (s .args .slot .0) (s .pre .2) (room s))
 
 pub key-data-spec : {M : Type 1} → statement M
 key-data-spec =
     tie.close
     (tie.spec
-    mul-a
-    mul-a-2
-    add-a
-    add-a-2
+    slot-at-requires
     add-size-at
     size-at-requires
     add-f

@@ -1,16 +1,16 @@
 -- `registry::names::are_distinct` meets its contract.
-use Rattle.registry.specs.Names.{nameIn, absent, distinct}
+use Rattle.registry.specs.Names.{nameIn, isNew, distinct}
 use Rattle.registry.specs.Check.{blockNames}
 use Rattle.registry.proofs.NameLaws.{lone, lone-empty, lone-named}
-use Rattle.registry.proofs.BlockNameLaws.{fits, blockAt, name-at, name-length, distinct-pass, distinct-fail, distinct-end}
+use Rattle.registry.proofs.BlockNameLaws.{fits, blockAt, name-lent, name-length, distinct-pass, distinct-fail, distinct-end}
 use mathlib.Core.Path.{_≡_, refl, sym, ap, _∙_}
-use mathlib.Core.List.{List, []}
+use mathlib.Core.List.{List}
 use mathlib.Core.Bool.{true, false, not}
 use Prim.Native.Nat.{ℕ, _+_, _*_, _-_, _≤_, _<_}
 use native.Mathlib.Omega.{arith}
 use borrow.Author.Needs.{needs}
 use borrow.Author.Tests.{not-true, not-false}
-use lib.ListN.{length, take, drop, getD}
+use lib.ListN.{length, drop, getD}
 use Rattle.registry.proofs.names.are_distinct.Statement.{statement}
 use Rattle.registry.proofs.names.are_distinct.Tie as tie
 
@@ -63,16 +63,14 @@ long c =
     name-length (a .size) (bytes c) (at (in-loop c)) (omega arith) (room (in-loop c)) (byte c) ∙ sym (c .wide .ensures .0)
 
 -- the search was for the name of this block
-searched : (c : tie.After-is-among Inv-loop μ-loop) → let w = c .before .before .before in c .is-among .result ≡ not (absent (there w) (rest w))
+searched : (c : tie.After-is-among Inv-loop μ-loop) → let w = c .before .before .before in c .is-among .result ≡ not (isNew (there w) (rest w))
 searched c =
     let w = c .before .before .before in
     let a = start (in-loop w) .args in
-    let part : take (at (in-loop w) + 1 + w .wide .result - (at (in-loop w) + 1)) (drop (at (in-loop w) + 1) (bytes w)) ≡ there w =
-    ap (λ (n : ℕ). take (at (in-loop w) + 1 + n - (at (in-loop w) + 1)) (drop (at (in-loop w) + 1) (bytes w))) (w .wide .ensures .0)
-    ∙ sym (name-at (a .size) (bytes w) (at (in-loop w)) (omega arith) (byte w)) in
-    c .is-among .ensures ∙ ap (λ (x : List ℕ). not (absent x (rest w))) part
+    c .is-among .ensures
+    ∙ ap (λ (x : List ℕ). not (isNew x (rest w))) (name-lent (a .size) (bytes w) (at (in-loop w)) (omega arith) (byte w) (w .wide .ensures .0))
 
-named : (c : tie.Then1 Inv-loop μ-loop) → lone (there (c .before)) (rest (c .before)) ≡ absent (there (c .before)) (rest (c .before))
+named : (c : tie.Then1 Inv-loop μ-loop) → lone (there (c .before)) (rest (c .before)) ≡ isNew (there (c .before)) (rest (c .before))
 named c = lone-named (there (c .before)) (rest (c .before)) (λ e. c .if1 .taken (sym (long (c .before)) ∙ e))
 
 again : (c : After-wide) → lone (there c) (rest c) ≡ true → let a = start (in-loop c) .args in distinct (blockNames (a .head) (a .size) (a .count) (bytes c)) ≡ distinct (rest c)
@@ -118,7 +116,7 @@ returns : tie.Need-returns Inv-loop μ-loop
 returns c =
     let w = c .before .before .before .before in
     let a = start (in-loop w) .args in
-    let found : absent (there w) (rest w) ≡ false = not-true _ (sym (searched (c .before)) ∙ c .if2 .taken) in
+    let found : isNew (there w) (rest w) ≡ false = not-true _ (sym (searched (c .before)) ∙ c .if2 .taken) in
     sym (in-loop w .before .loop .inv .1 ∙ distinct-fail (a .head) (a .size) (a .count) (bytes w) (i (in-loop w)) (in-loop w .loop-test .taken) (named (c .before .before .before) ∙ found))
 
 loop-less : tie.Need-loop-less Inv-loop μ-loop
@@ -127,7 +125,7 @@ loop-less c = search needs
 loop-again : tie.Need-loop-again Inv-loop μ-loop
 loop-again c =
     let w = c .before .before .before .before in
-    let none : absent (there w) (rest w) ≡ true = not-false _ (sym (searched (c .before)) ∙ c .if2 .left) in
+    let none : isNew (there w) (rest w) ≡ true = not-false _ (sym (searched (c .before)) ∙ c .if2 .left) in
     (search needs, again w (named (c .before .before .before) ∙ none))
 
 loop-less-2 : tie.Need-loop-less-2 Inv-loop μ-loop

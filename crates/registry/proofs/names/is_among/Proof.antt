@@ -5,17 +5,17 @@ use mathlib.Core.Bool.{Bool, not, _&&_}
 use mathlib.Core.List.{List}
 use native.Mathlib.Omega.{arith}
 use borrow.Author.Needs.{needs}
-use lib.ListN.{length, take, drop, getD, drop-of-length-le}
+use lib.ListN.{length, drop, getD, drop-of-length-le}
 use Rattle.wire.specs.Lists.{same}
-use Rattle.registry.specs.Names.{nameIn, absent}
+use Rattle.registry.specs.Names.{nameIn, isNew}
 use Rattle.registry.specs.Check.{blockNames}
-use Rattle.registry.proofs.BlockNameLaws.{fits, blockAt, name-at, names-cons, length-names}
+use Rattle.registry.proofs.BlockNameLaws.{fits, blockAt, name-lent, names-cons, length-names}
 use Rattle.registry.proofs.names.is_among.Statement.{statement}
 use Rattle.registry.proofs.names.is_among.Tie as tie
 
 abbrev Inv-loop : tie.InvT-loop
 Inv-loop s head size count from name i₀ i =
-    (i ≤ count) × (absent name (drop from (blockNames head size count s)) ≡ absent name (drop i (blockNames head size count s)))
+    (i ≤ count) × (isNew name (drop from (blockNames head size count s)) ≡ isNew name (drop i (blockNames head size count s)))
 
 abbrev μ-loop : tie.MeasureT-loop
 μ-loop s head size count from name i₀ i = count - i
@@ -41,22 +41,20 @@ within c = omega (arith, room (c .before .before), c .wide .ensures .1)
 -- one turn: the name of block i, and the rest
 turn : (c : tie.After-equal Inv-loop μ-loop)
     → let l = c .before .before .before .before in let a = start l .args in
-    absent (a .name .now) (drop (a .from) (blockNames (a .head) (a .size) (a .count) (a .s .now)))
-    ≡ not (c .equal .result) && absent (a .name .now) (drop (l .before .loop .i + 1) (blockNames (a .head) (a .size) (a .count) (a .s .now)))
+    isNew (a .name .now) (drop (a .from) (blockNames (a .head) (a .size) (a .count) (a .s .now)))
+    ≡ not (c .equal .result) && isNew (a .name .now) (drop (l .before .loop .i + 1) (blockNames (a .head) (a .size) (a .count) (a .s .now)))
 turn c =
     let w = c .before .before in
     let l = w .before .before in
     let a = start l .args in
     let names = blockNames (a .head) (a .size) (a .count) (a .s .now) in
     let byte : getD (a .s .now) (at l) 0 < 256 = omega (arith, w .wide .ensures .0, w .wide .ensures .1) in
-    let part : take (at l + 1 + w .wide .result - (at l + 1)) (drop (at l + 1) (a .s .now)) ≡ nameIn (blockAt (a .head) (a .size) (a .s .now) (l .before .loop .i)) =
-    ap (λ (n : ℕ). take (at l + 1 + n - (at l + 1)) (drop (at l + 1) (a .s .now))) (w .wide .ensures .0)
-    ∙ sym (name-at (a .size) (a .s .now) (at l) (omega arith) byte) in
+    let part = name-lent (a .size) (a .s .now) (at l) (omega arith) byte (w .wide .ensures .0) in
     let tested : c .equal .result ≡ same (a .name .now) (nameIn (blockAt (a .head) (a .size) (a .s .now) (l .before .loop .i))) =
     c .equal .ensures ∙ ap (λ (x : List ℕ). same (a .name .now) x) part in
     l .before .loop .inv .1
-    ∙ ap (absent (a .name .now)) (names-cons (a .head) (a .size) (a .count) (a .s .now) (l .before .loop .i) (l .loop-test .taken))
-    ∙ ap (λ (t : Bool). not t && absent (a .name .now) (drop (l .before .loop .i + 1) names)) (sym tested)
+    ∙ ap (isNew (a .name .now)) (names-cons (a .head) (a .size) (a .count) (a .s .now) (l .before .loop .i) (l .loop-test .taken))
+    ∙ ap (λ (t : Bool). not t && isNew (a .name .now) (drop (l .before .loop .i + 1) names)) (sym tested)
 
 loop-holds : tie.Need-loop-holds Inv-loop μ-loop
 loop-holds c = (search needs, refl)
@@ -95,7 +93,7 @@ returns : tie.Need-returns Inv-loop μ-loop
 returns c =
     let l = c .before .before .before .before .before in
     let a = start l .args in
-    let rest = absent (a .name .now) (drop (l .before .loop .i + 1) (blockNames (a .head) (a .size) (a .count) (a .s .now))) in
+    let rest = isNew (a .name .now) (drop (l .before .loop .i + 1) (blockNames (a .head) (a .size) (a .count) (a .s .now))) in
     sym (ap not (turn (c .before) ∙ ap (λ (t : Bool). not t && rest) (c .if1 .taken)))
 
 add-i : tie.Need-add-i Inv-loop μ-loop
@@ -113,7 +111,7 @@ returns-2 c =
     let a = l .before .before .before .args in
     let names = blockNames (a .head) (a .size) (a .count) (a .s .now) in
     let long : length names ≤ l .loop .i = rw (length-names (a .head) (a .size) (a .count) (a .s .now)) (c .loop-test .left) in
-    sym (ap not (l .loop .inv .1 ∙ ap (absent (a .name .now)) (drop-of-length-le names long)))
+    sym (ap not (l .loop .inv .1 ∙ ap (isNew (a .name .now)) (drop-of-length-le names long)))
 
 pub is-among-spec : {M : Type 1} → statement M
 is-among-spec =

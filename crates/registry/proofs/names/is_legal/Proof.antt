@@ -4,7 +4,7 @@ use native.Mathlib.Omega.{arith}
 use borrow.Author.Needs.{needs}
 use borrow.Author.Tests.{le-leb, lt-leb}
 use lib.ListN.{length}
-use Rattle.wire.proofs.TestLaws.{and-true}
+use mathlib.Core.Bool.{and-true}
 use Rattle.registry.specs.Names.{legalName}
 use Rattle.registry.proofs.names.is_legal.Statement.{statement}
 use Rattle.registry.proofs.names.is_legal.Tie as tie

@@ -6,7 +6,7 @@ use Rattle.registry.specs.Check.{blockNames}
 use Rattle.registry.proofs.BlockNameLaws.{fits, blockAt, scan-skip, scan-hit, scan-end, name-at, name-length, same-cons, same-end}
 use lib.Dec.{eqb}
 use mathlib.Core.Path.{_≡_, refl, sym, _∙_}
-use mathlib.Core.List.{List, []}
+use mathlib.Core.List.{List}
 use mathlib.Core.Bool.{false, _&&_}
 use Prim.Native.Nat.{ℕ, _+_, _*_, _-_, _≤_, _<_}
 use native.Mathlib.Omega.{arith}

@@ -1,7 +1,7 @@
 -- `registry::roster::check_record` meets its contract: the faults are tried in their order.
 use Prim.Native.Nat.{ℕ, _-_, _<_}
 use mathlib.Core.Path.{_≡_, sym, ap, _∙_}
-use mathlib.Core.Bool.{Bool, true, false, not}
+use mathlib.Core.Bool.{true, false, not}
 use mathlib.Core.List.{List}
 use native.Mathlib.Omega.{arith}
 use borrow.Author.Needs.{needs}
@@ -9,9 +9,10 @@ use borrow.Author.Tests.{le-leb, lt-leb, eq-eqb, ne-eqb, not-true, not-false}
 use lib.Dec.{leb, eqb}
 use lib.ListN.{length, take, drop, getD}
 use Rattle.wire.specs.Numbers.{field}
+use Rattle.wire.proofs.TestLaws.{not-across}
 use Rattle.wire.proofs.NumberLaws.{field-byte}
 use Rattle.wire.proofs.BufferLaws.{lent}
-use Rattle.registry.specs.Names.{legalName, absent}
+use Rattle.registry.specs.Names.{legalName, isNew}
 use Rattle.registry.specs.Registry.{applicationNameMost, lineCount}
 use Rattle.registry.specs.Roster.{valueIn}
 use Rattle.registry.specs.Check.{loadedOf, isWhole, namesAt}
@@ -76,15 +77,11 @@ many s = names-many (s .args .file .now) (s .args .names) (s .pre .1)
 room : (c : tie.Else4) → leb lineCount (length (names (start4 c))) ≡ false
 room c = lt-leb lineCount (length (names (start4 c))) (rw (many (start4 c)) (c .if4 .left))
 
-absent-test : (c : tie.After-is-repeated) → let s = start4 (c .before) in absent (valueIn (bytes s)) (names s) ≡ not (c .is-repeated .result)
+absent-test : (c : tie.After-is-repeated) → let s = start4 (c .before) in isNew (valueIn (bytes s)) (names s) ≡ not (c .is-repeated .result)
 absent-test c =
     let s = start4 (c .before) in
     let v = value (c .before .before .before .before .before) in
-    go _ _ (c .is-repeated .ensures ∙ ap (λ (n : List ℕ). not (absent n (names s))) v)
-  where
-    go : (r t : Bool) → r ≡ not t → t ≡ not r
-    go r true e = ap not (sym e)
-    go r false e = ap not (sym e)
+    not-across _ _ (sym (c .is-repeated .ensures ∙ ap (λ (n : List ℕ). not (isNew n (names s))) v))
 
 sub-bytes : tie.Need-sub-bytes
 sub-bytes c = search needs

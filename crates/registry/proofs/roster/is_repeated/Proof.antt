@@ -8,14 +8,14 @@ use borrow.Author.Needs.{needs}
 use lib.ListN.{length, drop, getD}
 use Rattle.wire.specs.Lists.{same}
 use Rattle.wire.proofs.ListLaws.{all-pass, all-fail, all-end}
-use Rattle.registry.specs.Names.{absent}
+use Rattle.registry.specs.Names.{isNew}
 use Rattle.registry.specs.Check.{namesAt}
 use Rattle.registry.proofs.LoadLaws.{names-many}
 use Rattle.registry.proofs.roster.is_repeated.Statement.{statement}
 use Rattle.registry.proofs.roster.is_repeated.Tie as tie
 
 abbrev Inv-loop : tie.InvT-loop
-Inv-loop file names name i₀ i = (i ≤ names .count) × (absent name (namesAt file names) ≡ absent name (drop i (namesAt file names)))
+Inv-loop file names name i₀ i = (i ≤ names .count) × (isNew name (namesAt file names) ≡ isNew name (drop i (namesAt file names)))
 
 abbrev μ-loop : tie.MeasureT-loop
 μ-loop file names name i₀ i = names .count - i

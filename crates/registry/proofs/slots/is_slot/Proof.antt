@@ -1,20 +1,18 @@
 -- `registry::slots::is_slot` meets its contract: the tests that are left, behind each test that passed.
 use Rattle.wire.specs.Lists.{all, every, isZero}
 use Rattle.wire.specs.Numbers.{field}
-use Rattle.wire.proofs.TestLaws.{and-true}
 use Rattle.registry.specs.Names.{legalName, nameIn}
-use Rattle.registry.specs.Slots.{keyNameMost, legalBits, dataLengthAt, bitsAt, behindName, behindData, keyTests, wellFormedSlot}
+use Rattle.registry.specs.Slots.{keyNameMost, dataMost, legalBits, dataLengthAt, dataAt, bitsAt, behindName, behindData, keyTests, wellFormedSlot}
 use Rattle.registry.proofs.NameLaws.{legal-short}
 use Rattle.registry.proofs.SlotLaws.{free-slot, key-slot, name-length, data-ok, data-none, data-long}
 use mathlib.Core.Path.{_≡_, sym, ap, _∙_}
-use mathlib.Core.List.{List, []}
-use mathlib.Core.Bool.{true}
+use mathlib.Core.List.{List}
+use mathlib.Core.Bool.{true, and-true}
 use Prim.Native.Nat.{ℕ, _+_, _-_, _≤_}
 use native.Mathlib.Omega.{arith}
 use borrow.Author.Needs.{needs}
 use borrow.Author.Tests.{le-leb, lt-leb, not-true, not-false}
 use lib.ListN.{take, drop, getD}
-use borrow.Author.Needs.{needs}
 use Rattle.registry.proofs.slots.is_slot.Statement.{statement}
 use Rattle.registry.proofs.slots.is_slot.Tie as tie
 
@@ -57,7 +55,7 @@ name-passes c = sym (name-part (c .before)) ∙ not-false _ (c .if2 .left)
 rest2 : (c : tie.Else2) → wellFormedSlot (block (start2 c)) ≡ every (drop 1 (keyTests (block (start2 c))))
 rest2 c = rest1 (c .before .before .before) ∙ rw (name-passes c)
 
-short : (c : tie.Else2) → c .before .before .before .before .wide .result ≤ 32
+short : (c : tie.Else2) → c .before .before .before .before .wide .result ≤ keyNameMost
 short c =
     let w = c .before .before .before .before .wide .ensures in
     omega (arith, w .0, w .1, name-length (block (start2 c)) (start2 c .pre) (omega (arith, w .0, w .1)), legal-short keyNameMost _ (name-passes c))
@@ -66,9 +64,9 @@ behind-name : (c : tie.After-all-zero2) → c .all-zero2 .result ≡ all isZero 
 behind-name c =
     let w = c .before .before .before .before .before .before .wide .ensures in
     let b = block (start2 (c .before .before)) in
-    let less : 33 - (1 + getD b 0 0) ≡ 32 - getD b 0 0 = omega arith in
+    let less : dataLengthAt - (1 + getD b 0 0) ≡ keyNameMost - getD b 0 0 = omega arith in
     c .all-zero2 .ensures
-    ∙ ap (λ (k : ℕ). all isZero (take (33 - (1 + k)) (drop (1 + k) b))) (w .0)
+    ∙ ap (λ (k : ℕ). all isZero (take (dataLengthAt - (1 + k)) (drop (1 + k) b))) (w .0)
     ∙ ap (λ (k : ℕ). all isZero (take k (drop (1 + getD b 0 0) b))) less
 
 rest3 : (c : tie.Else3) → wellFormedSlot (block (start3 c)) ≡ every (drop 2 (keyTests (block (start3 c))))
@@ -83,10 +81,10 @@ behind-data : (c : tie.After-all-zero3) → c .all-zero3 .result ≡ all isZero 
 behind-data c =
     let e = c .before .before .before .before .size-at .ensures .0 in
     let b = block (start5 (c .before .before)) in
-    let less : 635 - (35 + field dataLengthAt 2 b) ≡ 600 - field dataLengthAt 2 b = omega arith in
+    let less : bitsAt - (dataAt + field dataLengthAt 2 b) ≡ dataMost - field dataLengthAt 2 b = omega arith in
     c .all-zero3 .ensures
-    ∙ ap (λ (k : ℕ). all isZero (take (635 - (35 + k)) (drop (35 + k) b))) e
-    ∙ ap (λ (k : ℕ). all isZero (take k (drop (35 + field dataLengthAt 2 b) b))) less
+    ∙ ap (λ (k : ℕ). all isZero (take (bitsAt - (dataAt + k)) (drop (dataAt + k) b))) e
+    ∙ ap (λ (k : ℕ). all isZero (take k (drop (dataAt + field dataLengthAt 2 b) b))) less
 
 rest6 : (c : tie.Else6) → wellFormedSlot (block (start6 c)) ≡ every (drop 4 (keyTests (block (start6 c))))
 rest6 c = rest5 (c .before .before .before) ∙ rw (sym (behind-data (c .before)) ∙ not-false _ (c .if6 .left))

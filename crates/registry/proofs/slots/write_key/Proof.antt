@@ -3,11 +3,11 @@ use Rattle.wire.specs.Lists.{padded}
 use Rattle.wire.specs.Numbers.{littleEndianOf}
 use Rattle.wire.proofs.ListLaws.{length-padded}
 use Rattle.wire.proofs.NumberLaws.{length-number}
-use Rattle.registry.specs.Slots.{keyNameMost, dataMost, slotSize, flag, keyBytes}
+use Rattle.registry.specs.Slots.{keyNameMost, dataMost, dataLengthAt, dataAt, bitsAt, exportAt, verifyAt, slotSize, flag, keyBytes}
 use Rattle.registry.proofs.WrittenLaws.{Written, start, put-byte-of, put-part-of, part-length, whole}
 use mathlib.Core.Path.{_≡_, sym, ap, _∙_}
 use mathlib.Core.List.{List, [], _∷_, _++_}
-use Prim.Native.Nat.{ℕ, _+_, _-_, _%_}
+use Prim.Native.Nat.{ℕ, _%_}
 use native.Mathlib.Omega.{arith}
 use lib.ListN.{length, set}
 use borrow.Rule.Slice.PartMut.{putMid}
@@ -48,52 +48,52 @@ abbrev start2 : tie.After-write-padded → tie.Start
 start2 c = c .before .before .before .before .before
 
 abbrev s2 : tie.After-write-padded → List ℕ
-s2 c = putMid 1 32 (s1 (start2 c)) (c .write-padded .last .0)
+s2 c = putMid 1 keyNameMost (s1 (start2 c)) (c .write-padded .last .0)
 
-w2 : (c : tie.After-write-padded) → Written slotSize (s2 c) (p2 (start2 c)) 33
+w2 : (c : tie.After-write-padded) → Written slotSize (s2 c) (p2 (start2 c)) dataLengthAt
 w2 c =
     let a = start2 c .args in
-    put-part-of (w1 (start2 c)) 32 (padded keyNameMost (a .name .now))
-    (c .write-padded .ensures ∙ ap (λ (k : ℕ). padded k (a .name .now)) (part-length (w1 (start2 c)) 32 (omega arith)))
+    put-part-of (w1 (start2 c)) keyNameMost (padded keyNameMost (a .name .now))
+    (c .write-padded .ensures ∙ ap (λ (k : ℕ). padded k (a .name .now)) (part-length (w1 (start2 c)) keyNameMost (omega arith)))
     (length-padded keyNameMost (a .name .now) (start2 c .pre .1)) (omega arith)
 
 abbrev s3 : tie.After-write-u16 → List ℕ
-s3 c = putMid 33 2 (s2 (c .before .before .before .before)) (c .write-u16 .last .0)
+s3 c = putMid dataLengthAt 2 (s2 (c .before .before .before .before)) (c .write-u16 .last .0)
 
-w3 : (c : tie.After-write-u16) → Written slotSize (s3 c) (p3 (start2 (c .before .before .before .before))) 35
+w3 : (c : tie.After-write-u16) → Written slotSize (s3 c) (p3 (start2 (c .before .before .before .before))) dataAt
 w3 c =
     let b = c .before .before .before .before in
     put-part-of (w2 b) 2 (littleEndianOf 2 (length (start2 b .args .bytes .now))) (c .write-u16 .ensures ∙ ap (littleEndianOf 2) (let x : length (start2 b .args .bytes .now) % 65536 ≡ length (start2 b .args .bytes .now) = omega (arith, start2 b .pre .2) in x)) (length-number 2 (length (start2 b .args .bytes .now))) (omega arith)
 
 abbrev s4 : tie.After-write-padded2 → List ℕ
-s4 c = putMid 35 600 (s3 (c .before .before .before .before)) (c .write-padded2 .last .0)
+s4 c = putMid dataAt dataMost (s3 (c .before .before .before .before)) (c .write-padded2 .last .0)
 
 abbrev start4 : tie.After-write-padded2 → tie.Start
 start4 c = start2 (c .before .before .before .before .before .before .before .before)
 
-w4 : (c : tie.After-write-padded2) → Written slotSize (s4 c) (p4 (start4 c)) 635
+w4 : (c : tie.After-write-padded2) → Written slotSize (s4 c) (p4 (start4 c)) bitsAt
 w4 c =
     let b = c .before .before .before .before in
     let a = start4 c .args in
-    put-part-of (w3 b) 600 (padded dataMost (a .bytes .now))
-    (c .write-padded2 .ensures ∙ ap (λ (k : ℕ). padded k (a .bytes .now)) (part-length (w3 b) 600 (omega arith)))
+    put-part-of (w3 b) dataMost (padded dataMost (a .bytes .now))
+    (c .write-padded2 .ensures ∙ ap (λ (k : ℕ). padded k (a .bytes .now)) (part-length (w3 b) dataMost (omega arith)))
     (length-padded dataMost (a .bytes .now) (start4 c .pre .2)) (omega arith)
 
 abbrev s5 : tie.After-write-u162 → List ℕ
-s5 c = putMid 635 2 (s4 (c .before .before .before .before)) (c .write-u162 .last .0)
+s5 c = putMid bitsAt 2 (s4 (c .before .before .before .before)) (c .write-u162 .last .0)
 
 abbrev start5 : tie.After-write-u162 → tie.Start
 start5 c = start4 (c .before .before .before .before)
 
-w5 : (c : tie.After-write-u162) → Written slotSize (s5 c) (p5 (start5 c)) 637
+w5 : (c : tie.After-write-u162) → Written slotSize (s5 c) (p5 (start5 c)) exportAt
 w5 c =
     let b = c .before .before .before .before in
     put-part-of (w4 b) 2 (littleEndianOf 2 (start5 c .args .bits)) (c .write-u162 .ensures) (length-number 2 (start5 c .args .bits)) (omega arith)
 
-w6 : (c : tie.After-flag-byte) → Written slotSize (set (s5 (c .before .before .before)) 637 (c .flag-byte .result)) (p6 (start5 (c .before .before .before))) 638
+w6 : (c : tie.After-flag-byte) → Written slotSize (set (s5 (c .before .before .before)) exportAt (c .flag-byte .result)) (p6 (start5 (c .before .before .before))) verifyAt
 w6 c = put-byte-of (w5 (c .before .before .before)) _ (c .flag-byte .ensures) (omega arith)
 
-w7 : (c : tie.After-flag-byte2) → Written slotSize (set (set (s5 (c .before .before .before .before)) 637 (c .before .flag-byte .result)) 638 (c .flag-byte2 .result)) (p7 (start5 (c .before .before .before .before))) 639
+w7 : (c : tie.After-flag-byte2) → Written slotSize (set (set (s5 (c .before .before .before .before)) exportAt (c .before .flag-byte .result)) verifyAt (c .flag-byte2 .result)) (p7 (start5 (c .before .before .before .before))) slotSize
 w7 c = put-byte-of (w6 (c .before)) _ (c .flag-byte2 .ensures) (omega arith)
 
 cast-slot : tie.Need-cast-slot

@@ -1,7 +1,7 @@
 -- `service::call::call_by_value` meets its contract.
 use mathlib.Core.Path.{ap, _∙_}
 use borrow.Author.Needs.{needs}
-use Rattle.service.specs.Called.{outcomeOf, answerOf, outcomeWith}
+use Rattle.service.specs.Called.{lentMemory, codeNumber, outcomeOf, answerOf, outcomeWith}
 use Rattle.service.specs.declared.Counters.{Counters}
 use Rattle.service.specs.declared.Outcome.{Outcome}
 use Rattle.service.proofs.call.call_by_value.Statement.{statement}
@@ -28,7 +28,7 @@ same-length-3 c = search needs
 returns : tie.Need-returns
 returns c =
     let handle = c .before .before .before .before .before .before .before .before .handle in
-    ap (λ (x : Outcome). outcomeWith x (handle .last .1 .0) (handle .last .1 .1 .0) (handle .last .1 .1 .1 .1 .0))
+    ap (λ (x : Outcome). outcomeWith (codeNumber (x .code)) (x .taken) (x .written) (lentMemory (handle .last .1 .0) (handle .last .1 .1 .0) (x .counters)) (handle .last .1 .1 .1 .1 .0))
     (c .outcome-of .ensures ∙ ap (λ (x : Counters). outcomeOf (answerOf (handle .result)) x) (c .before .with-all .ensures))
     ∙ handle .ensures .0
 

@@ -6,7 +6,7 @@ use native.Mathlib.Omega.{arith}
 use borrow.Author.Needs.{needs}
 use Rattle.registry.specs.Registry.{lineCount}
 use Rattle.judgement.specs.Counts.{increment, countServed}
-use Rattle.judgement.specs.Decided.{lineOf}
+use Rattle.judgement.specs.Decided.{askersLine}
 use Rattle.judgement.specs.Answers.{AskerBelow}
 use Rattle.service.specs.Counters.{totalsOf, countersOf}
 use Rattle.service.specs.Call.{counterMost}
@@ -41,11 +41,11 @@ element-write-next : tie.Need-element-write-next
 element-write-next c = subst AskerBelow (c .before .before .asker .given .1) (c .before .before .before .before .pre .1)
 
 returns : tie.Need-returns
-unfolding withCounts countersOf countServed lineOf totalsOf
+unfolding withCounts countersOf countServed askersLine totalsOf
 returns c = rw (c .enum-told .given .1, add-one)
 
 returns-2 : tie.Need-returns-2
-unfolding withCounts countersOf countServed lineOf totalsOf increment
+unfolding withCounts countersOf countServed askersLine totalsOf increment
 returns-2 c = rw (c .before .before .asker .given .1, add-one)
 
 pub with-served-spec : {M : Type 1} → statement M

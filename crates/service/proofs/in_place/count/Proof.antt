@@ -49,10 +49,10 @@ use Rattle.service.proofs.in_place.count.Code as code
 
 -- what the table of calls has
 record Known {M : Type 1} (𝓤 : URA M) (H : Heap 𝓤) (A : Atoms 𝓤) (C : Calls 𝓤 H) : Type 2 where
-  pub request : Triple 𝓤 (C #request) (Outer RequestFits countRequest 𝓤 H A)
-  pub taken : Triple 𝓤 (C #taken) (Outer TakenFits countTaken 𝓤 H A)
-  pub answered : Triple 𝓤 (C #answered) (Outer AnsweredFits countAnswered 𝓤 H A)
-  pub dropped : Triple 𝓤 (C #dropped) (Outer DroppedFits countDropped 𝓤 H A)
+  request : Triple 𝓤 (C #request) (Outer RequestFits countRequest 𝓤 H A)
+  taken : Triple 𝓤 (C #taken) (Outer TakenFits countTaken 𝓤 H A)
+  answered : Triple 𝓤 (C #answered) (Outer AnsweredFits countAnswered 𝓤 H A)
+  dropped : Triple 𝓤 (C #dropped) (Outer DroppedFits countDropped 𝓤 H A)
 
 module _ {M : Type 1} (𝓤 : URA M) (H : Heap 𝓤) (A : Atoms 𝓤) (W : Given 𝓤 H A) (C : Calls 𝓤 H) (Λ : Loops 𝓤 H) (fm : FmC 𝓤 H (W .laws) C)
     (known : Known 𝓤 H A C) (κ : Lft) (q : Share) (b o : ℕ) (γ : GName) (c : Counters) (h : Handled) where

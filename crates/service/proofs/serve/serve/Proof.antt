@@ -1,20 +1,20 @@
 -- `service::serve::serve` meets its contract.
-use Prim.Native.Nat.{ℕ, suc, _+_, _-_, _≤_}
+use Prim.Native.Nat.{ℕ, _+_, _-_, _≤_}
 use mathlib.Core.Path.{_≡_, refl, sym, ap, subst, _∙_}
 use mathlib.Core.Bool.{true}
-use mathlib.Core.List.{List, [], _∷_}
+use mathlib.Core.List.{List, []}
 use native.Mathlib.Omega.{arith}
-use lib.ListN.{length}
+use lib.ListN.{length, drop-of-length-le}
 use Rattle.wire.specs.Request.{requestLength}
 use Rattle.stream.specs.Rules.{Connection, State, opened, skipping, closed}
 use Rattle.stream.specs.Effects.{waiting, answering}
 use Rattle.stream.specs.Call.{wellFormed}
-use Rattle.stream.proofs.ChunkLaws.{call-skips, call-skipped, skipping-more}
+use Rattle.stream.proofs.ChunkLaws.{call-skips, call-skipped, well-skipping}
 use Rattle.connection.specs.Connection.{laidOut, connectionBytes, connectionOf}
 use Rattle.connection.specs.State.{stateOf}
 use Rattle.connection.specs.declared.check.State.the-variants.{Open, Skipping}
-use Rattle.connection.proofs.ConnectionLaws.{memory-good}
-use Rattle.connection.proofs.StateLaws.{state-open, state-skipping, state-closed, memory-is, skipping-whole, header-there}
+use Rattle.connection.proofs.ConnectionLaws.{skipping-whole, memory-good}
+use Rattle.connection.proofs.StateLaws.{state-open, state-skipping, state-closed, memory-is, header-there}
 use Rattle.judgement.specs.Counts.{Counts}
 use Rattle.judgement.specs.Judgement.{judgement}
 use Rattle.service.specs.Counters.{totalsOf}
@@ -28,12 +28,8 @@ use borrow.Author.Needs.{needs}
 use Rattle.service.proofs.serve.serve.Statement.{statement}
 use Rattle.service.proofs.serve.serve.Tie as tie
 
-nothing-held : (held : List ℕ) → length held ≡ 0 → held ≡ []
-nothing-held [] e = refl
-nothing-held (b ∷ held) e = absurd (omega arith)
-
 fresh : (k : Connection) (n : ℕ) → stateOf k ≡ Open n → n ≡ 0 → k ≡ opened []
-fresh k n o e = let x = state-open k n o in x .is ∙ ap opened (nothing-held (x .held) (x .long ∙ e))
+fresh k n o e = let x = state-open k n o in let long = x .long in x .is ∙ ap opened (drop-of-length-le (x .held) (let none : length (x .held) ≤ 0 = omega arith in none))
 
 -- a request is being skipped
 module _ (k registry chunk before : List ℕ) (toGo : ℕ) (ready : Ready k registry chunk before) (o : stateOf (connectionOf k) ≡ Skipping toGo) where
@@ -64,7 +60,7 @@ module _ (k registry chunk before : List ℕ) (toGo : ℕ) (ready : Ready k regi
       serves-skip k registry c chunk before header 0 (length chunk) toGo left after r
       (λ less. call-skips judgement s header toGo chunk is less
       ∙ ap (λ (x : ℕ). waiting s x (skipping header (toGo - length chunk))) (let x : length chunk ≡ 0 + length chunk = omega arith in x))
-      (λ more. call-skipped judgement s header toGo chunk is (skipping-more header toGo good) more
+      (λ more. call-skipped judgement s header toGo chunk is (well-skipping header toGo good .least) more
       ∙ ap (λ (x : ℕ). answering s x (requestLength header) (judgement .onOversized registry (totalsOf c .counts) header) (opened [])) (let x : toGo ≡ 0 + toGo = omega arith in x))
       (subst (λ (x : List ℕ). Carried c (skipEffect registry c x 0 (length chunk) toGo) left registry before after r) (header-there k header 1 toGo header-held (skipping-whole header toGo good)) done)
 

@@ -6,18 +6,17 @@ use native.Mathlib.Omega.{arith}
 use lib.ListN.{length, take}
 use lib.Seq.{length-take-le}
 use lib.Dec.{lit<}
-use Rattle.stream.specs.Frame.{unfinished, skipped, whole, next}
+use Rattle.stream.specs.Frame.{unfinished, whole, next}
 use Rattle.stream.specs.Rules.{State, opened, skipping, closed, judge}
 use Rattle.stream.specs.Effects.{answering}
 use Rattle.stream.specs.Call.{callRule}
 use Rattle.stream.proofs.FrameLaws.{next-unfinished, short}
 use Rattle.stream.proofs.FramedLaws.{frame-unfinished, frame-bad, frame-skipped, frame-whole, header-part, whole-part}
-use Rattle.stream.proofs.ChunkLaws.{call-unfinished, call-bad, call-large, call-whole, skipped-found}
+use Rattle.stream.proofs.ChunkLaws.{call-unfinished, call-bad, call-large, call-whole}
 use Rattle.connection.specs.Connection.{heldMost, laidOut, connectionBytes, connectionOf}
-use Rattle.connection.proofs.ConnectionLaws.{legal-most, size-there}
+use Rattle.connection.proofs.ConnectionLaws.{held-most, size-there}
 use Rattle.connection.proofs.CheckLaws.{well-size}
-use Rattle.connection.proofs.GatherLaws.{begun-few}
-use Rattle.connection.proofs.StateLaws.{memory-is}
+use Rattle.connection.proofs.StateLaws.{memory-is, header-few}
 use Rattle.judgement.specs.Counts.{Counts}
 use Rattle.judgement.specs.Judgement.{judgement}
 use Rattle.service.specs.Counters.{totalsOf}
@@ -30,14 +29,6 @@ use Rattle.service.proofs.serve.serve_fresh.Tie as tie
 
 nothing : next [] ≡ unfinished
 nothing = next-unfinished [] (short (omega arith))
-
--- a header to skip has room
-header-few : (s header : List ℕ) (missing : ℕ) → next s ≡ skipped header missing → length header ≤ heldMost
-header-few s header missing e =
-    let (h, fits, large, legal) = skipped-found s header missing e in
-    let long = ap length h ∙ length-take-le _ s fits in
-    let most = legal-most s legal in
-    omega arith
 
 -- a whole request, read where it lies
 fresh-whole : (k registry : List ℕ) (c : Counters) (chunk : List ℕ) (n : ℕ) → connectionOf k ≡ opened [] → next chunk ≡ whole n
@@ -64,7 +55,7 @@ append-requires : tie.Need-append-requires
 append-requires c κs =
     let s = c .before .before .before .before .before .before .before .before in
     let begun = frame-unfinished (next (s .args .chunk .now)) (sym (c .before .before .before .read-frame .ensures) ∙ c .before .enum-told .given .1) in
-    let few = begun-few (s .args .chunk .now) begun in
+    let few = held-most (s .args .chunk .now) begun in
     (well-size (s .args .connection .now) (s .pre .0 .connection-good), omega arith)
 
 wait-requires : tie.Need-wait-requires

@@ -4,8 +4,7 @@ use mathlib.Core.Path.{_≡_, refl, sym, ap, ap₂, subst, _∙_}
 use mathlib.Core.Bool.{true}
 use mathlib.Core.List.{List, [], _++_}
 use native.Mathlib.Omega.{arith}
-use lib.ListN.{length, take, drop, length-append}
-use lib.Seq.{length-take-le}
+use lib.ListN.{length, take, drop}
 use lib.Dec.{lit<}
 use Rattle.wire.specs.Request.{requestLength}
 use Rattle.stream.specs.Frame.{legalStart, skipped, whole, next}
@@ -13,15 +12,16 @@ use Rattle.stream.specs.Rules.{State, opened, skipping, closed, judge}
 use Rattle.stream.specs.Effects.{waiting}
 use Rattle.stream.proofs.FramedLaws.{frame-unfinished, frame-bad, frame-skipped, frame-whole}
 use Rattle.stream.proofs.ChunkLaws.{whole-found}
-use Rattle.stream.proofs.GatheredLaws.{after-unfinished, after-bad, after-whole, after-skips, after-skipped}
+use Rattle.stream.proofs.GatheredLaws.{length-gathered, after-unfinished, after-bad, after-whole, after-skips, after-skipped}
 use Rattle.connection.specs.Connection.{heldMost, connectionSize, laidOut, connectionBytes, connectionOf}
 use Rattle.connection.specs.State.{stateOf}
 use Rattle.connection.specs.Gather.{heldIn, Holding, Gathers}
 use Rattle.connection.specs.declared.check.State.the-variants.{Open}
 use Rattle.connection.specs.declared.gather.Gathered.{Gathered}
+use Rattle.connection.proofs.ConnectionLaws.{WholeHeader}
 use Rattle.connection.proofs.CheckLaws.{well-size}
 use Rattle.connection.proofs.GatherLaws.{held-back}
-use Rattle.connection.proofs.StateLaws.{state-open, open-holds, open-held, WholeHeader, header-whole, header-there, held-fits}
+use Rattle.connection.proofs.StateLaws.{state-open, open-holds, open-held, header-whole, header-there, held-fits}
 use Rattle.judgement.specs.Counts.{Counts}
 use Rattle.judgement.specs.Judgement.{judgement}
 use Rattle.judgement.specs.Answers.{AnsweredBy}
@@ -54,10 +54,7 @@ module _ (k registry chunk before : List ℕ) (n : ℕ) (ready : Ready k registr
     -- the request ends with the bytes that were gathered
     module _ (size : ℕ) (w : next (heldIn n k ++ take (g .used) chunk) ≡ whole size) where
       whole-long : length (heldIn n k ++ take (g .used) chunk) ≡ size
-      whole-long =
-          length-append (heldIn n k) (take (g .used) chunk)
-          ∙ ap (λ (x : ℕ). length (heldIn n k) + x) (length-take-le (g .used) chunk (G .used))
-          ∙ G .whole size w
+      whole-long = length-gathered (heldIn n k) chunk (g .used) (G .used) ∙ G .whole size w
 
       whole-there : take (9 + size - 9) (drop 9 m) ≡ heldIn n k ++ take (g .used) chunk
       whole-there =

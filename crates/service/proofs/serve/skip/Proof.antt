@@ -3,9 +3,9 @@ use Prim.Native.Nat.{ℕ, _+_, _-_, _≤_, _<_}
 use mathlib.Core.Path.{_≡_, refl, sym, ap, subst, _∙_}
 use mathlib.Core.List.{List, []}
 use native.Mathlib.Omega.{arith}
-use lib.ListN.{length, take, drop, length-take, length-drop, take-append-drop}
-use lib.Seq.{take-all}
+use lib.ListN.{length, take, drop, length-take, take-append-drop}
 use Rattle.wire.specs.Request.{headerLength, requestLength}
+use Rattle.wire.proofs.BufferLaws.{lent}
 use Rattle.stream.specs.Rules.{opened, skipping, closed}
 use Rattle.stream.specs.Effects.{answering}
 use Rattle.stream.proofs.FrameLaws.{requestLength-append}
@@ -21,10 +21,6 @@ use Rattle.service.specs.Call.{chunkMost}
 use borrow.Author.Needs.{needs}
 use Rattle.service.proofs.serve.skip.Statement.{statement}
 use Rattle.service.proofs.serve.skip.Tie as tie
-
--- all bytes behind the number
-behind : (m : List ℕ) → take (length m - 9) (drop 9 m) ≡ drop 9 m
-behind m = let d = length-drop 9 m in take-all (length m - 9) (drop 9 m) (let x : length (drop 9 m) ≤ length m - 9 = omega arith in x)
 
 -- a whole header stands there
 there : (m b : List ℕ) → b ≡ drop 9 m → 28 ≤ length (headerAt m) → length (headerAt m) ≡ headerLength (drop 9 m)
@@ -85,7 +81,7 @@ answer-skipped-requires : tie.Need-answer-skipped-requires
 answer-skipped-requires c κs =
     let s = c .before .before .before .before .before .before .before .before .before in
     let m : List ℕ = s .args .connection .now in
-    let h = there m (take (length m - 9) (drop 9 m)) (behind m) (s .pre .long) (s .pre .header-is) in
+    let h = there m (take (length m - 9) (drop 9 m)) (lent 9 m) (s .pre .long) (s .pre .header-is) in
     (h .0, h .1, s .pre .buffer-good)
 
 reset-requires : tie.Need-reset-requires
@@ -106,7 +102,7 @@ same-length-3 c = search needs
 -- the size of the request is in its header
 same-size : (m : List ℕ) → 28 ≤ length (headerAt m) → requestLength (take (length m - 9) (drop 9 m)) ≡ requestLength (headerAt m)
 same-size m long =
-    ap requestLength (behind m ∙ sym (take-append-drop (headerLength (drop 9 m)) (drop 9 m)))
+    ap requestLength (lent 9 m ∙ sym (take-append-drop (headerLength (drop 9 m)) (drop 9 m)))
     ∙ requestLength-append (headerAt m) (drop (headerLength (drop 9 m)) (drop 9 m)) long
 
 -- the answer to what stands there is that to the header
@@ -114,7 +110,7 @@ answered-header : (registry m before after : List ℕ) (r : Answered)
     → AnsweredBy (λ k. judgement .onOversized registry k (take (headerLength (take (length m - 9) (drop 9 m))) (take (length m - 9) (drop 9 m)))) registry before after r
     → AnsweredBy (λ k. judgement .onOversized registry k (headerAt m)) registry before after r
 answered-header registry m before after r =
-    subst (λ (b : List ℕ). AnsweredBy (λ k. judgement .onOversized registry k (take (headerLength b) b)) registry before after r) (behind m)
+    subst (λ (b : List ℕ). AnsweredBy (λ k. judgement .onOversized registry k (take (headerLength b) b)) registry before after r) (lent 9 m)
 
 returns-2 : tie.Need-returns-2
 unfolding judgement refusedEarly

@@ -2,7 +2,7 @@
 use mathlib.Core.Path.{_≡_, sym, ap, ap₂, _∙_}
 use mathlib.Core.Bool.{true, false}
 use mathlib.Core.List.{List}
-use Prim.Native.Nat.{ℕ, _+_, _-_, _≤_, _<_}
+use Prim.Native.Nat.{ℕ, _-_, _≤_, _<_}
 use native.Mathlib.Omega.{arith}
 use borrow.Author.Tests.{not-true, not-false}
 use borrow.Author.Needs.{needs}
@@ -27,25 +27,19 @@ returns-2 c =
     let l = c .before in
     sym (ap frameOf (next-bad _ (l .before .if1 .left) (sym (l .is-legal-start .ensures) ∙ not-true _ (c .if2 .taken))))
 
--- what is known once the start is good: H, and the header's length
-record Good (s : List ℕ) (size : ℕ) : Type 0 where
+-- what is known once the start is good: the header's length, and H
+record Good (s : List ℕ) (header : ℕ) : Type 0 where
   legal : legalStart s ≡ true
-  exact : size ≡ headerSize s
+  exact : header ≡ headerLength s
   least : 22 ≤ headerSize s
 
-good : (c : tie.After-read-u16) → Good (c .before .before .before .before .before .args .bytes .now) (c .read-u16 .result)
+good : (c : tie.After-header-length) → Good (c .before .before .before .before .before .args .bytes .now) (c .header-length .result)
 good c =
     let legal = sym (c .before .before .is-legal-start .ensures) ∙ not-false _ (c .before .if2 .left) in
-    record { legal = legal; exact = c .read-u16 .ensures; least = legal-size _ legal }
+    record { legal = legal; exact = c .header-length .ensures; least = legal-size _ legal }
 
-read-u16-requires : tie.Need-read-u16-requires
-read-u16-requires c κs = search needs
-
-cast-header : tie.Need-cast-header
-cast-header c = search needs
-
-add-header : tie.Need-add-header
-add-header c = search needs
+header-length-requires : tie.Need-header-length-requires
+header-length-requires c κs = search needs
 
 returns-3 : tie.Need-returns-3
 returns-3 c =
@@ -65,8 +59,8 @@ returns-4 c =
 is-oversized-requires : tie.Need-is-oversized-requires
 is-oversized-requires c κs = let g = good (c .before .before .before) in omega arith
 
-sub-t11 : tie.Need-sub-t11
-sub-t11 c = search needs
+sub-t10 : tie.Need-sub-t10
+sub-t10 c = search needs
 
 returns-5 : tie.Need-returns-5
 returns-5 c =
@@ -76,7 +70,7 @@ returns-5 c =
     let large : oversized s ≡ true = sym (c .before .is-oversized .ensures) ∙ c .if5 .taken in
     let fits : headerLength s ≤ length s = omega arith in
     let few : length s < requestLength s = omega (arith, n .request-length .ensures .0) in
-    let h : length (take (headerLength s) s) ≡ 6 + n .before .before .read-u16 .result = length-take-le _ s fits ∙ omega arith in
+    let h : length (take (headerLength s) s) ≡ n .before .before .header-length .result = length-take-le _ s fits ∙ omega arith in
     let m : requestLength s - length s ≡ n .request-length .result - length s = omega (arith, n .request-length .ensures .0) in
     sym (ap frameOf (next-skipped s (g .legal) fits few large) ∙ ap₂ Skipped h m)
 
@@ -96,13 +90,11 @@ read-frame-spec =
     returns
     is-legal-start-requires
     returns-2
-    read-u16-requires
-    cast-header
-    add-header
+    header-length-requires
     returns-3
     request-length-requires
     returns-4
     is-oversized-requires
-    sub-t11
+    sub-t10
     returns-5
     returns-6)

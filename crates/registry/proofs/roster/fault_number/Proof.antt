@@ -1,8 +1,8 @@
--- `probe::registries::fault_number` meets its contract.
+-- `registry::roster::fault_number` meets its contract.
 use Rattle.registry.specs.Roster.{faultNumber}
 use borrow.Author.Needs.{needs}
-use Rattle.probe.proofs.registries.fault_number.Statement.{statement}
-use Rattle.probe.proofs.registries.fault_number.Tie as tie
+use Rattle.registry.proofs.roster.fault_number.Statement.{statement}
+use Rattle.registry.proofs.roster.fault_number.Tie as tie
 
 enum-told : tie.Need-enum-told
 enum-told c = search needs
