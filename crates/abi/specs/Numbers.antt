@@ -1,9 +1,10 @@
 -- What the exported functions answer, as numbers. No part of the reading copy.
 use Prim.Native.Nat.{ℕ, _+_}
-use mathlib.Core.Option.{Option, none, some}
 use mathlib.Core.List.{List}
-use Rattle.registry.specs.Roster.{faultNumber}
-use Rattle.registry.specs.declared.RosterFault.{RosterFault}
+use Rattle.registry.specs.Roster.{faultNumber, RosterOutcome}
+use Rattle.registry.specs.declared.roster.Loaded.{Loaded}
+use Rattle.registry.specs.declared.roster.Loaded.the-variants.{Good, Faulty}
+use Rattle.connection.specs.Connection.{Opening}
 use Rattle.connection.specs.declared.change.Opened.{Opened}
 use Rattle.connection.specs.declared.change.Opened.the-variants.{Fresh, WrongSize}
 use Rattle.service.specs.Called.{codeNumber}
@@ -15,13 +16,21 @@ use Rattle.abi.specs.declared.Answer.{Answer}
 use Rattle.abi.specs.declared.Bill.{Bill}
 
 -- 0 for a good file, else 1 + the R number
-unfoldable pub loadedNumber : Option RosterFault → ℕ
-loadedNumber none = 0
-loadedNumber (some fault) = 1 + faultNumber fault
+unfoldable pub loadedNumber : Loaded → ℕ
+loadedNumber Good = 0
+loadedNumber (Faulty fault) = 1 + faultNumber fault
+
+-- what loading a roster says, and the memory after it
+abbrev pub loadedWith : RosterOutcome → ℕ × List ℕ
+loadedWith o = (loadedNumber (o .answer), o .registry)
 
 unfoldable pub openedNumber : Opened → ℕ
 openedNumber Fresh = 0
 openedNumber WrongSize = 1
+
+-- what opening a connection says, and the memory after it
+abbrev pub openedWith : Opening → ℕ × List ℕ
+openedWith o = (openedNumber (o .answer), o .memory)
 
 abbrev pub numbered : CallAnswer → Answer
 numbered a = record { code = codeNumber (a .code); taken = a .taken; written = a .written }

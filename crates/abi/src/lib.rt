@@ -3,23 +3,24 @@ use billing::Billed;
 use billing::whole::write_bill;
 use connection::change::Opened;
 use connection::change::open_connection;
+use counters::Counters;
+use counters::counting::zero_counters;
 use registry::roster::Loaded;
 use registry::roster::fault_number;
 use registry::roster::load_roster;
 use service::CallAnswer;
 use service::Code;
-use service::Counters;
 use service::Refusal;
 use service::call::call;
-use service::counting::zero_counters;
 ghost use mathlib.Core.Path.{_≡_};
 ghost use Rattle.registry.specs.Roster.{loadRoster};
 ghost use Rattle.connection.specs.Connection.{openConnection};
+ghost use Rattle.counters.specs.Counters.{zeroCounters};
 ghost use Rattle.service.specs.Refusals.{refusalNumber};
-ghost use Rattle.service.specs.Call.{zeroCounters, callOutcome};
+ghost use Rattle.service.specs.Call.{callOutcome};
 ghost use Rattle.service.specs.Called.{lentMemory, callWith, codeNumber, outcomeWith};
 ghost use Rattle.billing.specs.Outcome.{billOutcome};
-ghost use Rattle.abi.specs.Numbers.{loadedNumber, openedNumber, numbered, billNumbered, billedWith};
+ghost use Rattle.abi.specs.Numbers.{loadedWith, openedWith, numbered, billNumbered, billedWith};
 
 // What a call says: 0 if it was taken, else the C number; how many bytes of the chunk it took, and how many it wrote.
 #[repr(C)]
@@ -39,7 +40,7 @@ pub struct Bill {
 // 0 for a good roster file, else one more than the R number.
 #[no_mangle]
 pub extern "C" fn razidkot_load_roster(file: &[u8], registry: &mut [u8]) -> u32
-    ensures { λ r. ⌜ (r ≡ loadedNumber (loadRoster (now (file .entry)) (now (registry .entry)) .fault)) × (now (registry .exit) ≡ loadRoster (now (file .entry)) (now (registry .entry)) .registry) ⌝ }
+    ensures { λ r. ⌜ (r, now (registry .exit)) ≡ loadedWith (loadRoster (now (file .entry)) (now (registry .entry))) ⌝ }
 {
     match load_roster(file, registry) {
         Loaded::Good => 0,
@@ -50,7 +51,7 @@ pub extern "C" fn razidkot_load_roster(file: &[u8], registry: &mut [u8]) -> u32
 // 0 for a fresh connection, 1 for memory of another size.
 #[no_mangle]
 pub extern "C" fn razidkot_open_connection(memory: &mut [u8]) -> u32
-    ensures { λ r. ⌜ (r ≡ openedNumber (openConnection (now (memory .entry)) .answer)) × (now (memory .exit) ≡ openConnection (now (memory .entry)) .memory) ⌝ }
+    ensures { λ r. ⌜ (r, now (memory .exit)) ≡ openedWith (openConnection (now (memory .entry))) ⌝ }
 {
     match open_connection(memory) {
         Opened::Fresh => 0,

@@ -19,13 +19,12 @@ use Rattle.connection.proofs.ConnectionLaws.{stored-good}
 use Rattle.registry.specs.Registry.{registrySize}
 use Rattle.registry.specs.WellFormed.{wellFormedRegistry}
 use Rattle.registry.specs.Roster.{Roster, applications, faulty, rosterOf, RosterOutcome, rosterInto, loadRoster}
-use Rattle.registry.specs.Check.{loadedOf}
 use Rattle.registry.specs.declared.RosterFault.{RosterFault}
 use Rattle.registry.specs.declared.roster.Loaded.{Loaded}
 use Rattle.registry.specs.declared.roster.Loaded.the-variants as loaded
 use Rattle.registry.proofs.RosterLaws.{roster-legal, registry-good}
 use Rattle.judgement.specs.Judgement.{judgement}
-use Rattle.service.specs.Counters.{largestCount}
+use Rattle.counters.specs.Counters.{largestCount}
 use Rattle.service.specs.Call.{Memory, memoryOf}
 use Rattle.service.specs.Bill.{noFile, billFor, bill}
 use Rattle.service.proofs.KeptLaws.{keeps}
@@ -65,21 +64,14 @@ abbrev pub sourceFor : Loaded → Source
 sourceFor loaded.Good = source.Good
 sourceFor (loaded.Faulty fault) = source.Faulty fault
 
-pub source-of : (file memory after : List ℕ) (l : Loaded) → length memory ≡ registrySize
-    → l ≡ loadedOf (loadRoster file memory .fault) → after ≡ loadRoster file memory .registry → SourceOf after (sourceFor l)
-unfolding SourceOf loadedOf rosterInto
-source-of file memory after l size e kept = go (rosterOf file) refl
+pub source-of : (file memory : List ℕ) → length memory ≡ registrySize
+    → (o : RosterOutcome) → o ≡ loadRoster file memory → SourceOf (o .registry) (sourceFor (o .answer))
+unfolding SourceOf loadRoster rosterInto
+source-of file memory size o e = rw (e, eq-eqb (length memory) registrySize size) (go (rosterOf file) refl)
   where
-    into : (r : Roster) → rosterOf file ≡ r → loadRoster file memory ≡ rosterInto memory r
-    into r q = unfold loadRoster in rw (eq-eqb (length memory) registrySize size, q)
-
-    told : (r : Roster) → rosterOf file ≡ r → l ≡ loadedOf (rosterInto memory r .fault)
-    told r q = e ∙ ap (λ (o : RosterOutcome). loadedOf (o .fault)) (into r q)
-
-    go : (r : Roster) → rosterOf file ≡ r → SourceOf after (sourceFor l)
-    go (applications names) q = rw (told (applications names) q)
-        (record { file = file; names = names; good = q; start = kept ∙ ap (λ (o : RosterOutcome). o .registry) (into (applications names) q) })
-    go (faulty fault) q = rw (told (faulty fault) q) (record { file = file; first = q })
+    go : (r : Roster) → rosterOf file ≡ r → SourceOf (rosterInto memory r .registry) (sourceFor (rosterInto memory r .answer))
+    go (applications names) q = record { file = file; names = names; good = q; start = refl }
+    go (faulty fault) q = record { file = file; first = q }
 
 -- ---- the bill of well-formed memory
 

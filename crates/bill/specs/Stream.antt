@@ -7,7 +7,8 @@ use lib.ListN.{length}
 use Rattle.stream.specs.Rules.{rules}
 use Rattle.registry.specs.WellFormed.{wellFormedRegistry}
 use Rattle.judgement.specs.Judgement.{judgement}
-use Rattle.service.specs.Call.{Memory, memoryOf, chunkMost, counterMost}
+use Rattle.counters.specs.Counters.{counterMost}
+use Rattle.service.specs.Call.{Memory, memoryOf, chunkMost}
 use Rattle.bill.specs.declared.files.Input.{Input}
 use Rattle.bill.specs.declared.files.Input.the-variants.{Bytes, End, Failed}
 

@@ -7,7 +7,7 @@ use crate::lines::write_refusals;
 use connection::BYTES_AT;
 use connection::check::State;
 use connection::check::read_state;
-use service::Counters;
+use counters::Counters;
 use stream::frame::request_length;
 ghost use mathlib.Core.Bool.{true};
 ghost use mathlib.Core.Path.{_≡_};

@@ -3,7 +3,6 @@
 use Prim.Native.Nat.{ℕ}
 use mathlib.Core.Path.{_≡_}
 use mathlib.Core.Bool.{Bool, true, false, _&&_}
-use mathlib.Core.Option.{Option}
 use mathlib.Core.List.{List}
 use lib.ListN.{length, getD}
 use lib.Dec.{ltb, leb, eqb}
@@ -12,9 +11,8 @@ use Rattle.wire.specs.Wrote.{over}
 use Rattle.registry.specs.Slots.{Key, Entry, free, keyNameMost, dataMost, flag}
 use Rattle.registry.specs.Registry.{lineCount, slotCount, registrySize, applicationNamed, slotNamed, slotsOf, changed, fill, clear}
 use Rattle.registry.specs.WellFormed.{wellFormedRegistry}
-use Rattle.registry.specs.Check.{applicationFound, bytesIn, exportIn, loadedOf}
+use Rattle.registry.specs.Check.{applicationFound, bytesIn, exportIn}
 use Rattle.registry.specs.Roster.{faultNumber}
-use Rattle.registry.specs.declared.RosterFault.{RosterFault}
 use Rattle.registry.specs.declared.roster.Loaded.{Loaded}
 use Rattle.registry.specs.declared.roster.Loaded.the-variants.{Good, Faulty}
 use Rattle.registry.specs.declared.Application.{Application}
@@ -97,9 +95,6 @@ exportable registry line slot = if isReadable registry line slot then flag (expo
 abbrev pub loadedNumber : Loaded → ℕ
 loadedNumber Good = 6
 loadedNumber (Faulty fault) = faultNumber fault
-
-abbrev pub loadNumber : Option RosterFault → ℕ
-loadNumber fault = loadedNumber (loadedOf fault)
 
 -- ---- connections
 

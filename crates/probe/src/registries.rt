@@ -27,7 +27,7 @@ ghost use lib.Dec.{leb};
 ghost use Rattle.registry.specs.WellFormed.{wellFormedRegistry};
 ghost use Rattle.registry.specs.Roster.{loadRoster};
 ghost use Rattle.registry.specs.Check.{keyFrom};
-ghost use Rattle.probe.specs.Answers.{WroteIf, ChangedIf, lineFound, slotFound, isClearable, cleared, isFillable, filled, isReadable, dataAt, exportable, loadNumber};
+ghost use Rattle.probe.specs.Answers.{WroteIf, ChangedIf, lineFound, slotFound, isClearable, cleared, isFillable, filled, isReadable, dataAt, exportable, loadedNumber};
 
 #[no_mangle]
 pub extern "C" fn probe_registry_is_well_formed(registry: &[u8]) -> bool
@@ -170,7 +170,7 @@ pub extern "C" fn probe_is_exportable(registry: &[u8], line: usize, slot: usize)
 // The number of the fault, R0 to R5, or 6 for a good file.
 #[no_mangle]
 pub extern "C" fn probe_load_roster(file: &[u8], registry: &mut [u8]) -> usize
-    ensures { λ r. ⌜ (r ≡ loadNumber (loadRoster (now (file .entry)) (now (registry .entry)) .fault)) × (now (registry .exit) ≡ loadRoster (now (file .entry)) (now (registry .entry)) .registry) ⌝ }
+    ensures { λ r. ⌜ (r ≡ loadedNumber (loadRoster (now (file .entry)) (now (registry .entry)) .answer)) × (now (registry .exit) ≡ loadRoster (now (file .entry)) (now (registry .entry)) .registry) ⌝ }
 {
     match load_roster(file, registry) {
         Loaded::Good => 6,

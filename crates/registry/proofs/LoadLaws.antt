@@ -7,7 +7,7 @@ use mathlib.Core.List.{List, [], _∷_, _++_, map, flatten, map-append, append-a
 use Prim.Native.Nat.{ℕ, _+_, _-_, _*_, _≤_, _<_}
 use native.Mathlib.Numerals.{add-one}
 use native.Mathlib.Omega.{arith}
-use borrow.Author.Tests.{lt-ltb, le-ltb, ltb-false, leb-false, ne-eqb, eq-eqb, not-true}
+use borrow.Author.Tests.{lt-ltb, le-ltb, ltb-false, leb-false, not-true}
 use borrow.Rule.Slice.PartMut.{putMid}
 use lib.Dec.{leb, ltb, eqb}
 use lib.ListN.{length, take, drop, getD, set, replicate, length-map, length-set, drop-of-length-le, replicate-append-replicate}
@@ -23,11 +23,11 @@ use Rattle.wire.proofs.BlockLaws.{length-flatten, flatten-snoc}
 use Rattle.wire.proofs.ScanLaws.{TurnAhead, scan-end, scan-on}
 use Rattle.registry.specs.Names.{legalName, isNew}
 use Rattle.registry.specs.Slots.{slotSize}
-use Rattle.registry.specs.Registry.{applicationNameMost, lineCount, slotCount, lineSize, registrySize, lineOf, registryOf}
-use Rattle.registry.specs.Roster.{recordLength, valueIn, recordFaults, Roster, applications, faulty, recordTurn, rosterInto, rosterOf, loadRoster}
+use Rattle.registry.specs.Registry.{applicationNameMost, lineCount, slotCount, lineSize, lineOf}
+use Rattle.registry.specs.Roster.{recordLength, valueIn, recordFaults, Roster, applications, faulty, recordTurn, rosterOf}
 use Rattle.registry.specs.Check.{loadedOf, isWhole, namesAt, withName, Within, rosterIn, RosterKnown}
 use Rattle.registry.specs.declared.RosterFault.{RosterFault}
-use Rattle.registry.specs.declared.RosterFault.the-variants.{WrongMemorySize, CutRecord, UnknownTag, BadName, NinthName, RepeatedName}
+use Rattle.registry.specs.declared.RosterFault.the-variants.{CutRecord, UnknownTag, BadName, NinthName, RepeatedName}
 use Rattle.registry.specs.declared.roster.Loaded.the-variants.{Good, Faulty}
 use Rattle.registry.specs.declared.roster.Names.{Names}
 use Rattle.registry.specs.declared.roster.Checked.{Checked}
@@ -222,7 +222,7 @@ module _ (names : List (List ℕ)) (i : ℕ) where
       length-flatten lineSize (map lineOf (take i names)) (sized-names (take i names) (all-take isLegal i names legal))
       ∙ ap (λ (n : ℕ). n * lineSize) (length-map (take i names) lineOf ∙ length-take-le i names h)
 
--- ---- the outcome
+-- ---- a checked file
 
 module _ (file : List ℕ) (checked : Checked) (k : RosterKnown file checked) where
   pub known-good : checked .loaded ≡ Good → rosterOf file ≡ applications (namesAt file (checked .names))
@@ -232,17 +232,3 @@ module _ (file : List ℕ) (checked : Checked) (k : RosterKnown file checked) wh
   pub known-faulty : (fault : RosterFault) → checked .loaded ≡ Faulty fault → rosterOf file ≡ faulty fault
   unfolding rosterIn
   known-faulty fault e = sym (k .roster) ∙ rw (rosterIn, e)
-
-module _ (file memory : List ℕ) where
-  pub load-size : (length memory ≡ registrySize → ⊥) → loadRoster file memory ≡ record { fault = some WrongMemorySize; registry = memory }
-  unfolding loadRoster rosterInto
-  load-size h = rw (ne-eqb (length memory) registrySize h)
-
-  module _ (size : length memory ≡ registrySize) where
-    pub load-good : (names : List (List ℕ)) → rosterOf file ≡ applications names → loadRoster file memory ≡ record { fault = none; registry = registryOf names }
-    unfolding loadRoster rosterInto
-    load-good names e = rw (eq-eqb (length memory) registrySize size, e)
-
-    pub load-fault : (fault : RosterFault) → rosterOf file ≡ faulty fault → loadRoster file memory ≡ record { fault = some fault; registry = memory }
-    unfolding loadRoster rosterInto
-    load-fault fault e = rw (eq-eqb (length memory) registrySize size, e)

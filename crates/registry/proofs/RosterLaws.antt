@@ -11,7 +11,7 @@ use lib.Seq.{take-at, drop-at, take-append-seam, drop-append-seam, drop-drop}
 use lib.Dec.{eqb}
 use Rattle.wire.specs.Choice.{if_then_else_, firstOf}
 use Rattle.wire.specs.Lists.{all, isZero, same, padded, blocks}
-use Rattle.wire.proofs.TestLaws.{and-left, and-right, some≢none, none-at}
+use Rattle.wire.proofs.TestLaws.{and-left, and-right, none-at}
 use Rattle.wire.proofs.ListLaws.{all-append, all-zeros, length-padded}
 use Rattle.wire.proofs.BlockLaws.{skip, Sized, length-flatten, blocks-flatten, zero-blocks}
 use Rattle.wire.proofs.ScanLaws.{TurnHas, scan-has}
@@ -22,6 +22,7 @@ use Rattle.registry.specs.WellFormed.{isUsed, noneUsed, usedFirst, zeros
 use Rattle.registry.specs.Roster.{faultNumber, valueIn, recordFaults, Roster, applications, faulty, recordTurn, rosterOf, RosterOutcome, rosterInto, loadRoster}
 use Rattle.registry.specs.declared.RosterFault.{RosterFault}
 use Rattle.registry.specs.declared.RosterFault.the-variants.{WrongMemorySize, CutRecord, UnknownTag, BadName, NinthName, RepeatedName}
+use Rattle.registry.specs.declared.roster.Loaded.the-variants.{Good}
 use Rattle.registry.proofs.NameLaws.{legal-some, legal-short, lone, distinct-cons, apart-absent, distinct-snoc}
 use Rattle.registry.proofs.RegistryLaws.{some-used}
 use Rattle.registry.proofs.WellFormedLaws.{Lines, well-of, zeros-good, zeros-distinct, zero-lines}
@@ -243,18 +244,18 @@ module _ (names : List (List ℕ)) (l : LegalNames names) where
   })
 
 -- a roster file that is read leaves a well-formed registry
-pub roster-good : (file memory : List ℕ) → loadRoster file memory .fault ≡ none → wellFormedRegistry (loadRoster file memory .registry) ≡ true
+pub roster-good : (file memory : List ℕ) → loadRoster file memory .answer ≡ Good → wellFormedRegistry (loadRoster file memory .registry) ≡ true
 unfolding loadRoster rosterInto
 roster-good file memory e = go (eqb (length memory) registrySize) e
   where
-    read : (r : Roster) → rosterOf file ≡ r → rosterInto memory r .fault ≡ none → wellFormedRegistry (rosterInto memory r .registry) ≡ true
+    read : (r : Roster) → rosterOf file ≡ r → rosterInto memory r .answer ≡ Good → wellFormedRegistry (rosterInto memory r .registry) ≡ true
     read (applications names) q f = registry-good names (roster-legal file names q)
-    read (faulty fault) q f = absurd (some≢none fault f)
+    read (faulty fault) q f = cc
 
     go : (t : Bool)
         → (let o : RosterOutcome = if t then rosterInto memory (rosterOf file) else rosterInto memory (faulty WrongMemorySize) in
-        o .fault ≡ none → wellFormedRegistry (o .registry) ≡ true)
-    go false f = absurd (some≢none WrongMemorySize f)
+        o .answer ≡ Good → wellFormedRegistry (o .registry) ≡ true)
+    go false f = cc
     go true f = read (rosterOf file) refl f
 
 -- ---- a fault's number is small

@@ -2,7 +2,7 @@
 -- tally", R0 to R5).
 use Prim.Native.Nat.{ℕ, _+_}
 use mathlib.Core.Bool.{Bool, _||_, not}
-use mathlib.Core.Option.{Option, none, some}
+use mathlib.Core.Option.{none, some}
 use mathlib.Core.List.{List, [], _∷_, _++_}
 use lib.ListN.{length, take, drop}
 use lib.Dec.{leb, ltb, eqb}
@@ -13,6 +13,8 @@ use Rattle.registry.specs.Names.{legalName, isNew}
 use Rattle.registry.specs.Registry.{applicationNameMost, lineCount, registrySize, registryOf}
 use Rattle.registry.specs.declared.RosterFault.{RosterFault}
 use Rattle.registry.specs.declared.RosterFault.the-variants.{WrongMemorySize, CutRecord, UnknownTag, BadName, NinthName, RepeatedName}
+use Rattle.registry.specs.declared.roster.Loaded.{Loaded}
+use Rattle.registry.specs.declared.roster.Loaded.the-variants.{Good, Faulty}
 
 -- R0 to R5
 unfoldable pub faultNumber : RosterFault → ℕ
@@ -57,12 +59,12 @@ rosterOf file = scanAt (λ at names. recordTurn names at (drop at file)) applica
 -- ---- reading a roster file into memory lent for the registry
 
 pub record RosterOutcome : Type 0 where
-  pub fault : Option RosterFault  -- none: the file is good
+  pub answer : Loaded  -- good, or the first fault
   pub registry : List ℕ  -- the memory afterwards
 
 unfoldable pub rosterInto : (memory : List ℕ) → Roster → RosterOutcome
-rosterInto memory (applications names) = record { fault = none; registry = registryOf names }
-rosterInto memory (faulty fault) = record { fault = some fault; registry = memory }
+rosterInto memory (applications names) = record { answer = Good; registry = registryOf names }
+rosterInto memory (faulty fault) = record { answer = Faulty fault; registry = memory }
 
 -- memory of another size is refused before any record; a refused file leaves it as it came
 unfoldable pub loadRoster : (file memory : List ℕ) → RosterOutcome

@@ -204,8 +204,7 @@ fn write_names(file: &[u8], names: Names, registry: &mut [u8])
 // Reads a roster file into memory lent for the registry: R0 first, then R1 to R5 in their order, and the first faulty
 // record decides. On a fault memory stays as it came; else it holds the names and no keys.
 pub fn load_roster(file: &[u8], registry: &mut [u8]) -> Loaded
-    ensures { λ r. ⌜ r ≡ loadedOf (loadRoster (now (file .entry)) (now (registry .entry)) .fault) ⌝ }
-    ensures { λ _. ⌜ now (registry .exit) ≡ loadRoster (now (file .entry)) (now (registry .entry)) .registry ⌝ }
+    ensures { λ r. ⌜ record { answer = r; registry = now (registry .exit) } ≡ loadRoster (now (file .entry)) (now (registry .entry)) ⌝ }
 {
     if registry.len() != REGISTRY_SIZE {
         return Loaded::Faulty(RosterFault::WrongMemorySize);

@@ -23,8 +23,8 @@ use Rattle.registry.specs.WellFormed.{wellFormedRegistry}
 use Rattle.judgement.specs.Counts.{Counts}
 use Rattle.judgement.specs.Judgement.{refusedEarly, judgement}
 use Rattle.judgement.proofs.ResponseLaws.{responseMost, bad-short, oversized-short, judge-short}
-use Rattle.service.specs.Counters.{totalsOf, countersOf, largestCounter}
-use Rattle.service.specs.Call.{Memory, stateIn, memoryOf, layout, bufferLeast, counterMost, refusalTests, codeOf, refusalOf, callOutcome}
+use Rattle.counters.specs.Counters.{totalsOf, countersOf, largestCounter, counterMost}
+use Rattle.service.specs.Call.{Memory, stateIn, memoryOf, layout, bufferLeast, refusalTests, codeOf, refusalOf, callOutcome}
 use Rattle.service.specs.Served.{Ready, effectOf}
 use Rattle.service.specs.declared.Refusal.{Refusal}
 use Rattle.service.specs.declared.Refusal.the-variants.{ResponseBufferTooSmall, ChunkTooLong, ConnectionIllFormed, RegistryIllFormed, CounterTooHigh}

@@ -11,11 +11,11 @@ use Rattle.wire.specs.Choice.{firstOf}
 use Rattle.stream.specs.Calls.{Answer, Call, CallOutcome, refused, took}
 use Rattle.service.specs.Refusals.{refusalNumber}
 use Rattle.service.specs.Call.{Memory, memoryOf, refusalTests, codeOf, refusalOf, callOutcome}
-use Rattle.service.specs.Counters.{totalsOf, countersOf}
+use Rattle.counters.specs.Counters.{totalsOf, countersOf}
+use Rattle.counters.specs.Counted.{countEvent, counted}
 use Rattle.service.specs.Called.{lentMemory, callWith, codeFor, codeNumber, answerOf, refusedWith, outcomeWith, CallContract}
-use Rattle.service.specs.Counted.{countEvent, withCounts, countRequest, countTaken, countAnswered, countDropped, counted}
 use Rattle.service.specs.Served.{WroteAny, Carried, effectOf}
-use Rattle.service.specs.declared.Counters.{Counters}
+use Rattle.counters.specs.declared.Counters.{Counters}
 use Rattle.service.specs.declared.Refusal.{Refusal}
 use Rattle.service.specs.declared.Code.{Code}
 use Rattle.service.specs.declared.Code.the-variants.{Taken}
@@ -29,8 +29,8 @@ taken-none none e = refl
 taken-none (some refusal) e = cc
 
 -- a refused call counts nothing
-nothing-counted : (c : Counters) (code : Code) → counted c (refusedWith code) ≡ c
-unfolding counted countRequest countEvent withCounts countTaken countAnswered countDropped totalsOf countersOf
+nothing-counted : (c : Counters) (code : Code) → counted c (refusedWith code .added) ≡ c
+unfolding counted countEvent totalsOf countersOf
 nothing-counted c code =
     λ i. record { taken = add-zero (c .taken) i; answered = add-zero (c .answered) i; dropped = add-zero (c .dropped) i; served = c .served; unauthenticated = c .unauthenticated; refused = c .refused }
 
@@ -48,7 +48,7 @@ module _ (connection registry : List ℕ) (counters : Counters) (chunk buffer : 
   -- a code that is not `Taken` is a refusal's, and all stays
   pub refused-call : (code : Code) (h : Handled) → code ≡ codeFor (firstOf (refusalTests m call)) → OneOf (1 ∷ []) (tagOf the-type code)
       → h ≡ refusedWith code
-      → CallContract m call (answerOf h) (lentMemory connection registry (counted counters h)) buffer
+      → CallContract m call (answerOf h) (lentMemory connection registry (counted counters (h .added))) buffer
   unfolding codeFor codeOf codeNumber refusalOf refused
   refused-call code h e other says = ap outcome says ∙ ap (λ (x : Counters). leaves code x) (nothing-counted counters code) ∙ go (firstOf (refusalTests m call)) refl
     where
@@ -56,7 +56,7 @@ module _ (connection registry : List ℕ) (counters : Counters) (chunk buffer : 
       leaves c x = outcomeWith (codeNumber c) 0 0 (lentMemory connection registry x) buffer
 
       outcome : Handled → CallOutcome Memory
-      outcome x = outcomeWith (codeNumber (x .code)) (x .taken) (x .written) (lentMemory connection registry (counted counters x)) buffer
+      outcome x = outcomeWith (codeNumber (x .code)) (x .added .taken) (x .written) (lentMemory connection registry (counted counters (x .added))) buffer
 
       go : (f : Option Refusal) → firstOf (refusalTests m call) ≡ f → leaves code counters ≡ callOutcome m call
       go none q = absurd (clash (subst (λ (x : Code). OneOf (1 ∷ []) (tagOf the-type x)) (e ∙ ap codeFor q) other))
@@ -74,7 +74,7 @@ module _ (connection registry : List ℕ) (counters : Counters) (chunk buffer : 
   -- a call that is served says and leaves what was carried out
   pub taken-call : (left kept after : List ℕ) (h : Handled) → refusalOf m call ≡ none
       → Carried counters (effectOf m chunk) left kept buffer after h
-      → CallContract m call (answerOf h) (lentMemory left kept (counted counters h)) after
+      → CallContract m call (answerOf h) (lentMemory left kept (counted counters (h .added))) after
   unfolding codeNumber memoryOf
   taken-call left kept after h passed done =
       (λ i. record {

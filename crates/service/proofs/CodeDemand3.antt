@@ -10,9 +10,10 @@ use Rattle.stream.specs.Calls.{Call, Answer, CallOutcome, CallsOutcome, callsOn
 use Rattle.stream.proofs.DeliveryLaws.{within, TakenWhole}
 use Rattle.registry.specs.WellFormed.{wellFormedRegistry}
 use Rattle.judgement.specs.Judgement.{judgement}
-use Rattle.service.specs.Call.{Memory, layout, fresh, bufferLeast, chunkMost, counterMost, refusalOf, callOutcome, callsOutcome}
+use Rattle.counters.specs.Counters.{counterMost}
+use Rattle.service.specs.Call.{Memory, layout, fresh, bufferLeast, chunkMost, refusalOf, callOutcome, callsOutcome}
 use Rattle.service.specs.Called.{lentMemory, callWith, codeNumber, CallContract}
-use Rattle.service.specs.declared.Counters.{Counters}
+use Rattle.counters.specs.declared.Counters.{Counters}
 use Rattle.service.specs.declared.CallAnswer.{CallAnswer}
 use Rattle.service.proofs.Demand3.{FollowsRules, demand3}
 

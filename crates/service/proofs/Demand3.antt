@@ -18,8 +18,8 @@ use Rattle.connection.proofs.ConnectionLaws.{load-store, stored-good}
 use Rattle.registry.specs.WellFormed.{wellFormedRegistry}
 use Rattle.judgement.specs.Counts.{Counts}
 use Rattle.judgement.specs.Judgement.{judgement}
-use Rattle.service.specs.Counters.{totalsOf, countersOf, largestCount, largestCounter}
-use Rattle.service.specs.Call.{Memory, stateIn, memoryOf, layout, fresh, bufferLeast, chunkMost, counterMost, refusalTests, codeOf, refusalOf, callsOutcome}
+use Rattle.counters.specs.Counters.{totalsOf, countersOf, counterMost, largestCount, largestCounter}
+use Rattle.service.specs.Call.{Memory, stateIn, memoryOf, layout, fresh, bufferLeast, chunkMost, refusalTests, codeOf, refusalOf, callsOutcome}
 use Rattle.service.proofs.KeptLaws.{keeps}
 
 -- ---- memory

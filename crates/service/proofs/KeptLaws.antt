@@ -17,7 +17,7 @@ use Rattle.judgement.specs.Counts.{Counts, noCounts, increment, indexOf, countR
 use Rattle.judgement.specs.Judgement.{verdictOf, refusedEarly, judgement}
 use Rattle.judgement.specs.declared.Status.{Status}
 use Rattle.judgement.proofs.JudgementLaws.{judge-good}
-use Rattle.service.specs.Counters.{maximum, largestCount}
+use Rattle.counters.specs.Counters.{maximum, largestCount}
 
 -- ---- the counters
 

@@ -3,10 +3,8 @@ pub mod Stars
 pub mod Beyond
 pub mod KeptLaws
 pub mod CallLaws
-pub mod CountingLaws
 pub mod CountedLaws
 pub mod Demand3
 pub mod ServeLaws
 pub mod CalledLaws
 pub mod CodeDemand3
-pub mod InPlace

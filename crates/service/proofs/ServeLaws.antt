@@ -22,12 +22,13 @@ use Rattle.judgement.specs.Counts.{Counts, noCounts}
 use Rattle.judgement.specs.Judgement.{judgement, refusedEarly, verdictOf}
 use Rattle.judgement.specs.Answers.{AskerBelow, AnsweredBy}
 use Rattle.judgement.specs.declared.Answered.{Answered}
-use Rattle.service.specs.Counters.{totalsOf, countersOf}
+use Rattle.counters.specs.Counters.{totalsOf, countersOf}
+use Rattle.counters.specs.Counted.{countEvent, counted}
+use Rattle.counters.proofs.CountedLaws.{event-counts, event-below}
 use Rattle.service.specs.Call.{bufferLeast, chunkMost, stateIn}
 use Rattle.service.specs.Called.{lentMemory}
-use Rattle.service.specs.Counted.{countEvent, withCounts, countRequest, countTaken, countAnswered, countDropped, counted}
 use Rattle.service.specs.Served.{Modest, waited, finished, droppedAll, Carried, SkipReady, effectOf, skipEffect}
-use Rattle.service.specs.declared.Counters.{Counters}
+use Rattle.counters.specs.declared.Counters.{Counters}
 use Rattle.service.specs.declared.Handled.{Handled}
 
 abbrev pub stateWith : Connection → (registry : List ℕ) → Counters → State (List ℕ) Counts
@@ -35,48 +36,48 @@ stateWith k registry c = record { connection = k; registry = registry; totals = 
 
 -- ---- what a call comes to is little
 
-modest-waited : (n : ℕ) → n ≤ chunkMost → Modest (waited n)
+modest-waited : (n : ℕ) → n ≤ chunkMost → Modest (waited n .added)
 modest-waited n few = record { taken = few; answered = lit< tt; dropped = omega arith; event = tt }
 
-modest-dropped : (n : ℕ) → n ≤ chunkMost → Modest (droppedAll n)
+modest-dropped : (n : ℕ) → n ≤ chunkMost → Modest (droppedAll n .added)
 modest-dropped n few = record { taken = few; answered = lit< tt; dropped = few; event = tt }
 
-modest-finished : (n size : ℕ) (a : Answered) → n ≤ chunkMost → size < 2 ^ 40 → AskerBelow (a .asker) → Modest (finished n size a)
-modest-finished n size a few small asker = record { taken = few; answered = small; dropped = omega arith; event = asker }
+modest-finished : (n size : ℕ) (a : Answered) → n ≤ chunkMost → size < 2 ^ 40 → AskerBelow (a .asker) → Modest (finished n size a .added)
+modest-finished n size a few small asker = record { taken = few; answered = small; dropped = omega arith; event = event-below (a .asker) (a .status) asker }
 
 module _ (k : Connection) (registry : List ℕ) (c : Counters) where
   pub carried-wait : (n : ℕ) (conn : Connection) (connection before after : List ℕ) (r : Handled)
       → n ≤ chunkMost → r ≡ waited n
       → connection ≡ connectionBytes conn → after ≡ before
       → Carried c (waiting (stateWith k registry c) n conn) connection registry before after r
-  unfolding totalsOf countersOf counted countRequest countEvent withCounts countTaken countAnswered countDropped
+  unfolding totalsOf countersOf counted countEvent
   carried-wait n conn connection before after r few e m b = record {
     code-is = ap (λ (x : Handled). x .code) e;
-    taken-is = ap (λ (x : Handled). x .taken) e;
+    taken-is = ap (λ (x : Handled). x .added .taken) e;
     response-is = (ap (λ (x : Handled). x .written) e, b);
     connection-is = m;
     registry-is = refl;
     counters-is =
-        ap (counted c) e
+        ap (λ (x : Handled). counted c (x .added)) e
         ∙ (λ i. countersOf (record { taken = c .taken + n; answered = add-zero (c .answered) i; dropped = add-zero (c .dropped) i; counts = totalsOf c .counts }));
-    modest = subst Modest (sym e) (modest-waited n few);
+    modest = subst (λ (x : Handled). Modest (x .added)) (sym e) (modest-waited n few);
   }
 
   carried-drop : (n : ℕ) (connection before after : List ℕ) (r : Handled)
       → n ≤ chunkMost → r ≡ droppedAll n
       → connection ≡ connectionBytes closed → after ≡ before
       → Carried c (dropping (stateWith k registry c) n) connection registry before after r
-  unfolding totalsOf countersOf counted countRequest countEvent withCounts countTaken countAnswered countDropped
+  unfolding totalsOf countersOf counted countEvent
   carried-drop n connection before after r few e m b = record {
     code-is = ap (λ (x : Handled). x .code) e;
-    taken-is = ap (λ (x : Handled). x .taken) e;
+    taken-is = ap (λ (x : Handled). x .added .taken) e;
     response-is = (ap (λ (x : Handled). x .written) e, b);
     connection-is = m;
     registry-is = refl;
     counters-is =
-        ap (counted c) e
+        ap (λ (x : Handled). counted c (x .added)) e
         ∙ (λ i. countersOf (record { taken = c .taken + n; answered = add-zero (c .answered) i; dropped = c .dropped + n; counts = totalsOf c .counts }));
-    modest = subst Modest (sym e) (modest-dropped n few);
+    modest = subst (λ (x : Handled). Modest (x .added)) (sym e) (modest-dropped n few);
   }
 
   -- the response and the registry of a verdict hang on no counts
@@ -88,10 +89,10 @@ module _ (k : Connection) (registry : List ℕ) (c : Counters) where
       → r ≡ finished n size a
       → connection ≡ connectionBytes conn
       → Carried c (answering (stateWith k registry c) n size (v (totalsOf c .counts)) conn) connection kept before after r
-  unfolding totalsOf countersOf counted countRequest countEvent withCounts countTaken countAnswered countDropped
+  unfolding totalsOf countersOf counted countEvent
   carried-answer v n size conn connection kept before after a r few small by same-response same-registry e m = record {
     code-is = ap (λ (x : Handled). x .code) e;
-    taken-is = ap (λ (x : Handled). x .taken) e;
+    taken-is = ap (λ (x : Handled). x .added .taken) e;
     response-is =
         record {
           count = ap (λ (x : Handled). x .written) e ∙ by .response .count ∙ ap length same-response;
@@ -100,9 +101,9 @@ module _ (k : Connection) (registry : List ℕ) (c : Counters) where
     connection-is = m;
     registry-is = by .kept ∙ same-registry;
     counters-is =
-        ap (counted c) e
-        ∙ (λ i. countersOf (record { taken = c .taken + n; answered = c .answered + size; dropped = add-zero (c .dropped) i; counts = by .counts (totalsOf c .counts) i }));
-    modest = subst Modest (sym e) (modest-finished n size a few small (by .asker));
+        ap (λ (x : Handled). counted c (x .added)) e
+        ∙ (λ i. countersOf (record { taken = c .taken + n; answered = c .answered + size; dropped = add-zero (c .dropped) i; counts = (event-counts (totalsOf c .counts) (a .asker) (a .status) ∙ by .counts (totalsOf c .counts)) i }));
+    modest = subst (λ (x : Handled). Modest (x .added)) (sym e) (modest-finished n size a few small (by .asker));
   }
 
 -- ---- an oversized request

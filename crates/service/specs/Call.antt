@@ -1,5 +1,5 @@
 -- THE CALL'S WHOLE OUTCOME, which the code's contract cites: "When a call is not taken", and what a taken one leaves.
-use Prim.Native.Nat.{ℕ, _^_}
+use Prim.Native.Nat.{ℕ}
 use mathlib.Core.Bool.{Bool, not}
 use mathlib.Core.Option.{Option, none, some}
 use mathlib.Core.List.{List, [], _∷_}
@@ -14,9 +14,9 @@ use Rattle.connection.specs.Connection.{connectionBytes, connectionOf, wellForm
 use Rattle.registry.specs.WellFormed.{wellFormedRegistry}
 use Rattle.judgement.specs.Counts.{Counts}
 use Rattle.judgement.specs.Judgement.{judgement}
+use Rattle.counters.specs.Counters.{totalsOf, countersOf, counterMost, largestCounter}
+use Rattle.counters.specs.declared.Counters.{Counters}
 use Rattle.service.specs.Refusals.{refusalNumber}
-use Rattle.service.specs.Counters.{totalsOf, countersOf, largestCounter}
-use Rattle.service.specs.declared.Counters.{Counters}
 use Rattle.service.specs.declared.Refusal.{Refusal}
 use Rattle.service.specs.declared.Refusal.the-variants.{ResponseBufferTooSmall, ChunkTooLong, ConnectionIllFormed, RegistryIllFormed, CounterTooHigh}
 
@@ -39,16 +39,10 @@ layout = record { load = stateIn; store = memoryOf }
 unfoldable pub fresh : (registry : List ℕ) → Memory
 fresh registry = memoryOf (stream.fresh judgement registry)
 
-unfoldable pub zeroCounters : Counters
-zeroCounters = fresh [] .counters
-
 -- ---- when a call is not taken
 
 abbrev pub chunkMost : ℕ
 chunkMost = 65536
-
-abbrev pub counterMost : ℕ
-counterMost = 2 ^ 62
 
 unfoldable pub refusalTests : Memory → Call → List (Bool × Refusal)
 refusalTests m call =

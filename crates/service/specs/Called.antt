@@ -4,12 +4,12 @@ use mathlib.Core.Path.{_≡_}
 use mathlib.Core.Option.{Option, none, some}
 use mathlib.Core.List.{List}
 use Rattle.stream.specs.Calls.{Call, CallOutcome}
+use Rattle.counters.specs.declared.Counters.{Counters}
+use Rattle.counters.specs.declared.Event.the-variants.{NoRequest}
 use Rattle.service.specs.Refusals.{refusalNumber}
 use Rattle.service.specs.Call.{Memory, callOutcome}
-use Rattle.service.specs.declared.Counters.{Counters}
 use Rattle.service.specs.declared.Refusal.{Refusal}
 use Rattle.service.specs.declared.Code.{Code}
-use Rattle.service.specs.declared.Event.the-variants.{NoRequest}
 use Rattle.service.specs.declared.Handled.{Handled}
 use Rattle.service.specs.declared.Outcome.{Outcome}
 use Rattle.service.specs.declared.CallAnswer.{CallAnswer}
@@ -40,11 +40,11 @@ outcomeWith code taken written after buffer = record {
 
 -- what a call that is handled says
 abbrev pub answerOf : Handled → CallAnswer
-answerOf h = record { code = h .code; taken = h .taken; written = h .written }
+answerOf h = record { code = h .code; taken = h .added .taken; written = h .written }
 
 -- a call that is refused takes, writes and counts nothing
 abbrev pub refusedWith : Code → Handled
-refusedWith code = record { code = code; taken = 0; written = 0; answered = 0; dropped = 0; event = NoRequest }
+refusedWith code = record { code = code; written = 0; added = record { taken = 0; answered = 0; dropped = 0; event = NoRequest } }
 
 -- an outcome is an answer and the counters
 abbrev pub outcomeOf : CallAnswer → Counters → Outcome

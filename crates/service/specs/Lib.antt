@@ -1,8 +1,6 @@
 pub mod Refusals
-pub mod Counters
 pub mod Call
 pub mod Text
 pub mod Bill
-pub mod Counted
 pub mod Called
 pub mod Served

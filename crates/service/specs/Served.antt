@@ -16,15 +16,14 @@ use Rattle.connection.specs.Connection.{bytesAt, connectionSize, laidOut, conne
 use Rattle.registry.specs.WellFormed.{wellFormedRegistry}
 use Rattle.judgement.specs.Counts.{Counts}
 use Rattle.judgement.specs.Judgement.{judgement}
-use Rattle.judgement.specs.Answers.{AskerBelow}
 use Rattle.judgement.specs.declared.Answered.{Answered}
-use Rattle.service.specs.Counters.{totalsOf, countersOf}
+use Rattle.counters.specs.Counters.{totalsOf, countersOf}
+use Rattle.counters.specs.Counted.{eventOf, counted, EventBelow}
+use Rattle.counters.specs.declared.Counters.{Counters}
+use Rattle.counters.specs.declared.Event.the-variants.{NoRequest}
+use Rattle.counters.specs.declared.Increments.{Increments}
 use Rattle.service.specs.Call.{Memory, stateIn, bufferLeast, chunkMost}
-use Rattle.service.specs.Counted.{counted}
-use Rattle.service.specs.declared.Counters.{Counters}
 use Rattle.service.specs.declared.Code.the-variants.{Taken}
-use Rattle.service.specs.declared.Event.{Event}
-use Rattle.service.specs.declared.Event.the-variants.{NoRequest, Request}
 use Rattle.service.specs.declared.Handled.{Handled}
 
 -- none of C1 to C4 applies
@@ -37,24 +36,24 @@ pub record Ready (connection registry chunk buffer : List ℕ) : Type 0 where
 -- ---- what a call comes to
 
 abbrev pub waited : (n : ℕ) → Handled
-waited n = record { code = Taken; taken = n; written = 0; answered = 0; dropped = 0; event = NoRequest }
+waited n = record { code = Taken; written = 0; added = record { taken = n; answered = 0; dropped = 0; event = NoRequest } }
 
 abbrev pub finished : (n size : ℕ) → Answered → Handled
-finished n size a = record { code = Taken; taken = n; written = a .written; answered = size; dropped = 0; event = Request (a .asker) (a .status) }
+finished n size a = record {
+  code = Taken;
+  written = a .written;
+  added = record { taken = n; answered = size; dropped = 0; event = eventOf (a .asker) (a .status) };
+}
 
 abbrev pub droppedAll : (n : ℕ) → Handled
-droppedAll n = record { code = Taken; taken = n; written = 0; answered = 0; dropped = n; event = NoRequest }
-
-abbrev pub EventBelow : Event → Type 0
-EventBelow NoRequest = Unit {0}
-EventBelow (Request asker status) = AskerBelow asker
+droppedAll n = record { code = Taken; written = 0; added = record { taken = n; answered = 0; dropped = n; event = NoRequest } }
 
 -- so little that counters of at most 2^62 have room for it
-pub record Modest (h : Handled) : Type 0 where
-  pub taken : h .taken ≤ chunkMost
-  pub answered : h .answered < 2 ^ 40
-  pub dropped : h .dropped ≤ chunkMost
-  pub event : EventBelow (h .event)
+pub record Modest (by : Increments) : Type 0 where
+  pub taken : by .taken ≤ chunkMost
+  pub answered : by .answered < 2 ^ 40
+  pub dropped : by .dropped ≤ chunkMost
+  pub event : EventBelow (by .event)
 
 -- the response, if there is one, was written over the front of `before`, which is now `after`; n says how many bytes
 abbrev pub WroteAny : Option (List ℕ) → (before after : List ℕ) → (n : ℕ) → Type 0
@@ -64,12 +63,12 @@ WroteAny (some response) before after n = Wrote response before after n
 -- the effect was carried out, but that the counters c have still to be counted up
 pub record Carried (c : Counters) (e : Effect (List ℕ) Counts (List ℕ)) (connection registry before after : List ℕ) (r : Handled) : Type 0 where
   pub code-is : r .code ≡ Taken
-  pub taken-is : r .taken ≡ e .taken
+  pub taken-is : r .added .taken ≡ e .taken
   pub response-is : WroteAny (e .response) before after (r .written)
   pub connection-is : connection ≡ connectionBytes (e .state .connection)
   pub registry-is : registry ≡ e .state .registry
-  pub counters-is : counted c r ≡ countersOf (e .state .totals)
-  pub modest : Modest r
+  pub counters-is : counted c (r .added) ≡ countersOf (e .state .totals)
+  pub modest : Modest (r .added)
 
 -- what a taken call does
 abbrev pub effectOf : Memory → (chunk : List ℕ) → Effect (List ℕ) Counts (List ℕ)

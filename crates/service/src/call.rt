@@ -1,30 +1,34 @@
 // A call: refused by C1 to C5 ("When a call is not taken"), or served, and counted.
 use crate::CallAnswer;
 use crate::Code;
-use crate::Counters;
-use crate::Event;
 use crate::Handled;
 use crate::Outcome;
-use crate::counting::with_all;
-use crate::in_place::count;
 use crate::refusals::judge_call;
 use crate::serve::serve;
+use counters::Counters;
+use counters::Event;
+use counters::Increments;
+use counters::counting::count;
+use counters::counting::with_increments;
 ghost use mathlib.Core.Path.{_≡_};
+ghost use Rattle.counters.specs.Counted.{counted, Fits};
 ghost use Rattle.service.specs.Call.{callOutcome};
 ghost use Rattle.service.specs.Called.{lentMemory, callWith, codeNumber, outcomeWith, outcomeOf, answerOf, refusedWith, CallContract};
-ghost use Rattle.service.specs.Counted.{counted, Fits};
 
 // A refused call takes nothing, writes nothing and alters nothing.
 fn refuse(code: Code) -> Handled
     ensures { λ r. ⌜ r ≡ refusedWith code ⌝ }
 {
-    Handled {
-        code,
+    let added = Increments {
         taken: 0,
-        written: 0,
         answered: 0,
         dropped: 0,
         event: Event::NoRequest,
+    };
+    Handled {
+        code,
+        written: 0,
+        added,
     }
 }
 
@@ -36,7 +40,7 @@ fn handle(
     counters: Counters,
     response: &mut [u8],
 ) -> Handled
-    ensures { λ r. ⌜ CallContract (lentMemory (now (connection .entry)) (now (registry .entry)) counters) (callWith (now (chunk .entry)) (now (response .entry))) (answerOf r) (lentMemory (now (connection .exit)) (now (registry .exit)) (counted counters r)) (now (response .exit)) × Fits counters r ⌝ }
+    ensures { λ r. ⌜ CallContract (lentMemory (now (connection .entry)) (now (registry .entry)) counters) (callWith (now (chunk .entry)) (now (response .entry))) (answerOf r) (lentMemory (now (connection .exit)) (now (registry .exit)) (counted counters (r .added))) (now (response .exit)) × Fits counters (r .added) ⌝ }
 {
     let code = judge_call(chunk, connection, registry, counters, response);
     let Code::Taken = code else {
@@ -45,13 +49,21 @@ fn handle(
     serve(connection, registry, response, chunk)
 }
 
+fn added_of(h: Handled) -> Increments
+    ensures { λ r. ⌜ r ≡ h .added ⌝ }
+{
+    let added = h.added;
+    added
+}
+
 fn answer_of(h: Handled) -> CallAnswer
     ensures { λ r. ⌜ r ≡ answerOf h ⌝ }
 {
     let code = h.code;
+    let added = h.added;
     CallAnswer {
         code,
-        taken: h.taken,
+        taken: added.taken,
         written: h.written,
     }
 }
@@ -60,9 +72,10 @@ fn outcome_of(h: Handled, counters: Counters) -> Outcome
     ensures { λ r. ⌜ r ≡ outcomeOf (answerOf h) counters ⌝ }
 {
     let code = h.code;
+    let added = h.added;
     Outcome {
         code,
-        taken: h.taken,
+        taken: added.taken,
         written: h.written,
         counters,
     }
@@ -79,7 +92,7 @@ pub fn call_by_value(
     ensures { λ r. ⌜ outcomeWith (codeNumber (r .code)) (r .taken) (r .written) (lentMemory (now (connection .exit)) (now (registry .exit)) (r .counters)) (now (response .exit)) ≡ callOutcome (lentMemory (now (connection .entry)) (now (registry .entry)) counters) (callWith (now (chunk .entry)) (now (response .entry))) ⌝ }
 {
     let h = handle(chunk, connection, registry, counters, response);
-    let after = with_all(counters, h);
+    let after = with_increments(counters, added_of(h));
     outcome_of(h, after)
 }
 
@@ -101,6 +114,6 @@ pub fn call(
     ensures { λ r. ⌜ CallContract (lentMemory (now (connection .entry)) (now (registry .entry)) (now (counters .entry))) (callWith (now (chunk .entry)) (now (response .entry))) r (lentMemory (now (connection .exit)) (now (registry .exit)) (now (counters .exit))) (now (response .exit)) ⌝ }
 {
     let h = handle(chunk, connection, registry, *counters, response);
-    count(counters, h);
+    count(counters, added_of(h));
     answer_of(h)
 }

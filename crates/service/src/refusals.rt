@@ -1,19 +1,17 @@
 // C1 to C5 ("When a call is not taken").
 use crate::Code;
-use crate::Counters;
 use crate::Refusal;
-use crate::counting::is_too_high;
+use counters::Counters;
+use counters::limit::is_too_high;
 ghost use mathlib.Core.Path.{_≡_};
 ghost use Rattle.wire.specs.Choice.{firstOf};
 ghost use Rattle.service.specs.Call.{refusalTests};
 ghost use Rattle.service.specs.Called.{lentMemory, callWith, codeFor};
 
-// The shortest response buffer, the longest chunk, and the highest counter: 2^62.
+// The shortest response buffer, and the longest chunk.
 pub const BUFFER_LEAST: usize = 1024;
 
 pub const CHUNK_MOST: usize = 65536;
-
-pub const COUNTER_MOST: u64 = 4611686018427387904;
 
 // Which of C1 to C5 a call falls under, if any: the first that applies.
 pub fn judge_call(

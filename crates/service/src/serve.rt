@@ -1,6 +1,5 @@
 // A call that is taken, by what its connection is ("A whole stream under the rules", up to one response).
 use crate::Code;
-use crate::Event;
 use crate::Handled;
 use connection::BYTES_AT;
 use connection::change::append;
@@ -10,6 +9,9 @@ use connection::change::set_skipping;
 use connection::check::State;
 use connection::check::read_state;
 use connection::gather::gather;
+use counters::Event;
+use counters::Increments;
+use counters::events::event_of;
 use judgement::Answered;
 use judgement::answer::answer_bad_start;
 use judgement::answer::answer_skipped;
@@ -20,24 +22,27 @@ use stream::frame::request_length;
 ghost use mathlib.Core.Path.{_≡_};
 ghost use mathlib.Core.List.{List, []};
 ghost use Prim.Native.Nat.{ℕ};
+ghost use Rattle.counters.specs.declared.Counters.{Counters};
 ghost use Rattle.connection.specs.Connection.{connectionOf};
 ghost use Rattle.connection.specs.State.{stateOf};
 ghost use Rattle.stream.specs.Rules.{opened};
 ghost use Rattle.service.specs.Called.{lentMemory};
 ghost use Rattle.service.specs.Served.{Ready, Carried, effectOf, skipEffect, SkipReady, headerAt, waited, finished, droppedAll};
-ghost use Rattle.service.specs.declared.Counters.{Counters};
 
 // `n` bytes are taken and bring no response.
 fn wait(n: usize) -> Handled
     ensures { λ r. ⌜ r ≡ waited n ⌝ }
 {
-    Handled {
-        code: Code::Taken,
+    let added = Increments {
         taken: n,
-        written: 0,
         answered: 0,
         dropped: 0,
         event: Event::NoRequest,
+    };
+    Handled {
+        code: Code::Taken,
+        written: 0,
+        added,
     }
 }
 
@@ -47,13 +52,16 @@ fn finish(n: usize, size: u64, a: Answered) -> Handled
 {
     let asker = a.asker;
     let status = a.status;
-    Handled {
-        code: Code::Taken,
+    let added = Increments {
         taken: n,
-        written: a.written,
         answered: size,
         dropped: 0,
-        event: Event::Request { asker, status },
+        event: event_of(asker, status),
+    };
+    Handled {
+        code: Code::Taken,
+        written: a.written,
+        added,
     }
 }
 
@@ -136,13 +144,16 @@ fn serve_held(
 fn drop_all(n: usize) -> Handled
     ensures { λ r. ⌜ r ≡ droppedAll n ⌝ }
 {
-    Handled {
-        code: Code::Taken,
+    let added = Increments {
         taken: n,
-        written: 0,
         answered: 0,
         dropped: n,
         event: Event::NoRequest,
+    };
+    Handled {
+        code: Code::Taken,
+        written: 0,
+        added,
     }
 }
 

@@ -41,9 +41,9 @@ use denote.Triple.Table.{entered, cited}
 use denote.Triple.Walked.{says, Stays, stay-dropped, gave-slice, walkOf, AllGo, goes-dropped, goes-gave-slice, Walks, ends-at, walked, walk-meets}
 use denote.Exit.{yes}
 use Rattle.service.specs.Called.{lentMemory}
-use Rattle.service.specs.declared.Counters.{Counters}
-use Rattle.service.proofs.Counters as T
-use Rattle.service.proofs.Counters.Laws as T′
+use Rattle.counters.specs.declared.Counters.{Counters}
+use Rattle.counters.proofs.Counters as T
+use Rattle.counters.proofs.Counters.Laws as T′
 use Rattle.billing.specs.Outcome.{BillOutcome, billOutcome}
 use Rattle.billing.specs.declared.Billed.{Billed}
 use Rattle.billing.proofs.Billed as B

@@ -40,9 +40,9 @@ use denote.Exit.{yes}
 use Rattle.stream.specs.Calls.{Call as LentCall}
 use Rattle.service.specs.Call.{Memory as CallMemory, callOutcome}
 use Rattle.service.specs.Called.{lentMemory, callWith, outcomeWith, CallContract}
-use Rattle.service.specs.declared.Counters.{Counters}
+use Rattle.counters.specs.declared.Counters.{Counters}
 use Rattle.service.specs.declared.CallAnswer.{CallAnswer}
-use Rattle.service.proofs.Counters as T
+use Rattle.counters.proofs.Counters as T
 use Rattle.service.proofs.CallAnswer as N
 use Rattle.service.proofs.CallAnswer.Laws as N′
 use Rattle.service.proofs.call.call as g

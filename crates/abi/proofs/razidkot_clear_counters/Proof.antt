@@ -34,14 +34,14 @@ use denote.Triple.Spec.{Meets, tripleOf}
 use denote.Triple.Statement.{Contract, Triple}
 use denote.Triple.Table.{entered, cited}
 use denote.Triple.Walked.{says, Stays, stay-ref, walkOf, AllGo, goes-ref, Walks, ends-at, walked, walk-meets}
-use Rattle.service.specs.declared.Counters.{Counters}
-use Rattle.service.proofs.Counters as T
-use Rattle.service.proofs.Counters.Laws as T′
-use Rattle.service.specs.Call.{zeroCounters}
-use Rattle.service.proofs.counting.zero_counters as g
-use Rattle.service.proofs.counting.zero_counters.Symbol as g-def
-use Rattle.service.proofs.counting.zero_counters.Symbol.{name as #zero-counters}
-use Rattle.service.proofs.counting.zero_counters.Met as g-thm
+use Rattle.counters.specs.declared.Counters.{Counters}
+use Rattle.counters.proofs.Counters as T
+use Rattle.counters.proofs.Counters.Laws as T′
+use Rattle.counters.specs.Counters.{zeroCounters}
+use Rattle.counters.proofs.counting.zero_counters as g
+use Rattle.counters.proofs.counting.zero_counters.Symbol as g-def
+use Rattle.counters.proofs.counting.zero_counters.Symbol.{name as #zero-counters}
+use Rattle.counters.proofs.counting.zero_counters.Met as g-thm
 use Rattle.abi.proofs.razidkot_clear_counters.Key.{name as #clear-counters}
 use Rattle.abi.proofs.razidkot_clear_counters as f
 use Rattle.abi.proofs.razidkot_clear_counters.Statement as stated
@@ -139,4 +139,4 @@ razidkot-clear-counters-spec 𝓤 H 𝓜 𝓖 𝓡 =
     entered 𝓤 H (tripleOf 𝓤 H (𝓖 .A) f.signature (f.spec 𝓤 H (𝓖 .A) (𝓜 .mem) (𝓡 .run)))
     (tables 𝓤 H 𝓜 𝓡 code.env .C) (tables 𝓤 H 𝓜 𝓡 code.env .Λ) #clear-counters code.function (code.unfolded 𝓤 H 𝓜 𝓡)
     (meets 𝓤 H (𝓖 .A) (givenOf 𝓤 H 𝓜 𝓖) (𝓜 .mem) (𝓡 .run) (tablesOf 𝓤 H 𝓜 (tables 𝓤 H 𝓜 𝓡 code.env))
-    (cited 𝓤 H (Zero 𝓤 H (𝓖 .A) (𝓜 .mem) (𝓡 .run)) 𝓜 𝓡 code.env #zero-counters g-def.routine code.calls-service·counting·zero-counters (g-thm.met 𝓤 H 𝓜 𝓖 𝓡)))
+    (cited 𝓤 H (Zero 𝓤 H (𝓖 .A) (𝓜 .mem) (𝓡 .run)) 𝓜 𝓡 code.env #zero-counters g-def.routine code.calls-counters·counting·zero-counters (g-thm.met 𝓤 H 𝓜 𝓖 𝓡)))

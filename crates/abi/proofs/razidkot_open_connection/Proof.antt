@@ -1,7 +1,6 @@
 -- `abi::razidkot_open_connection` meets its contract.
-use mathlib.Core.Path.{sym, ap, _∙_}
-use Rattle.connection.specs.Connection.{Opening}
-use Rattle.abi.specs.Numbers.{openedNumber}
+use mathlib.Core.Path.{ap}
+use Rattle.abi.specs.Numbers.{openedNumber, openedWith}
 use borrow.Author.Needs.{needs}
 use Rattle.abi.proofs.razidkot_open_connection.Statement.{statement}
 use Rattle.abi.proofs.razidkot_open_connection.Tie as tie
@@ -22,7 +21,7 @@ returns : tie.Need-returns
 unfolding openedNumber
 returns c =
     let opened = c .before .before .before .before in
-    (ap openedNumber (sym (c .enum-told .given .1) ∙ ap (λ (o : Opening). o .answer) (opened .open-connection .ensures)), ap (λ (o : Opening). o .memory) (opened .open-connection .ensures))
+    rw (← ap openedWith (opened .open-connection .ensures), c .enum-told .given .1)
 
 same-length-2 : tie.Need-same-length-2
 same-length-2 c = search needs
@@ -31,7 +30,7 @@ returns-2 : tie.Need-returns-2
 unfolding openedNumber
 returns-2 c =
     let opened = c .before .before .before .before in
-    (ap openedNumber (sym (c .enum-told2 .given .1) ∙ ap (λ (o : Opening). o .answer) (opened .open-connection .ensures)), ap (λ (o : Opening). o .memory) (opened .open-connection .ensures))
+    rw (← ap openedWith (opened .open-connection .ensures), c .enum-told2 .given .1)
 
 pub razidkot-open-connection-spec : {M : Type 1} → statement M
 razidkot-open-connection-spec =

@@ -6,7 +6,8 @@ use native.Mathlib.Omega.{arith}
 use borrow.Author.Needs.{needs}
 use lib.ListN.{length, take}
 use lib.Seq.{length-take-le}
-use Rattle.service.specs.Call.{chunkMost, counterMost}
+use Rattle.counters.specs.Counters.{counterMost}
+use Rattle.service.specs.Call.{chunkMost}
 use Rattle.service.specs.Called.{lentMemory}
 use Rattle.bill.specs.Stream.{turnsMost, After}
 use Rattle.bill.proofs.FeedLaws.{read-bytes, starts, follows, after-more, after-most}

@@ -52,7 +52,7 @@ returns-2 : tie.Need-returns-2
 returns-2 c =
     let load = c .before .before .before .before in
     subst (λ (x : Loaded). SourceOf (load .load-roster .last .1 .0) (sourceFor x)) (c .enum-told .given .1)
-    (source-of _ _ _ (load .load-roster .result) (c .before .before .before .before .before .before .before .before .before .before .before .before .before .before .before .pre) (load .load-roster .ensures .0) (load .load-roster .ensures .1))
+    (source-of _ _ (c .before .before .before .before .before .before .before .before .before .before .before .before .before .before .before .pre) _ (load .load-roster .ensures))
 
 same-length-2 : tie.Need-same-length-2
 same-length-2 c = search needs
@@ -61,7 +61,7 @@ returns-3 : tie.Need-returns-3
 returns-3 c =
     let load = c .before .before .before .before .before in
     subst (λ (x : Loaded). SourceOf (load .load-roster .last .1 .0) (sourceFor x)) (c .before .fault .given .1)
-    (source-of _ _ _ (load .load-roster .result) (c .before .before .before .before .before .before .before .before .before .before .before .before .before .before .before .before .pre) (load .load-roster .ensures .0) (load .load-roster .ensures .1))
+    (source-of _ _ (c .before .before .before .before .before .before .before .before .before .before .before .before .before .before .before .before .pre) _ (load .load-roster .ensures))
 
 pub read-roster-spec : {M : Type 1} → statement M
 read-roster-spec =

@@ -5,7 +5,7 @@ use borrow.Author.Needs.{needs}
 use Rattle.registry.specs.Registry.{lineCount}
 use Rattle.judgement.specs.Status.{refusedCount}
 use Rattle.service.specs.Text.{ascii}
-use Rattle.service.specs.Counters.{totalsOf}
+use Rattle.counters.specs.Counters.{totalsOf}
 use Rattle.service.specs.Call.{stateIn}
 use Rattle.service.specs.Bill.{billOf}
 use Rattle.billing.specs.Text.{countLineMost, applicationLineMost, refusedLineMost}

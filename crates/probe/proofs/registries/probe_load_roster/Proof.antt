@@ -1,5 +1,6 @@
 -- `probe::registries::probe_load_roster` meets its contract.
 use mathlib.Core.Path.{sym, ap, _∙_}
+use Rattle.registry.specs.Roster.{RosterOutcome}
 use Rattle.probe.specs.Answers.{loadedNumber}
 use borrow.Author.Needs.{needs}
 use Rattle.probe.proofs.registries.probe_load_roster.Statement.{statement}
@@ -26,7 +27,7 @@ same-length c = search needs
 returns : tie.Need-returns
 returns c =
     let loaded = c .before .before .before .before in
-    (ap loadedNumber (sym (c .enum-told .given .1) ∙ loaded .load-roster .ensures .0), loaded .load-roster .ensures .1)
+    (ap loadedNumber (sym (c .enum-told .given .1) ∙ ap (λ (o : RosterOutcome). o .answer) (loaded .load-roster .ensures)), ap (λ (o : RosterOutcome). o .registry) (loaded .load-roster .ensures))
 
 same-length-2 : tie.Need-same-length-2
 same-length-2 c = search needs
@@ -35,7 +36,7 @@ returns-2 : tie.Need-returns-2
 returns-2 c =
     let known = c .before .before in
     let loaded = known .before .before .before .before in
-    (c .fault-number .ensures ∙ ap loadedNumber (sym (known .fault .given .1) ∙ loaded .load-roster .ensures .0), loaded .load-roster .ensures .1)
+    (c .fault-number .ensures ∙ ap loadedNumber (sym (known .fault .given .1) ∙ ap (λ (o : RosterOutcome). o .answer) (loaded .load-roster .ensures)), ap (λ (o : RosterOutcome). o .registry) (loaded .load-roster .ensures))
 
 pub probe-load-roster-spec : {M : Type 1} → statement M
 probe-load-roster-spec =

@@ -1,26 +1,21 @@
 -- `registry::roster::load_roster` meets its contract.
-use mathlib.Core.Path.{_≡_, sym, ap, _∙_}
+use mathlib.Core.Path.{_≡_}
 use mathlib.Core.List.{List}
 use Prim.Native.Nat.{ℕ}
 use borrow.Author.Needs.{needs}
-use Rattle.registry.specs.Roster.{applications, rosterOf, RosterOutcome}
-use Rattle.registry.specs.Check.{loadedOf, namesAt}
+use borrow.Author.Tests.{eq-eqb, ne-eqb}
+use Rattle.registry.specs.Roster.{applications, rosterInto, rosterOf, loadRoster}
+use Rattle.registry.specs.Check.{namesAt}
 use Rattle.registry.proofs.RosterLaws.{roster-legal}
-use Rattle.registry.proofs.LoadLaws.{known-good, known-faulty, load-size, load-good, load-fault}
+use Rattle.registry.proofs.LoadLaws.{known-good, known-faulty}
 use Rattle.registry.proofs.roster.load_roster.Statement.{statement}
 use Rattle.registry.proofs.roster.load_roster.Tie as tie
 
 abbrev Checked : Type 0
 Checked = tie.After-check-roster
 
-abbrev start : Checked → tie.Start
-start c = c .before .before .before .before
-
 abbrev file : Checked → List ℕ
-file c = start c .args .file .now
-
-abbrev memory : Checked → List ℕ
-memory c = start c .args .registry .now
+file c = c .before .before .before .before .args .file .now
 
 abbrev checked : tie.After-enum-told → Checked
 checked c = c .before .before
@@ -33,11 +28,8 @@ unfolding names
 good c = known-good (file (checked c)) (checked c .check-roster .result) (checked c .check-roster .ensures) (c .enum-told .given .1)
 
 returns : tie.Need-returns
-unfolding loadedOf
-returns c =
-    let a = c .before .before .before .args in
-    let e = load-size (a .file .now) (a .registry .now) (c .if1 .taken) in
-    (sym (ap (λ (o : RosterOutcome). loadedOf (o .fault)) e), sym (ap (λ (o : RosterOutcome). o .registry) e))
+unfolding loadRoster rosterInto
+returns c = rw (ne-eqb _ _ (c .if1 .taken))
 
 check-roster-requires : tie.Need-check-roster-requires
 check-roster-requires c κs = search needs
@@ -59,22 +51,19 @@ same-length : tie.Need-same-length
 same-length c = search needs
 
 returns-2 : tie.Need-returns-2
-unfolding loadedOf names
+unfolding loadRoster rosterInto names
 returns-2 c =
     let w = c .before .before in
     let g = w .before .before .before in
-    let k = checked g in
-    let e = load-good (file k) (memory k) (k .before .if1 .left) (names g) (good g) in
-    (g .enum-told .given .1 ∙ sym (ap (λ (o : RosterOutcome). loadedOf (o .fault)) e), w .write-names .ensures ∙ sym (ap (λ (o : RosterOutcome). o .registry) e))
+    rw (g .enum-told .given .1, eq-eqb _ _ (checked g .before .if1 .left), good g, w .write-names .ensures)
 
 returns-3 : tie.Need-returns-3
-unfolding loadedOf
+unfolding loadRoster rosterInto
 returns-3 c =
     let k = c .before .before in
     let v = c .enum-told2 .given in
     let bad = known-faulty (file k) (k .check-roster .result) (k .check-roster .ensures) (v .0 .0) (v .1) in
-    let e = load-fault (file k) (memory k) (k .before .if1 .left) (v .0 .0) bad in
-    (v .1 ∙ sym (ap (λ (o : RosterOutcome). loadedOf (o .fault)) e), sym (ap (λ (o : RosterOutcome). o .registry) e))
+    rw (eq-eqb _ _ (k .before .if1 .left), bad, v .1)
 
 pub load-roster-spec : {M : Type 1} → statement M
 load-roster-spec =

@@ -2,7 +2,7 @@
 -- The borrow of the counters is opened, they are copied, and it is closed at the same value; `handle` is passed the copy and the
 -- four slices. Then `count` is handed the reference itself. Each reference goes at its own lifetime, share and name, so it is
 -- given up for good (`gave-slice`, `gave-ref`); `answer_of` makes what the call says.
-use mathlib.Core.Path.{_≡_, refl, sym, ap, subst}
+use mathlib.Core.Path.{_≡_, refl, sym, ap, subst, _∙_}
 use Prim.Native.Nat.{ℕ}
 use mathlib.Core.List.{[], _∷_, List}
 use lib.Dec.{T as Holds}
@@ -42,14 +42,17 @@ use denote.Triple.Table.{entered, cited}
 use denote.Triple.Walked.{says, Stays, stay-dropped, gave-ref, gave-slice, walkOf, AllGo, goes-dropped, goes-gave-ref, goes-gave-slice, Walks, ends-at, walked, walk-meets}
 use denote.Exit.{yes}
 use Rattle.stream.specs.Calls.{Call}
+use Rattle.counters.specs.Counted.{counted, Fits}
+use Rattle.counters.specs.declared.Counters.{Counters}
+use Rattle.counters.specs.declared.Increments.{Increments}
 use Rattle.service.specs.Call.{Memory as CallMemory}
 use Rattle.service.specs.Called.{lentMemory, callWith, answerOf, CallContract}
-use Rattle.service.specs.Counted.{counted, Fits}
-use Rattle.service.specs.declared.Counters.{Counters}
 use Rattle.service.specs.declared.Handled.{Handled}
 use Rattle.service.specs.declared.CallAnswer.{CallAnswer}
-use Rattle.service.proofs.Counters as T
-use Rattle.service.proofs.Counters.Laws as T′
+use Rattle.counters.proofs.Counters as T
+use Rattle.counters.proofs.Counters.Laws as T′
+use Rattle.counters.proofs.Increments as I
+use Rattle.counters.proofs.Increments.Laws as I′
 use Rattle.service.proofs.Handled as D
 use Rattle.service.proofs.Handled.Laws as D′
 use Rattle.service.proofs.CallAnswer as N
@@ -58,10 +61,14 @@ use Rattle.service.proofs.call.handle as g
 use Rattle.service.proofs.call.handle.Symbol as g-def
 use Rattle.service.proofs.call.handle.Symbol.{name as #handle}
 use Rattle.service.proofs.call.handle.Met as g-thm
-use Rattle.service.proofs.in_place.count as count-of
-use Rattle.service.proofs.in_place.count.Symbol as count-def
-use Rattle.service.proofs.in_place.count.Symbol.{name as #count}
-use Rattle.service.proofs.in_place.count.Met as count-thm
+use Rattle.counters.proofs.counting.count as count-of
+use Rattle.counters.proofs.counting.count.Symbol as count-def
+use Rattle.counters.proofs.counting.count.Symbol.{name as #count}
+use Rattle.counters.proofs.counting.count.Met as count-thm
+use Rattle.service.proofs.call.added_of as added-of
+use Rattle.service.proofs.call.added_of.Symbol as added-of-def
+use Rattle.service.proofs.call.added_of.Symbol.{name as #added-of}
+use Rattle.service.proofs.call.added_of.Met as added-of-thm
 use Rattle.service.proofs.call.answer_of as answer-of
 use Rattle.service.proofs.call.answer_of.Symbol as answer-of-def
 use Rattle.service.proofs.call.answer_of.Symbol.{name as #answer-of}
@@ -77,7 +84,7 @@ Bytes = RefT (List ℕ)
 abbrev stayed : Stays (f.ended .signature .params) (f.ended .kept)
 stayed = (stay-dropped (shrSliceOf (0 ∷ []) tt (plain (λ _. u8))) yes, (gave-slice (1 ∷ []) tt (plain (λ _. u8)), (gave-slice (2 ∷ []) tt (plain (λ _. u8)), (gave-ref (3 ∷ []) tt (plain (λ _. T.the-row)), (gave-slice (4 ∷ []) tt (plain (λ _. u8)), tt)))))
 
--- what is ensured, from what `handle`, `count` and `answer_of` ensure
+-- what is ensured, from what `handle`, `added_of`, `count` and `answer_of` ensure
 said : (s a : CallAnswer) (t u : Counters) (c d e : List ℕ) (m : CallMemory) (k : Call) → CallContract m k a (lentMemory c d u) e → t ≡ u → s ≡ a
     → CallContract m k s (lentMemory c d t) e
 said s a t u c d e m k p q v = rw (q, v) p
@@ -90,8 +97,15 @@ module _ {M : Type 1} (𝓤 : URA M) (H : Heap 𝓤) (A : Atoms 𝓤) (at-mem : 
   abbrev Count : Contract 𝓤
   Count = tripleOf 𝓤 H A count-of.signature (count-of.spec 𝓤 H A at-mem run)
 
+  abbrev AddedOf : Contract 𝓤
+  AddedOf = tripleOf 𝓤 H A added-of.signature (added-of.spec 𝓤 H A at-mem run)
+
   abbrev AnswerOf : Contract 𝓤
   AnswerOf = tripleOf 𝓤 H A answer-of.signature (answer-of.spec 𝓤 H A at-mem run)
+
+  added-said : (h : Handled) (g : Increments)
+      → ent 𝓤 (ensured 𝓤 H A added-of.ended (added-of.clauses 𝓤 H A at-mem run) tt (h, tt) tt g) (fact 𝓤 (g ≡ h .added))
+  added-said h g = exE 𝓤 _ (λ ws. snd∗ 𝓤 (sem 𝓤 H A (lasts added-of.ended tt (h, tt) ws)) (fact 𝓤 (g ≡ h .added)))
 
   answer-said : (h : Handled) (s : CallAnswer)
       → ent 𝓤 (ensured 𝓤 H A answer-of.ended (answer-of.clauses 𝓤 H A at-mem run) tt (h, tt) tt s) (fact 𝓤 (s ≡ answerOf h))
@@ -168,14 +182,20 @@ module _ {M : Type 1} (𝓤 : URA M) (H : Heap 𝓤) (A : Atoms 𝓤) (W : Given
   abbrev token : Item 𝓤
   token = ‵ (flft κ₃ q₃) ⊛ ‵ ftrue
 
-  abbrev handed : Handled → Val → Fml
-  handed h w = owns (MutRef (named 0) κ₃ T.the-row ∷ D.the-row ∷ []) (counters, (h, tt)) (vptr b o ∷ [], (w ∷ [], tt))
+  abbrev handed : Increments → Val → Fml
+  handed x w = owns (MutRef (named 0) κ₃ T.the-row ∷ I.the-row ∷ []) (counters, (x, tt)) (vptr b o ∷ [], (w ∷ [], tt))
 
-  abbrev to-count : Handled → Val → Count 𝓤 H A at-mem run .Ghost
-  to-count h w = (((κ₃, tt), (q₃, tt), tt, (counters, (h, tt)), (vptr b o ∷ [], (w ∷ [], tt))), tt)
+  abbrev to-count : Increments → Val → Count 𝓤 H A at-mem run .Ghost
+  to-count x w = (((κ₃, tt), (q₃, tt), tt, (counters, (x, tt)), (vptr b o ∷ [], (w ∷ [], tt))), tt)
 
-  goes-count : (h : Handled) (w : Val) → Fits cs h → ent 𝓤 (⋆ 𝓤 H A (token ∷ ‵ (handed h w) ∷ [])) (Count 𝓤 H A at-mem run .pre (to-count h w))
-  goes-count h w fits = qed W (token ∷ ‵ (handed h w) ∷ []) ∵ says ! fits $ done !
+  goes-count : (x : Increments) (w : Val) → Fits cs x → ent 𝓤 (⋆ 𝓤 H A (token ∷ ‵ (handed x w) ∷ [])) (Count 𝓤 H A at-mem run .pre (to-count x w))
+  goes-count x w fits = qed W (token ∷ ‵ (handed x w) ∷ []) ∵ says ! fits $ done !
+
+  abbrev to-added : Handled → Val → AddedOf 𝓤 H A at-mem run .Ghost
+  to-added h w = ((tt, tt, tt, (h, tt), (w ∷ [], tt)), tt)
+
+  goes-added : (h : Handled) (w : Val) → ent 𝓤 (sem 𝓤 H A (D.the-row .own h (w ∷ []))) (AddedOf 𝓤 H A at-mem run .pre (to-added h w))
+  goes-added h w = qed W (‵ (D.the-row .own h (w ∷ [])) ∷ []) ∵ nothing ! $ move ! (1 ∷ 0 ∷ []) $ join ! $ nothing ! $ join ! $ frame ! $ done !
 
   abbrev to-answer : Handled → Val → AnswerOf 𝓤 H A at-mem run .Ghost
   to-answer h w = ((tt, tt, tt, (h, tt), (w ∷ [], tt)), tt)
@@ -186,13 +206,13 @@ module _ {M : Type 1} (𝓤 : URA M) (H : Heap 𝓤) (A : Atoms 𝓤) (W : Given
   -- what `handle` ensures, at the last lists
   abbrev Ensured : Handled → List ℕ → List ℕ → List ℕ → Type 0
   Ensured h c d e = CallContract (lentMemory (connection .now) (registry .now) cs) (callWith (chunk .now) (response .now)) (answerOf h)
-      (lentMemory c d (counted cs h)) e × Fits cs h
+      (lentMemory c d (counted cs (h .added))) e × Fits cs (h .added)
 
   abbrev at-exit : CallAnswer → Counters → List ℕ → List ℕ → List ℕ → Val → List (Item 𝓤)
   at-exit s t c d e z = ‵ (N.the-row .own s (z ∷ [])) ∷ token ∷ ‵ (fres γ (T.the-row .coded .code t)) ∷ tokens ∷ ‵ (finally u8 (response .name) e)
       ∷ ‵ (finally u8 (registry .name) d) ∷ ‵ (finally u8 (connection .name) c) ∷ []
 
-  exits : (s : CallAnswer) (t : Counters) (h : Handled) (c d e : List ℕ) (z : Val) → Ensured h c d e → t ≡ counted cs h → s ≡ answerOf h
+  exits : (s : CallAnswer) (t : Counters) (h : Handled) (c d e : List ℕ) (z : Val) → Ensured h c d e → t ≡ counted cs (h .added) → s ≡ answerOf h
       → length c ≡ length (connection .now) → length d ≡ length (registry .now) → length e ≡ length (response .now)
       → ent 𝓤 (⋆ 𝓤 H A (at-exit s t c d e z)) (Post z)
   exits s t h c d e z p q u lc ld le =
@@ -208,7 +228,7 @@ module _ {M : Type 1} (𝓤 : URA M) (H : Heap 𝓤) (A : Atoms 𝓤) (W : Given
       nothing ! $ fjoin ! $ done !
 
   module _ (C : Calls 𝓤 H) (Λ : Loops 𝓤 H) (fm : FmC 𝓤 H (W .laws) C) (known : Triple 𝓤 (C #handle) (Handle 𝓤 H A at-mem run))
-      (known-c : Triple 𝓤 (C #count) (Count 𝓤 H A at-mem run)) (known-a : Triple 𝓤 (C #answer-of) (AnswerOf 𝓤 H A at-mem run)) where
+      (known-d : Triple 𝓤 (C #added-of) (AddedOf 𝓤 H A at-mem run)) (known-c : Triple 𝓤 (C #count) (Count 𝓤 H A at-mem run)) (known-a : Triple 𝓤 (C #answer-of) (AnswerOf 𝓤 H A at-mem run)) where
     walk : Is (ShrSlice (named 0) κ₀ u8) chunk (sv chunk ∷ []) → Is (MutSlice (named 1) κ₁ u8) connection (sv connection ∷ [])
         → Is (MutSlice (named 2) κ₂ u8) registry (sv registry ∷ []) → Is (MutSlice (named 4) κ₄ u8) response (sv response ∷ [])
         → ent 𝓤 (onEntry 𝓤 H A f.signature κs qs x at) (WpFn 𝓤 H C Λ code.function (sv chunk ∷ sv connection ∷ sv registry ∷ vptr b o ∷ sv response
@@ -218,48 +238,48 @@ module _ {M : Type 1} (𝓤 : URA M) (H : Heap 𝓤) (A : Atoms 𝓤) (W : Given
         ∷ MutSlice (named 1) κ₁ u8 ∷ MutSlice (named 2) κ₂ u8 ∷ MutRef (named 3) κ₃ T.the-row ∷ MutSlice (named 4) κ₄ u8 ∷ []) x at) ∷ []) ∵
         enter ! C Λ code.function (sv chunk ∷ sv connection ∷ sv registry ∷ vptr b o ∷ sv response ∷ []) _ $
         alloc1 ! (λ l₀. alloc1 ! (λ l₁. alloc1 ! (λ l₂. alloc1 ! (λ l₃. alloc1 ! (λ l₄. alloc1 ! (λ l₅. alloc1 ! (λ l₆. alloc1 ! (λ l₇. alloc1 !
-        (λ l₈. alloc1 ! (λ l₉. alloc1 ! (λ l₁₀. alloc1 ! (λ l₁₁. alloc1 ! (λ l₁₂. alloc1 ! (λ l₁₃. alloc1 ! (λ l₁₄. alloc1 ! (λ l₁₅. alloc0 ! $
+        (λ l₈. alloc1 ! (λ l₉. alloc1 ! (λ l₁₀. alloc1 ! (λ l₁₁. alloc1 ! (λ l₁₂. alloc1 ! (λ l₁₃. alloc1 ! (λ l₁₄. alloc1 ! (λ l₁₅. alloc1 ! (λ l₁₆. alloc0 ! $
         params1 ! $
-        pass1 ! (init ! 28 refl (shr-slice-lawful 𝓤 H A W (named 0) κ₀ u8 .typed chunk _ is-chunk .0)) $
-        pass1 ! (init ! 26 refl (mut-slice-lawful 𝓤 H A W (named 1) κ₁ u8 .typed connection _ is-connection .0)) $
-        pass1 ! (init ! 24 refl (mut-slice-lawful 𝓤 H A W (named 2) κ₂ u8 .typed registry _ is-registry .0)) $
-        pass1 ! (init ! 22 refl (tt, tt)) $ pass1 ! (init ! 20 refl (mut-slice-lawful 𝓤 H A W (named 4) κ₄ u8 .typed response _ is-response .0)) $
+        pass1 ! (init ! 30 refl (shr-slice-lawful 𝓤 H A W (named 0) κ₀ u8 .typed chunk _ is-chunk .0)) $
+        pass1 ! (init ! 28 refl (mut-slice-lawful 𝓤 H A W (named 1) κ₁ u8 .typed connection _ is-connection .0)) $
+        pass1 ! (init ! 26 refl (mut-slice-lawful 𝓤 H A W (named 2) κ₂ u8 .typed registry _ is-registry .0)) $
+        pass1 ! (init ! 24 refl (tt, tt)) $ pass1 ! (init ! 22 refl (mut-slice-lawful 𝓤 H A W (named 4) κ₄ u8 .typed response _ is-response .0)) $
         pass0 ! $
         -- what the parameters own is taken apart, and the tokens
-        move ! (33 ∷ []) $ fsplit ! $ move ! (1 ∷ []) $ fsplit ! $ move ! (1 ∷ []) $ fsplit ! $ move ! (1 ∷ []) $ fsplit ! $ move ! (1 ∷ []) $
+        move ! (35 ∷ []) $ fsplit ! $ move ! (1 ∷ []) $ fsplit ! $ move ! (1 ∷ []) $ fsplit ! $ move ! (1 ∷ []) $ fsplit ! $ move ! (1 ∷ []) $
         fsplit ! $ move ! (2 ∷ []) $ fsplit3 ! $ drop ! $
-        move ! (39 ∷ []) $ split ! $ move ! (1 ∷ []) $ split ! $ move ! (1 ∷ []) $ split ! $ move ! (1 ∷ []) $ split ! $ move ! (1 ∷ []) $ split ! $
+        move ! (41 ∷ []) $ split ! $ move ! (1 ∷ []) $ split ! $ move ! (1 ∷ []) $ split ! $ move ! (1 ∷ []) $ split ! $ move ! (1 ∷ []) $ split ! $
         move ! (6 ∷ 7 ∷ 2 ∷ []) $ opens ! tt T.the-row {h = cs} b o (λ vs. spelt ! T.the-row (Is T.the-row) (shows 𝓤 H A T.the-row)
         (LL.vals T.the-type T′.the-laws) (LL.tells T.the-type T′.the-laws) fullShare cs vs b o $
         move ! (1 ∷ []) $ peeks ! T.the-row (Is T.the-row) (shows 𝓤 H A T.the-row) cs (v ∷ []) (λ was. move ! (1 ∷ 0 ∷ []) $
-        -- [the counters' cell; what they own; the open borrow; obs; auth; token 4; true; token 2; token 1; token 0; response; true; registry; connection; chunk; _15; …; _14; …; …]
-        assigns ! (addr ! (from ! (fld ! refl (hop ! (look-in ! 41 (sub ! 0 refl (whole !))) (stop !))))) (from ! (stop !)) (init ! 31 refl
+        -- [the counters' cell; what they own; the open borrow; obs; auth; token 4; true; token 2; token 1; token 0; response; true; registry; connection; chunk; _16; …; _15; …; …]
+        assigns ! (addr ! (from ! (fld ! refl (hop ! (look-in ! 43 (sub ! 0 refl (whole !))) (stop !))))) (from ! (stop !)) (init ! 33 refl
         (tt, tt)) $
-        assigns ! (agg ! (and-then ! (load ! (from ! (stop !)) (look ! 31 refl)) (and-then ! (load ! (from ! (fld ! refl (stop !))) (look-in ! 41
-        (sub ! 1 refl (whole !)))) (no-more !)))) (from ! (stop !)) (init ! 29 refl
+        assigns ! (agg ! (and-then ! (load ! (from ! (stop !)) (look ! 33 refl)) (and-then ! (load ! (from ! (fld ! refl (stop !))) (look-in ! 43
+        (sub ! 1 refl (whole !)))) (no-more !)))) (from ! (stop !)) (init ! 31 refl
         (mut-slice-lawful 𝓤 H A W erased κ₁ u8 .typed connection _ is-connection .0)) $
-        assigns ! (addr ! (from ! (fld ! refl (hop ! (look-in ! 39 (sub ! 0 refl (whole !))) (stop !))))) (from ! (stop !)) (init ! 27 refl
+        assigns ! (addr ! (from ! (fld ! refl (hop ! (look-in ! 41 (sub ! 0 refl (whole !))) (stop !))))) (from ! (stop !)) (init ! 29 refl
         (tt, tt)) $
-        assigns ! (agg ! (and-then ! (load ! (from ! (stop !)) (look ! 27 refl)) (and-then ! (load ! (from ! (fld ! refl (stop !))) (look-in ! 39
-        (sub ! 1 refl (whole !)))) (no-more !)))) (from ! (stop !)) (init ! 25 refl
+        assigns ! (agg ! (and-then ! (load ! (from ! (stop !)) (look ! 29 refl)) (and-then ! (load ! (from ! (fld ! refl (stop !))) (look-in ! 41
+        (sub ! 1 refl (whole !)))) (no-more !)))) (from ! (stop !)) (init ! 27 refl
         (mut-slice-lawful 𝓤 H A W erased κ₂ u8 .typed registry _ is-registry .0)) $
-        assigns ! (of-opd ! (load ! (from ! (hop ! (look ! 37 refl) (stop !))) (look-raw ! 0 refl))) (from ! (stop !)) (init ! 23 refl
+        assigns ! (of-opd ! (load ! (from ! (hop ! (look ! 39 refl) (stop !))) (look-raw ! 0 refl))) (from ! (stop !)) (init ! 25 refl
         (LL.lawful T.the-type T′.the-laws 𝓤 H A W .typed cs _ was .0)) $
-        assigns ! (addr ! (from ! (fld ! refl (hop ! (look-in ! 35 (sub ! 0 refl (whole !))) (stop !))))) (from ! (stop !)) (init ! 21 refl
+        assigns ! (addr ! (from ! (fld ! refl (hop ! (look-in ! 37 (sub ! 0 refl (whole !))) (stop !))))) (from ! (stop !)) (init ! 23 refl
         (tt, tt)) $
-        assigns ! (agg ! (and-then ! (load ! (from ! (stop !)) (look ! 21 refl)) (and-then ! (load ! (from ! (fld ! refl (stop !))) (look-in ! 35
-        (sub ! 1 refl (whole !)))) (no-more !)))) (from ! (stop !)) (init ! 19 refl
+        assigns ! (agg ! (and-then ! (load ! (from ! (stop !)) (look ! 23 refl)) (and-then ! (load ! (from ! (fld ! refl (stop !))) (look-in ! 37
+        (sub ! 1 refl (whole !)))) (no-more !)))) (from ! (stop !)) (init ! 21 refl
         (mut-slice-lawful 𝓤 H A W erased κ₄ u8 .typed response _ is-response .0)) $
         closes ! tt T.the-row cs (v ∷ []) b o $ owned ! T.the-row (Is T.the-row) (LL.makes T.the-type T′.the-plain 𝓤 H A) cs _ was $
-        -- [what the copy owns; obs; the borrow; token 3; token 4; true; token 2; token 1; token 0; response; true; registry; connection; chunk; _15; …]
+        -- [what the copy owns; obs; the borrow; token 3; token 4; true; token 2; token 1; token 0; response; true; registry; connection; chunk; _16; …]
         move ! (4 ∷ 5 ∷ []) $ join ! $ move ! (5 ∷ 0 ∷ []) $ join ! $ move ! (5 ∷ 0 ∷ []) $ join ! $ move ! (5 ∷ 0 ∷ []) $ join ! $
         move ! (5 ∷ 6 ∷ []) $ fjoin ! $ move ! (2 ∷ 0 ∷ []) $ fjoin ! $ move ! (5 ∷ 0 ∷ []) $ fjoin ! $ move ! (5 ∷ 0 ∷ []) $ fjoin ! $
         move ! (5 ∷ 0 ∷ []) $ fjoin ! $ move ! (1 ∷ 0 ∷ []) $
         use2 W (raw (Handle 𝓤 H A at-mem run .pre to-handle)) goes-handle $
-        -- [what `handle` asks; obs; the borrow; token 3; _15; …]
-        calls-at ! fm (Handle 𝓤 H A at-mem run) known to-handle (and-then ! (load ! (from ! (stop !)) (look ! 32 refl)) (and-then ! (load !
-        (from ! (stop !)) (look ! 18 refl)) (and-then ! (load ! (from ! (stop !)) (look ! 14 refl)) (and-then ! (load ! (from ! (stop !))
-        (look ! 12 refl)) (and-then ! (load ! (from ! (stop !)) (look ! 8 refl)) (no-more !)))))) (λ w.
+        -- [what `handle` asks; obs; the borrow; token 3; _16; …]
+        calls-at ! fm (Handle 𝓤 H A at-mem run) known to-handle (and-then ! (load ! (from ! (stop !)) (look ! 34 refl)) (and-then ! (load !
+        (from ! (stop !)) (look ! 20 refl)) (and-then ! (load ! (from ! (stop !)) (look ! 16 refl)) (and-then ! (load ! (from ! (stop !))
+        (look ! 14 refl)) (and-then ! (load ! (from ! (stop !)) (look ! 10 refl)) (no-more !)))))) (λ w.
         use1 W (later (some (λ (h : Handled). (tokens ⊛ ‵ (D.the-row .own h (w
         ∷ []))) ⊛ raw (ensured 𝓤 H A g.ended (g.clauses 𝓤 H A at-mem run) κs₄ y tt h)))) (id⊢ 𝓤 _) $ await ! tt $ pick ! (λ h.
         split ! $ move ! (1 ∷ []) $ use1 W (some (λ (zs : Unit {0} × (List ℕ × (List ℕ × (Unit {0} × (List ℕ × Unit {0}))))). ‵
@@ -269,69 +289,79 @@ module _ {M : Type 1} (𝓤 : URA M) (H : Heap 𝓤) (A : Atoms 𝓤) (W : Given
         fsplit ! $ drop ! $ fsplit ! $ fsplit ! $ move ! (1 ∷ []) $ feqL ! (λ lc. move ! (1 ∷ []) $ fsplit ! $ fsplit ! $ move ! (1 ∷ []) $
         feqL ! (λ ld. move ! (1 ∷ []) $ fsplit ! $ drop ! $ fsplit ! $ fsplit ! $ move ! (1 ∷ []) $ feqL ! (λ le. move ! (1 ∷ []) $ drop ! $
         move ! (3 ∷ []) $ split ! $ move ! (1 ∷ []) $
-        -- [what is handled; the tokens of `handle`; response's last list; registry's; connection's; obs; the borrow; token 3; _15; …]
+        -- [what is handled; the tokens of `handle`; response's last list; registry's; connection's; obs; the borrow; token 3; _16; …]
         peeks ! D.the-row (Is D.the-row) (shows 𝓤 H A D.the-row) h (w ∷ []) (λ is.
-        land ! (from ! (stop !)) (init ! 26 refl (LL.lawful D.the-type D′.the-laws 𝓤 H A W .typed h _ is .0)) $
-        assigns ! (addr ! (from ! (hop ! (look ! 30 refl) (stop !)))) (from ! (stop !)) (init ! 8 refl (tt, tt)) $
+        land ! (from ! (stop !)) (init ! 28 refl (LL.lawful D.the-type D′.the-laws 𝓤 H A W .typed h _ is .0)) $
+        assigns ! (addr ! (from ! (hop ! (look ! 32 refl) (stop !)))) (from ! (stop !)) (init ! 10 refl (tt, tt)) $
+        -- what `added_of` asks
+        use1 W (raw (AddedOf 𝓤 H A at-mem run .pre (to-added h w))) (goes-added h w) $
+        calls-at ! fm (AddedOf 𝓤 H A at-mem run) known-d (to-added h w) (and-then ! (load ! (from ! (stop !)) (look ! 28 refl)) (no-more !)) (λ y₀.
+        use1 W (later (some (λ (x₀ : Increments). (‵ ftrue ⊛ ‵ (I.the-row .own x₀ (y₀
+        ∷ []))) ⊛ raw (ensured 𝓤 H A added-of.ended (added-of.clauses 𝓤 H A at-mem run) tt (h, tt) tt x₀)))) (id⊢ 𝓤 _) $ await ! tt $ pick ! (λ x₀.
+        split ! $ move ! (1 ∷ []) $ use1 W (raw (fact 𝓤 (x₀ ≡ h .added))) (added-said 𝓤 H A at-mem run h x₀) $
+        heard ! (x₀ ≡ h .added) (λ e₀. split ! $ drop ! $
+        -- [what is added; the tokens of `handle`; response's last list; registry's; connection's; obs; the borrow; token 3; _16; …]
+        peeks ! I.the-row (Is I.the-row) (shows 𝓤 H A I.the-row) x₀ (y₀ ∷ []) (λ is₀.
+        land ! (from ! (stop !)) (init ! 8 refl (LL.lawful I.the-type I′.the-laws 𝓤 H A W .typed x₀ _ is₀ .0)) $
         -- what `count` asks
         nothing ! $ move ! (1 ∷ 0 ∷ []) $ fjoin ! $ move ! (5 ∷ 6 ∷ 0 ∷ []) $ feqI ! (List Val) (vptr b o ∷ []) (vptr b o ∷ []) refl $ fjoin3 ! $
         fjoin ! $ nothing ! $ move ! (6 ∷ 0 ∷ []) $ join ! $
-        use2 W (raw (Count 𝓤 H A at-mem run .pre (to-count h w))) (goes-count h w (e .1)) $
-        -- [what `count` asks; the tokens of `handle`; response's last list; registry's; connection's; _15; …]
-        calls-at ! fm (Count 𝓤 H A at-mem run) known-c (to-count h w) (and-then ! (load ! (from ! (stop !)) (look ! 5 refl)) (and-then ! (load !
-        (from ! (stop !)) (look ! 23 refl)) (no-more !))) (λ u.
+        use2 W (raw (Count 𝓤 H A at-mem run .pre (to-count x₀ y₀))) (goes-count x₀ y₀ (subst (λ (z₀ : Increments). Fits cs z₀) (sym e₀) (e .1))) $
+        -- [what `count` asks; the tokens of `handle`; response's last list; registry's; connection's; _16; …]
+        calls-at ! fm (Count 𝓤 H A at-mem run) known-c (to-count x₀ y₀) (and-then ! (load ! (from ! (stop !)) (look ! 7 refl)) (and-then ! (load !
+        (from ! (stop !)) (look ! 5 refl)) (no-more !))) (λ u.
         use1 W (later (some (λ (n : Unit {0}). (token ⊛ ‵ (unit .own n (u
-        ∷ []))) ⊛ raw (ensured 𝓤 H A count-of.ended (count-of.clauses 𝓤 H A at-mem run) (κ₃, tt) (counters, (h, tt)) tt n)))) (id⊢ 𝓤 _) $ await ! tt $
+        ∷ []))) ⊛ raw (ensured 𝓤 H A count-of.ended (count-of.clauses 𝓤 H A at-mem run) (κ₃, tt) (counters, (x₀, tt)) tt n)))) (id⊢ 𝓤 _) $ await ! tt $
         pick ! (λ n.
         split ! $ move ! (1 ∷ []) $ use1 W (some (λ (ts : Counters × (Unit {0} × Unit {0})). ‵
-        (lasts count-of.ended (κ₃, tt) (counters, (h, tt)) ts) ⊛ raw (fact 𝓤 (ts .0 ≡ counted cs h)))) (id⊢ 𝓤 _) $ pick ! (λ ts.
-        split ! $ move ! (1 ∷ []) $ heard ! (ts .0 ≡ counted cs h) (λ e₁. fsplit ! $ move ! (1 ∷ []) $ drop ! $
+        (lasts count-of.ended (κ₃, tt) (counters, (x₀, tt)) ts) ⊛ raw (fact 𝓤 (ts .0 ≡ counted cs x₀)))) (id⊢ 𝓤 _) $ pick ! (λ ts.
+        split ! $ move ! (1 ∷ []) $ heard ! (ts .0 ≡ counted cs x₀) (λ e₁. fsplit ! $ move ! (1 ∷ []) $ drop ! $
         move ! (1 ∷ []) $ split ! $ move ! (1 ∷ []) $ feqL ! (λ eu.
-        -- [the token of `count`; the last counters; the tokens of `handle`; response's last list; registry's; connection's; _15; …]
-        land ! (from ! (stop !)) (init ! 8 refl (subst (λ (i : Val). Holds (hasTy tyUnit i) × WT i) (sym (ap only eu)) (tt, tt))) $
+        -- [the token of `count`; the last counters; the tokens of `handle`; response's last list; registry's; connection's; _16; …]
+        land ! (from ! (stop !)) (init ! 10 refl (subst (λ (i : Val). Holds (hasTy tyUnit i) × WT i) (sym (ap only eu)) (tt, tt))) $
         owned ! D.the-row (Is D.the-row) (LL.makes D.the-type D′.the-plain 𝓤 H A) h _ is $
         use1 W (raw (AnswerOf 𝓤 H A at-mem run .pre (to-answer h w))) (goes-answer h w) $
-        calls-at ! fm (AnswerOf 𝓤 H A at-mem run) known-a (to-answer h w) (and-then ! (load ! (from ! (stop !)) (look ! 25 refl)) (no-more !)) (λ z.
+        calls-at ! fm (AnswerOf 𝓤 H A at-mem run) known-a (to-answer h w) (and-then ! (load ! (from ! (stop !)) (look ! 27 refl)) (no-more !)) (λ z.
         use1 W (later (some (λ (s : CallAnswer). (‵ ftrue ⊛ ‵ (N.the-row .own s (z
         ∷ []))) ⊛ raw (ensured 𝓤 H A answer-of.ended (answer-of.clauses 𝓤 H A at-mem run) tt (h, tt) tt s)))) (id⊢ 𝓤 _) $ await ! tt $ pick ! (λ s.
         split ! $ move ! (1 ∷ []) $ use1 W (raw (fact 𝓤 (s ≡ answerOf h))) (answer-said 𝓤 H A at-mem run h s) $
         heard ! (s ≡ answerOf h) (λ e₂. split ! $ drop ! $
-        -- [what the call says; the token of `count`; the last counters; the tokens of `handle`; response's last list; registry's; connection's; _15; …]
+        -- [what the call says; the token of `count`; the last counters; the tokens of `handle`; response's last list; registry's; connection's; _16; …]
         peeks ! N.the-row (Is N.the-row) (shows 𝓤 H A N.the-row) s (z ∷ []) (λ is₁.
-        land ! (from ! (stop !)) (init ! 37 refl (LL.lawful N.the-type N′.the-laws 𝓤 H A W .typed s _ is₁ .0)) $
-        returns ! (look ! 37 refl) $ forget ! 7 refl $ forget ! 9 refl $ forget ! 11 refl $ forget ! 13 refl $ forget ! 15 refl $ forget ! 17 refl $
+        land ! (from ! (stop !)) (init ! 39 refl (LL.lawful N.the-type N′.the-laws 𝓤 H A W .typed s _ is₁ .0)) $
+        returns ! (look ! 39 refl) $ forget ! 7 refl $ forget ! 9 refl $ forget ! 11 refl $ forget ! 13 refl $ forget ! 15 refl $ forget ! 17 refl $
         forget ! 19 refl $ forget ! 21 refl $ forget ! 23 refl $ forget ! 25 refl $ forget ! 27 refl $ forget ! 29 refl $ forget ! 31 refl $
-        forget ! 33 refl $ forget ! 35 refl $ forget ! 37 refl $
-        move ! (37 ∷ 38 ∷ []) $ free1 ! $ move ! (35 ∷ 36 ∷ []) $ free1 ! $ move ! (33 ∷ 34 ∷ []) $ free1 ! $ move ! (31 ∷ 32 ∷ []) $ free1 ! $
+        forget ! 33 refl $ forget ! 35 refl $ forget ! 37 refl $ forget ! 39 refl $
+        move ! (39 ∷ 40 ∷ []) $ free1 ! $ move ! (37 ∷ 38 ∷ []) $ free1 ! $ move ! (35 ∷ 36 ∷ []) $ free1 ! $ move ! (33 ∷ 34 ∷ []) $ free1 ! $ move ! (31 ∷ 32 ∷ []) $ free1 ! $
         move ! (29 ∷ 30 ∷ []) $ free1 ! $ move ! (27 ∷ 28 ∷ []) $ free1 ! $ move ! (25 ∷ 26 ∷ []) $ free1 ! $ move ! (23 ∷ 24 ∷ []) $ free1 ! $
         move ! (21 ∷ 22 ∷ []) $ free1 ! $ move ! (19 ∷ 20 ∷ []) $ free1 ! $ move ! (17 ∷ 18 ∷ []) $ free1 ! $ move ! (15 ∷ 16 ∷ []) $ free1 ! $
         move ! (13 ∷ 14 ∷ []) $ free1 ! $ move ! (11 ∷ 12 ∷ []) $ free1 ! $ move ! (9 ∷ 10 ∷ []) $ free1 ! $ move ! (7 ∷ 8 ∷ []) $ free1 ! $
         free0 ! $
         keep ! (0 ∷ 1 ∷ 2 ∷ 3 ∷ 4 ∷ 5 ∷ 6 ∷ []) $
-        by ! (exits s (ts .0) h (zs .1 .0) (zs .1 .1 .0) (zs .1 .1 .1 .1 .0) z e e₁ e₂ lc ld le))))))))))))))))))))))))))))))))))))
+        by ! (exits s (ts .0) h (zs .1 .0) (zs .1 .1 .0) (zs .1 .1 .1 .1 .0) z e (e₁ ∙ ap (counted cs) e₀) e₂ lc ld le)))))))))))))))))))))))))))))))))))))))))
 
 module _ {M : Type 1} (𝓤 : URA M) (H : Heap 𝓤) (A : Atoms 𝓤) (W : Given 𝓤 H A) (at-mem : Memory → SProp 𝓤) (run : Routine → Fun 𝓤) where
   walks : (C : Calls 𝓤 H) (Λ : Loops 𝓤 H) → FmC 𝓤 H (W .laws) C → Triple 𝓤 (C #handle) (Handle 𝓤 H A at-mem run)
-      → Triple 𝓤 (C #count) (Count 𝓤 H A at-mem run) → Triple 𝓤 (C #answer-of) (AnswerOf 𝓤 H A at-mem run)
+      → Triple 𝓤 (C #added-of) (AddedOf 𝓤 H A at-mem run) → Triple 𝓤 (C #count) (Count 𝓤 H A at-mem run) → Triple 𝓤 (C #answer-of) (AnswerOf 𝓤 H A at-mem run)
       → Walks 𝓤 H A f.ended stayed (WpFn 𝓤 H C Λ code.function) (f.clauses 𝓤 H A at-mem run)
-  walks C Λ fm known known-c known-a = walked 𝓤 H A f.ended stayed (f.clauses 𝓤 H A at-mem run) (WpFn 𝓤 H C Λ code.function) (λ κs.
+  walks C Λ fm known known-d known-c known-a = walked 𝓤 H A f.ended stayed (f.clauses 𝓤 H A at-mem run) (WpFn 𝓤 H C Λ code.function) (λ κs.
       (slice-vals, (slice-vals, (slice-vals, (ptr-vals, (slice-vals, tt))))))
       (λ κs. (shr-slice-tells (named 0) (κs .0) u8, (mut-slice-tells (named 1) (κs .1 .0) u8, (mut-slice-tells (named 2) (κs .1 .1 .0) u8, (mut-tells (named 3) (κs .1 .1 .1 .0) T.the-row, (mut-slice-tells (named 4) (κs .1 .1 .1 .1 .0) u8, tt))))))
       (λ κs qs bounds a _ are. via 𝓤 _ (fst∗ 𝓤 _ (emp 𝓤)) (walk 𝓤 H A W at-mem run (κs .0) (κs .1 .0) (κs .1 .1 .0) (κs .1 .1 .1 .0)
       (κs .1 .1 .1 .1 .0) (qs .0) (qs .1 .0) (qs .1 .1 .0) (qs .1 .1 .1 .0) (qs .1 .1 .1 .1 .0)
       (a .0) (a .1 .0) (a .1 .1 .0) (a .1 .1 .1 .0 .ptr .0) (a .1 .1 .1 .0 .ptr .1) (a .1 .1 .1 .0 .name) (a .1 .1 .1 .0 .now)
-      (a .1 .1 .1 .1 .0) C Λ fm known known-c known-a (are .0) (are .1 .0) (are .1 .1 .0) (are .1 .1 .1 .1 .0)))
+      (a .1 .1 .1 .1 .0) C Λ fm known known-d known-c known-a (are .0) (are .1 .0) (are .1 .1 .0) (are .1 .1 .1 .1 .0)))
 
   goes : AllGo 𝓤 H A W 5 (f.signature .params) (f.ended .kept) stayed
   goes = (goes-dropped 𝓤 H A W 5 (shrSliceOf (0 ∷ []) tt (plain (λ _. u8))) yes (λ κs x f. refl), (goes-gave-slice 𝓤 H A W 5 1 tt (plain (λ _. u8)), (goes-gave-slice 𝓤 H A W 5 2 tt (plain (λ _. u8)), (goes-gave-ref 𝓤 H A W 5 3 tt (plain (λ _. T.the-row)), (goes-gave-slice 𝓤 H A W 5 4 tt (plain (λ _. u8)), tt)))))
 
 meets : {M : Type 1} (𝓤 : URA M) (H : Heap 𝓤) (A : Atoms 𝓤) → Given 𝓤 H A → (at-mem : Memory → SProp 𝓤) (run : Routine → Fun 𝓤) (𝓣 : Tables 𝓤 H)
-    → Triple 𝓤 (𝓣 .C #handle) (Handle 𝓤 H A at-mem run) → Triple 𝓤 (𝓣 .C #count) (Count 𝓤 H A at-mem run)
+    → Triple 𝓤 (𝓣 .C #handle) (Handle 𝓤 H A at-mem run) → Triple 𝓤 (𝓣 .C #added-of) (AddedOf 𝓤 H A at-mem run) → Triple 𝓤 (𝓣 .C #count) (Count 𝓤 H A at-mem run)
     → Triple 𝓤 (𝓣 .C #answer-of) (AnswerOf 𝓤 H A at-mem run)
     → Meets 𝓤 H A f.signature (WpFn 𝓤 H (𝓣 .C) (𝓣 .Λ) code.function) (f.spec 𝓤 H A at-mem run)
-meets 𝓤 H A W at-mem run 𝓣 known known-c known-a = walk-meets 𝓤 H A f.ended stayed W (goes 𝓤 H A W at-mem run) (f.clauses 𝓤 H A at-mem run) (WpFn 𝓤 H
+meets 𝓤 H A W at-mem run 𝓣 known known-d known-c known-a = walk-meets 𝓤 H A f.ended stayed W (goes 𝓤 H A W at-mem run) (f.clauses 𝓤 H A at-mem run) (WpFn 𝓤 H
     (𝓣 .C) (𝓣 .Λ) code.function) (WpFn-mono 𝓤 H (W .laws) 𝓣 code.function)
-    (walks 𝓤 H A W at-mem run (𝓣 .C) (𝓣 .Λ) (fmOf 𝓤 H (W .laws) 𝓣) known known-c known-a)
+    (walks 𝓤 H A W at-mem run (𝓣 .C) (𝓣 .Λ) (fmOf 𝓤 H (W .laws) 𝓣) known known-d known-c known-a)
 
 pub call-spec : {M : Type 1} → stated.statement M
 unfolding code.routine tablesOf
@@ -340,7 +370,9 @@ call-spec 𝓤 H 𝓜 𝓖 𝓡 =
     (tables 𝓤 H 𝓜 𝓡 code.env .C) (tables 𝓤 H 𝓜 𝓡 code.env .Λ) #call code.function (code.unfolded 𝓤 H 𝓜 𝓡)
     (meets 𝓤 H (𝓖 .A) (givenOf 𝓤 H 𝓜 𝓖) (𝓜 .mem) (𝓡 .run) (tablesOf 𝓤 H 𝓜 (tables 𝓤 H 𝓜 𝓡 code.env))
     (cited 𝓤 H (Handle 𝓤 H (𝓖 .A) (𝓜 .mem) (𝓡 .run)) 𝓜 𝓡 code.env #handle g-def.routine code.calls-service·call·handle (g-thm.met 𝓤 H 𝓜 𝓖 𝓡))
-    (cited 𝓤 H (Count 𝓤 H (𝓖 .A) (𝓜 .mem) (𝓡 .run)) 𝓜 𝓡 code.env #count count-def.routine code.calls-service·in-place·count
+    (cited 𝓤 H (AddedOf 𝓤 H (𝓖 .A) (𝓜 .mem) (𝓡 .run)) 𝓜 𝓡 code.env #added-of added-of-def.routine code.calls-service·call·added-of
+    (added-of-thm.met 𝓤 H 𝓜 𝓖 𝓡))
+    (cited 𝓤 H (Count 𝓤 H (𝓖 .A) (𝓜 .mem) (𝓡 .run)) 𝓜 𝓡 code.env #count count-def.routine code.calls-counters·counting·count
     (count-thm.met 𝓤 H 𝓜 𝓖 𝓡))
     (cited 𝓤 H (AnswerOf 𝓤 H (𝓖 .A) (𝓜 .mem) (𝓡 .run)) 𝓜 𝓡 code.env #answer-of answer-of-def.routine code.calls-service·call·answer-of
     (answer-of-thm.met 𝓤 H 𝓜 𝓖 𝓡)))

@@ -1,6 +1,6 @@
 -- `service::call::handle` meets its contract.
 use mathlib.Core.Path.{sym, subst}
-use Rattle.service.specs.Counted.{Fits}
+use Rattle.counters.specs.Counted.{Fits}
 use Rattle.service.specs.declared.Handled.{Handled}
 use Rattle.service.proofs.CallLaws.{passed}
 use Rattle.service.proofs.CalledLaws.{taken-passes, refused-call, taken-call}
@@ -37,7 +37,7 @@ returns c =
     -- what the counters' type tells of their fields
     let good = s .good .1 .1 .1 .0 .1 .1 in (
       refused-call (a .connection .now) (a .registry .now) (a .counters) (a .chunk .now) (a .response .now) (c .before .before .before .judge-call .result) (c .refuse .result) (c .before .before .before .judge-call .ensures) (c .before .before .match .keys2) (c .refuse .ensures),
-      subst (λ (h : Handled). Fits (a .counters) h) (sym (c .refuse .ensures)) (nothing-fits (a .counters) _ (good .0 .1) (good .1 .0 .1) (good .1 .1 .0 .1)),
+      subst (λ (h : Handled). Fits (a .counters) (h .added)) (sym (c .refuse .ensures)) (nothing-fits (a .counters) (c .before .before .before .judge-call .result) (good .0 .1) (good .1 .0 .1) (good .1 .1 .0 .1)),
     )
 
 serve-requires : tie.Need-serve-requires
@@ -62,7 +62,7 @@ returns-2 c =
     let passes = taken-passes (a .connection .now) (a .registry .now) (a .counters) (a .chunk .now) (a .response .now) (judged .judge-call .result) (judged .judge-call .ensures) (c .before .before .before .before .before .before .before .before .before .before .enum-told .given .1) in
     let done = serve .ensures (a .counters) in (
       taken-call (a .connection .now) (a .registry .now) (a .counters) (a .chunk .now) (a .response .now) (serve .last .0) (serve .last .1 .0) (serve .last .1 .1 .0) (serve .result) passes done,
-      modest-fits (a .counters) (serve .result) (passed _ _ passes .counters-good) (done .modest),
+      modest-fits (a .counters) (serve .result .added) (passed _ _ passes .counters-good) (done .modest),
     )
 
 pub handle-spec : {M : Type 1} → statement M

@@ -14,7 +14,7 @@ use Rattle.judgement.specs.Counts.{Counts}
 use Rattle.judgement.specs.Judgement.{judgement, refusedEarly}
 use Rattle.judgement.specs.Answers.{AnsweredBy}
 use Rattle.judgement.specs.declared.Answered.{Answered}
-use Rattle.service.specs.Counters.{totalsOf}
+use Rattle.counters.specs.Counters.{totalsOf}
 use Rattle.service.specs.Served.{headerAt, Carried}
 use Rattle.service.proofs.ServeLaws.{stateWith, carried-wait, carried-answer, skip-waits, skip-answers}
 use Rattle.service.specs.Call.{chunkMost}
