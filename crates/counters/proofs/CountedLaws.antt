@@ -9,8 +9,7 @@ use lib.Dec.{eqb}
 use Rattle.wire.specs.Choice.{if_then_else_}
 use Rattle.judgement.specs.Status.{statusNumber}
 use Rattle.judgement.specs.Counts.{Counts, countServed, countRefused, count}
-use Rattle.judgement.specs.Decided.{askersLine}
-use Rattle.judgement.specs.Answers.{AskerBelow}
+use Rattle.judgement.specs.Decided.{askersLine, AskerBelow}
 use Rattle.judgement.specs.declared.Status.{Status}
 use Rattle.judgement.specs.declared.Asker.{Asker}
 use Rattle.judgement.specs.declared.Asker.the-variants.{Nobody, Named}

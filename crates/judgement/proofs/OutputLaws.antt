@@ -1,41 +1,16 @@
--- A response as the code writes it: a header of one size, and an output that is one field and not long.
-use mathlib.Core.Path.{_≡_, refl, ap, _∙_}
+-- What a response's body is, as fields, and how long.
+use Prim.Native.Nat.{ℕ}
+use mathlib.Core.Path.{_≡_, refl, ap}
 use mathlib.Core.Bool.{Bool, true, false}
 use mathlib.Core.List.{List, [], _∷_, flatMap}
-use Prim.Native.Nat.{ℕ, _+_, _-_, _≤_, _<_}
-use native.Mathlib.Omega.{arith}
-use borrow.Rule.Slice.PartMut.{putMid}
 use borrow.Author.Tests.{eq-eqb, ne-eqb}
-use lib.ListN.{length, take, drop, getD}
+use lib.ListN.{length}
 use lib.Dec.{eqb}
-use Rattle.wire.specs.Numbers.{littleEndianOf}
-use Rattle.wire.specs.Response.{responseHeader, responseBytes}
-use Rattle.wire.specs.Wrote.{Wrote}
-use Rattle.wire.proofs.BufferLaws.{wrote-on}
 use Rattle.protobuf.specs.Written.{varintWithin, varint, numberField, bytesField, packedField}
-use Rattle.registry.specs.Slots.{Entry, free, held, dataMost}
-use Rattle.registry.specs.Registry.{lineCount, slotsOf}
-use Rattle.registry.specs.WellFormed.{wellFormedRegistry}
-use Rattle.registry.specs.Check.{bytesIn}
-use Rattle.registry.specs.declared.Line.{Line}
-use Rattle.registry.proofs.SlotLaws.{ShortEntry}
-use Rattle.registry.proofs.WellFormedLaws.{slots-short}
+use Rattle.registry.specs.Slots.{Entry}
 use Rattle.judgement.specs.Operations.{coreOpcodes, keystoreOpcodes, opcodesOf}
 use Rattle.judgement.specs.Decided.{outputBytes}
 use Rattle.judgement.specs.declared.Output.the-variants.{Version, Providers, Opcodes}
-
-header-length : (provider session size opcode status : ℕ) → length (responseHeader provider session size opcode status) ≡ 26
-unfolding responseHeader littleEndianOf
-header-length provider session size opcode status = refl
-
--- the header was written over the front of d, and the body behind it
-pub response-on : (provider session opcode status : ℕ) (l : List ℕ) (k : ℕ) {body d m : List ℕ} {r : ℕ}
-    → Wrote (responseHeader provider session (length body) opcode status) d l k → Wrote body (take (length l - 26) (drop 26 l)) m r
-    → Wrote (responseBytes provider session opcode status body) d (putMid 26 (length l - 26) l m) (k + r)
-unfolding responseBytes
-response-on provider session opcode status l k {body} x y =
-    let n : k ≡ 26 = x .count ∙ header-length provider session (length body) opcode status in
-    rw n (wrote-on (rw n at x) y)
 
 module _ (slots : List Entry) where
   pub version-field : outputBytes slots Version ≡ numberField 1 1
@@ -70,13 +45,3 @@ module _ (slots : List Entry) where
       go : (t : Bool) → eqb provider 0 ≡ t → length (outputBytes slots (Opcodes provider)) ≡ 5
       go true e = rw e
       go false e = rw e
-
--- the data of a key is short
-pub data-short : (r : List ℕ) → wellFormedRegistry r ≡ true → (line : Line) → line .0 < lineCount → (k : ℕ)
-    → length (bytesIn (getD (slotsOf r line) k free)) ≤ dataMost
-unfolding bytesIn
-data-short r w line h k = go (getD (slotsOf r line) k free) (slots-short r w line h k)
-  where
-    go : (e : Entry) → ShortEntry e → length (bytesIn e) ≤ dataMost
-    go free s = omega arith
-    go (held key) s = s

@@ -15,7 +15,7 @@ use Rattle.protobuf.specs.Written.{bytesField, packedField}
 use Rattle.protobuf.specs.declared.message.Value.{Value}
 use Rattle.protobuf.specs.declared.message.Values.{Values}
 use Rattle.registry.specs.Slots.{Entry, free, keyNameMost, dataMost, bitsMost}
-use Rattle.registry.specs.Registry.{slotCount, Change, unchanged, fill, clear}
+use Rattle.registry.specs.Registry.{lineCount, slotCount, Change, unchanged, fill, clear}
 use Rattle.registry.specs.Check.{bytesIn}
 use Rattle.registry.specs.declared.Line.{Line}
 use Rattle.judgement.specs.Operations.{coreOpcodes, keystoreOpcodes, opcodesOf, keyOf, Result, versionOutput, providersOutput}
@@ -62,6 +62,11 @@ authOf authType auth named =
 unfoldable pub askersLine : Asker → Option Line
 askersLine Nobody = none
 askersLine (Named line) = some line
+
+-- a line that there is
+abbrev pub AskerBelow : Asker → Type 0
+AskerBelow Nobody = Unit {0}
+AskerBelow (Named line) = line .0 < lineCount
 
 -- ---- what an operation comes to
 

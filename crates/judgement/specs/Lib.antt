@@ -3,4 +3,3 @@ pub mod Operations
 pub mod Counts
 pub mod Judgement
 pub mod Decided
-pub mod Answers

@@ -1,10 +1,9 @@
-// How one request is judged and answered: the order of tests, the six operations, the response ("Order of judgement on one
-// request", "Operations and their fields").
+// How one request is judged: the order of tests, and what the six operations come to ("Order of judgement on one request",
+// "Operations and their fields").
 use protobuf::message::Values;
 use registry::Line;
 use registry::Slot;
 
-pub mod answer;
 pub mod operations;
 pub mod order;
 pub mod statuses;
@@ -74,11 +73,4 @@ pub struct Decision {
     pub output: Output,
     pub edit: Edit,
     pub values: Values,
-}
-
-// A request that was answered: for whom it counts, and how many bytes of response were written.
-pub struct Answered {
-    pub status: Status,
-    pub asker: Asker,
-    pub written: usize,
 }

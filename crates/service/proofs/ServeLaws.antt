@@ -20,8 +20,9 @@ use Rattle.connection.proofs.ConnectionLaws.{WholeHeader}
 use Rattle.connection.proofs.StateLaws.{header-there, header-long, header-size}
 use Rattle.judgement.specs.Counts.{Counts, noCounts}
 use Rattle.judgement.specs.Judgement.{judgement, refusedEarly, verdictOf}
-use Rattle.judgement.specs.Answers.{AskerBelow, AnsweredBy}
-use Rattle.judgement.specs.declared.Answered.{Answered}
+use Rattle.judgement.specs.Decided.{AskerBelow}
+use Rattle.answer.specs.Answers.{AnsweredBy}
+use Rattle.answer.specs.declared.Answered.{Answered}
 use Rattle.counters.specs.Counters.{totalsOf, countersOf}
 use Rattle.counters.specs.Counted.{countEvent, counted}
 use Rattle.counters.proofs.CountedLaws.{event-counts, event-below}

@@ -16,7 +16,7 @@ use Rattle.connection.specs.Connection.{bytesAt, connectionSize, laidOut, conne
 use Rattle.registry.specs.WellFormed.{wellFormedRegistry}
 use Rattle.judgement.specs.Counts.{Counts}
 use Rattle.judgement.specs.Judgement.{judgement}
-use Rattle.judgement.specs.declared.Answered.{Answered}
+use Rattle.answer.specs.declared.Answered.{Answered}
 use Rattle.counters.specs.Counters.{totalsOf, countersOf}
 use Rattle.counters.specs.Counted.{eventOf, counted, EventBelow}
 use Rattle.counters.specs.declared.Counters.{Counters}

@@ -1,6 +1,10 @@
 // A call that is taken, by what its connection is ("A whole stream under the rules", up to one response).
 use crate::Code;
 use crate::Handled;
+use answer::Answered;
+use answer::request::answer_bad_start;
+use answer::request::answer_skipped;
+use answer::request::answer_whole;
 use connection::BYTES_AT;
 use connection::change::append;
 use connection::change::close;
@@ -12,10 +16,6 @@ use connection::gather::gather;
 use counters::Event;
 use counters::Increments;
 use counters::events::event_of;
-use judgement::Answered;
-use judgement::answer::answer_bad_start;
-use judgement::answer::answer_skipped;
-use judgement::answer::answer_whole;
 use stream::frame::Frame;
 use stream::frame::read_frame;
 use stream::frame::request_length;

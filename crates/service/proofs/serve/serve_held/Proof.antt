@@ -24,8 +24,8 @@ use Rattle.connection.proofs.GatherLaws.{held-back}
 use Rattle.connection.proofs.StateLaws.{state-open, open-holds, open-held, header-whole, header-there, held-fits}
 use Rattle.judgement.specs.Counts.{Counts}
 use Rattle.judgement.specs.Judgement.{judgement}
-use Rattle.judgement.specs.Answers.{AnsweredBy}
-use Rattle.judgement.specs.declared.Answered.{Answered}
+use Rattle.answer.specs.Answers.{AnsweredBy}
+use Rattle.answer.specs.declared.Answered.{Answered}
 use Rattle.service.specs.Call.{chunkMost}
 use Rattle.service.specs.Called.{lentMemory}
 use Rattle.service.specs.Served.{Ready, SkipReady, Carried, finished, headerAt, skipEffect, effectOf}

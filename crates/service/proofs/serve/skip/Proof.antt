@@ -12,8 +12,8 @@ use Rattle.stream.proofs.FrameLaws.{requestLength-append}
 use Rattle.stream.specs.Call.{Effect}
 use Rattle.judgement.specs.Counts.{Counts}
 use Rattle.judgement.specs.Judgement.{judgement, refusedEarly}
-use Rattle.judgement.specs.Answers.{AnsweredBy}
-use Rattle.judgement.specs.declared.Answered.{Answered}
+use Rattle.answer.specs.Answers.{AnsweredBy}
+use Rattle.answer.specs.declared.Answered.{Answered}
 use Rattle.counters.specs.Counters.{totalsOf}
 use Rattle.service.specs.Served.{headerAt, Carried}
 use Rattle.service.proofs.ServeLaws.{stateWith, carried-wait, carried-answer, skip-waits, skip-answers}

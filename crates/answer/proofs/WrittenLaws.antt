@@ -1,0 +1,42 @@
+-- A response written: the header and then the body; and how long exported data can be.
+use Prim.Native.Nat.{ℕ, _+_, _-_, _≤_, _<_}
+use mathlib.Core.Path.{_≡_, refl, _∙_}
+use mathlib.Core.Bool.{true}
+use mathlib.Core.List.{List}
+use native.Mathlib.Omega.{arith}
+use borrow.Rule.Slice.PartMut.{putMid}
+use lib.ListN.{length, take, drop, getD}
+use Rattle.wire.specs.Numbers.{littleEndianOf}
+use Rattle.wire.specs.Response.{responseHeader, responseBytes}
+use Rattle.wire.specs.Wrote.{Wrote}
+use Rattle.wire.proofs.BufferLaws.{wrote-on}
+use Rattle.registry.specs.Slots.{Entry, free, held, dataMost}
+use Rattle.registry.specs.Registry.{lineCount, slotsOf}
+use Rattle.registry.specs.WellFormed.{wellFormedRegistry}
+use Rattle.registry.specs.Check.{bytesIn}
+use Rattle.registry.specs.declared.Line.{Line}
+use Rattle.registry.proofs.SlotLaws.{ShortEntry}
+use Rattle.registry.proofs.WellFormedLaws.{slots-short}
+
+header-length : (provider session size opcode status : ℕ) → length (responseHeader provider session size opcode status) ≡ 26
+unfolding responseHeader littleEndianOf
+header-length provider session size opcode status = refl
+
+-- the header was written over the front of d, and the body behind it
+pub response-on : (provider session opcode status : ℕ) (l : List ℕ) (k : ℕ) {body d m : List ℕ} {r : ℕ}
+    → Wrote (responseHeader provider session (length body) opcode status) d l k → Wrote body (take (length l - 26) (drop 26 l)) m r
+    → Wrote (responseBytes provider session opcode status body) d (putMid 26 (length l - 26) l m) (k + r)
+unfolding responseBytes
+response-on provider session opcode status l k {body} x y =
+    let n : k ≡ 26 = x .count ∙ header-length provider session (length body) opcode status in
+    rw n (wrote-on (rw n at x) y)
+
+-- the data of a key is short
+pub data-short : (r : List ℕ) → wellFormedRegistry r ≡ true → (line : Line) → line .0 < lineCount → (k : ℕ)
+    → length (bytesIn (getD (slotsOf r line) k free)) ≤ dataMost
+unfolding bytesIn
+data-short r w line h k = go (getD (slotsOf r line) k free) (slots-short r w line h k)
+  where
+    go : (e : Entry) → ShortEntry e → length (bytesIn e) ≤ dataMost
+    go free s = omega arith
+    go (held key) s = s

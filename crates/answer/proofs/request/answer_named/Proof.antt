@@ -1,0 +1,50 @@
+-- `answer::request::answer_named` meets its contract.
+use borrow.Author.Needs.{needs}
+use Rattle.registry.proofs.WellFormedLaws.{good-of}
+use Rattle.judgement.specs.Operations.{Result}
+use Rattle.judgement.specs.Decided.{resultIn}
+use Rattle.answer.specs.Answers.{resultForNamed}
+use Rattle.judgement.specs.declared.Asker.the-variants.{Named}
+use Rattle.answer.proofs.AnswerLaws.{decided-answered}
+use Rattle.answer.proofs.request.answer_named.Statement.{statement}
+use Rattle.answer.proofs.request.answer_named.Tie as tie
+
+decide-requires : tie.Need-decide-requires
+decide-requires c κs = search needs
+
+write-response-requires : tie.Need-write-response-requires
+write-response-requires c κs = search needs
+
+make-edit-requires : tie.Need-make-edit-requires
+make-edit-requires c κs =
+    let s = c .before .before .before .before .before .before .before .before .before .before .before in
+    (good-of (s .args .registry .now) (s .pre .1) .size, s .pre .2, c .before .before .before .before .before .before .decide .ensures .edit)
+
+same-length : tie.Need-same-length
+same-length c = search needs
+
+same-length-2 : tie.Need-same-length-2
+same-length-2 c = search needs
+
+abbrev result : tie.Start → Result
+result s = resultForNamed (s .args .h) (s .args .body .now) (s .args .registry .now) (s .args .line)
+
+returns : tie.Need-returns
+unfolding resultIn
+returns c =
+    let w = c .before .before .before .before .before .before in
+    let d = w .before .before .before .decide in
+    let s = w .before .before .before .before .before .before .before .before in
+    let written = decided-answered {x = result s} (s .args .h) (Named (s .args .line)) (d .ensures) (w .write-response .ensures) in
+    (written, rw (← d .ensures .result) (c .before .before .make-edit .ensures))
+
+pub answer-named-spec : {M : Type 1} → statement M
+answer-named-spec =
+    tie.close
+    (tie.spec
+    decide-requires
+    write-response-requires
+    make-edit-requires
+    same-length
+    same-length-2
+    returns)

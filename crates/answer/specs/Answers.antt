@@ -1,0 +1,48 @@
+-- What an answered request leaves, in the reading copy's terms. No part of the reading copy.
+use Prim.Native.Nat.{ℕ}
+use mathlib.Core.Path.{_≡_}
+use mathlib.Core.Option.{none}
+use mathlib.Core.List.{List, []}
+use lib.Dec.{eqb}
+use Rattle.wire.specs.Choice.{if_then_else_, firstOf}
+use Rattle.wire.specs.Response.{responseBytes}
+use Rattle.wire.specs.Wrote.{Wrote}
+use Rattle.wire.specs.declared.header.Header.{Header}
+use Rattle.stream.specs.Rules.{Verdict}
+use Rattle.registry.specs.Registry.{slotsOf}
+use Rattle.registry.specs.declared.Line.{Line}
+use Rattle.judgement.specs.Status.{statusNumber}
+use Rattle.judgement.specs.Operations.{Result, refuse, operated}
+use Rattle.judgement.specs.Counts.{Counts, noCounts, count}
+use Rattle.judgement.specs.Decided.{headerTests, askersLine, AskerBelow}
+use Rattle.judgement.specs.declared.Status.the-variants.{NotAuthenticated}
+use Rattle.judgement.specs.declared.Asker.{Asker}
+use Rattle.answer.specs.declared.Answered.{Answered}
+
+-- the verdict `v` was carried out: its response stands at the front of the buffer `before`, which is now `after`, the registry
+-- is its own, and `r` counts as it does, whatever the counts are
+pub record AnsweredBy (v : Counts → Verdict (List ℕ) Counts (List ℕ)) (registry before after : List ℕ) (r : Answered) : Type 0 where
+  pub response : Wrote (v noCounts .response) before after (r .written)
+  pub kept : registry ≡ v noCounts .registry
+  pub counts : (c : Counts) → count c (askersLine (r .asker)) (r .status) ≡ v c .counts
+  pub asker : AskerBelow (r .asker)
+
+-- ---- a request whose header has passed
+
+abbrev pub PassedHeader : Header → Type 0
+PassedHeader h = firstOf (headerTests h) ≡ none
+
+-- what comes of it for an application
+abbrev pub resultForNamed : Header → (body registry : List ℕ) → Line → Result
+resultForNamed h body registry line = operated (h .opcode) body (slotsOf registry line)
+
+-- and for nobody that is named: the keystore is not for them
+unfoldable pub resultForNobody : Header → (body : List ℕ) → Result
+resultForNobody h body = if eqb (h .provider) 1 then refuse NotAuthenticated else operated (h .opcode) body []
+
+-- the result `x` was answered for `who`: its response, with the header's provider, session and opcode, stands at the front of
+-- the buffer `before`, which is now `after`
+pub record ResultAnswered (h : Header) (x : Result) (who : Asker) (before after : List ℕ) (r : Answered) : Type 0 where
+  pub status : r .status ≡ x .status
+  pub asker : r .asker ≡ who
+  pub response : Wrote (responseBytes (h .provider) (h .session) (h .opcode) (statusNumber (x .status)) (x .output)) before after (r .written)

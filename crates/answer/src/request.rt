@@ -1,0 +1,202 @@
+// A request answered, by the order's three steps ("Order of judgement on one request"): its response written, and what it
+// changes carried out.
+use crate::Answered;
+use crate::response::write_refused;
+use crate::response::write_response;
+use judgement::Asker;
+use judgement::Auth;
+use judgement::Checked;
+use judgement::Decision;
+use judgement::Edit;
+use judgement::Status;
+use judgement::operations::perform_core;
+use judgement::operations::perform_keystore;
+use judgement::order::authenticate;
+use judgement::order::check_header;
+use registry::Line;
+use registry::change::clear_slot;
+use registry::change::fill_slot;
+use stream::frame::CONTENT_MOST;
+use stream::frame::is_oversized;
+use wire::header::Header;
+use wire::header::header_length;
+use wire::header::read_header;
+ghost use mathlib.Core.Bool.{true, false};
+ghost use mathlib.Core.List.{List, []};
+ghost use mathlib.Core.Path.{_≡_};
+ghost use Prim.Native.Nat.{ℕ, _≤_, _<_};
+ghost use lib.ListN.{length, take};
+ghost use Rattle.wire.specs.Request.{requestLeast, headerLength, requestLength};
+ghost use Rattle.wire.specs.Response.{bufferLeast, responseBytes};
+ghost use Rattle.wire.specs.Wrote.{Wrote};
+ghost use Rattle.stream.specs.Frame.{legalStart, oversized};
+ghost use Rattle.stream.specs.Rules.{judge};
+ghost use Rattle.registry.specs.Registry.{lineCount, registrySize, slotsOf, changed};
+ghost use Rattle.registry.specs.WellFormed.{wellFormedRegistry};
+ghost use Rattle.judgement.specs.Status.{statusNumber};
+ghost use Rattle.judgement.specs.Judgement.{judgement};
+ghost use Rattle.judgement.specs.Decided.{SafeEdit, changeOf, Decided};
+ghost use Rattle.answer.specs.Answers.{AnsweredBy, PassedHeader, resultForNamed, resultForNobody, ResultAnswered};
+
+// Carries out what an operation changes.
+fn make_edit(registry: &mut [u8], line: Line, body: &[u8], d: Decision)
+    requires { ⌜ (length (now registry) ≡ registrySize) × (line .0 < lineCount) × SafeEdit (length (now body)) (d .values) (d .edit) ⌝ }
+    ensures { λ _. ⌜ now (registry .exit) ≡ changed (now (registry .entry)) line (changeOf (now (body .entry)) (d .values) (d .edit)) ⌝ }
+{
+    let edit = d.edit;
+    match edit {
+        Edit::Stays => {}
+        Edit::Fills(slot) => {
+            let v = d.values;
+            let name = v.f1;
+            let bytes = v.f2;
+            let bits = v.f3;
+            let exported = v.f4;
+            let verified = v.f5;
+            let a = name.start;
+            let b = a + name.len;
+            let e = bytes.start;
+            let f = e + bytes.len;
+            fill_slot(
+                registry,
+                line,
+                slot,
+                &body[a..b],
+                &body[e..f],
+                bits.number as u16,
+                exported.number != 0,
+                verified.number != 0,
+            );
+        }
+        Edit::Clears(slot) => {
+            clear_slot(registry, line, slot);
+        }
+    }
+}
+
+// A refused request is nobody's: it counts by its status alone.
+fn refuse(out: &mut [u8], h: Header, status: Status) -> Answered
+    requires { ⌜ bufferLeast ≤ length (now out) ⌝ }
+    ensures { λ r. ⌜ (r .status ≡ status) × (r .asker ≡ Asker.Nobody) × Wrote (responseBytes (h .provider) (h .session) (h .opcode) (statusNumber status) []) (now (out .entry)) (now (out .exit)) (r .written) ⌝ }
+{
+    let written = write_refused(out, h.provider, h.session, h.opcode, status);
+    Answered {
+        status,
+        asker: Asker::Nobody,
+        written,
+    }
+}
+
+// What the operation comes to for an application: core for provider 0, keystore for provider 1.
+fn decide(h: Header, body: &[u8], registry: &[u8], line: Line) -> Decision
+    requires { ⌜ PassedHeader h × (wellFormedRegistry (now registry) ≡ true) × (line .0 < lineCount) ⌝ }
+    ensures { λ r. ⌜ Decided (slotsOf (now (registry .entry)) line) (now (body .entry)) (resultForNamed h (now (body .entry)) (now (registry .entry)) line) r ⌝ }
+{
+    if h.provider == 0 {
+        return perform_core(h.opcode, body);
+    }
+    perform_keystore(h.opcode, body, registry, line)
+}
+
+// A request whose header and auth bytes have passed, answered for an application.
+fn answer_named(out: &mut [u8], h: Header, body: &[u8], registry: &mut [u8], line: Line) -> Answered
+    requires { ⌜ PassedHeader h × (wellFormedRegistry (now registry) ≡ true) × (line .0 < lineCount) × (bufferLeast ≤ length (now out)) ⌝ }
+    ensures { λ r. ⌜ ResultAnswered h (resultForNamed h (now (body .entry)) (now (registry .entry)) line) (Asker.Named line) (now (out .entry)) (now (out .exit)) r ⌝ }
+    ensures { λ _. ⌜ now (registry .exit) ≡ changed (now (registry .entry)) line (resultForNamed h (now (body .entry)) (now (registry .entry)) line .change) ⌝ }
+{
+    let d = decide(h, body, registry, line);
+    let status = d.status;
+    let output = d.output;
+    let written = write_response(out, h, status, registry, line, output);
+    make_edit(registry, line, body, d);
+    Answered {
+        status,
+        asker: Asker::Named(line),
+        written,
+    }
+}
+
+// The same for nobody that is named: the keystore is not for them.
+fn answer_nobody(out: &mut [u8], h: Header, body: &[u8], registry: &[u8]) -> Answered
+    requires { ⌜ PassedHeader h × (wellFormedRegistry (now registry) ≡ true) × (bufferLeast ≤ length (now out)) ⌝ }
+    ensures { λ r. ⌜ ResultAnswered h (resultForNobody h (now (body .entry))) Asker.Nobody (now (out .entry)) (now (out .exit)) r ⌝ }
+{
+    if h.provider == 1 {
+        return refuse(out, h, Status::NotAuthenticated);
+    }
+    let d = perform_core(h.opcode, body);
+    let status = d.status;
+    let output = d.output;
+    // No core output looks at a line.
+    let written = write_response(out, h, status, registry, Line(0), output);
+    Answered {
+        status,
+        asker: Asker::Nobody,
+        written,
+    }
+}
+
+// A whole request that is not oversized.
+fn answer_request(out: &mut [u8], request: &[u8], registry: &mut [u8]) -> Answered
+    requires { ⌜ (legalStart (now request) ≡ true) × (length (now request) ≡ requestLength (now request)) × (oversized (now request) ≡ false) × (wellFormedRegistry (now registry) ≡ true) × (bufferLeast ≤ length (now out)) ⌝ }
+    ensures { λ r. ⌜ AnsweredBy (λ c. judgement .onRequest (now (registry .entry)) c (now (request .entry))) (now (registry .exit)) (now (out .entry)) (now (out .exit)) r ⌝ }
+{
+    let h = read_header(request);
+    if let Checked::Refused(status) = check_header(h) {
+        return refuse(out, h, status);
+    }
+    let start = 6 + h.size as usize;
+    let end = start + h.content_length as usize;
+    match authenticate(registry, h.auth_type, &request[end..]) {
+        Auth::Refused => refuse(out, h, Status::AuthenticationError),
+        Auth::Accepted(asker) => match asker {
+            Asker::Nobody => answer_nobody(out, h, &request[start..end], registry),
+            Asker::Named(line) => answer_named(out, h, &request[start..end], registry, line),
+        },
+    }
+}
+
+// An oversized request, from its header: 20 if C is too large, else 11.
+fn answer_oversized(out: &mut [u8], header: &[u8]) -> Answered
+    requires { ⌜ (requestLeast ≤ length (now header)) × (bufferLeast ≤ length (now out)) ⌝ }
+    ensures { λ r. ⌜ ((registry : List ℕ) → AnsweredBy (λ c. judgement .onOversized registry c (now (header .entry))) registry (now (out .entry)) (now (out .exit)) r) ⌝ }
+{
+    let h = read_header(header);
+    if CONTENT_MOST < h.content_length {
+        return refuse(out, h, Status::BodySizeExceedsLimit);
+    }
+    refuse(out, h, Status::AuthenticationError)
+}
+
+// The response to an oversized request, whose header the bytes begin with.
+pub fn answer_skipped(out: &mut [u8], bytes: &[u8]) -> Answered
+    requires { ⌜ (requestLeast ≤ headerLength (now bytes)) × (headerLength (now bytes) ≤ length (now bytes)) × (bufferLeast ≤ length (now out)) ⌝ }
+    ensures { λ r. ⌜ ((registry : List ℕ) → AnsweredBy (λ c. judgement .onOversized registry c (take (headerLength (now (bytes .entry))) (now (bytes .entry)))) registry (now (out .entry)) (now (out .exit)) r) ⌝ }
+{
+    let end = header_length(bytes);
+    answer_oversized(out, &bytes[..end])
+}
+
+// A wrong magic or H: provider, session and opcode are zero.
+pub fn answer_bad_start(out: &mut [u8]) -> Answered
+    requires { ⌜ bufferLeast ≤ length (now out) ⌝ }
+    ensures { λ r. ⌜ ((registry : List ℕ) → AnsweredBy (λ c. judgement .onBadStart registry c) registry (now (out .entry)) (now (out .exit)) r) ⌝ }
+{
+    let written = write_refused(out, 0, 0, 0, Status::InvalidHeader);
+    Answered {
+        status: Status::InvalidHeader,
+        asker: Asker::Nobody,
+        written,
+    }
+}
+
+// A whole request, oversized or not.
+pub fn answer_whole(out: &mut [u8], request: &[u8], registry: &mut [u8]) -> Answered
+    requires { ⌜ (legalStart (now request) ≡ true) × (length (now request) ≡ requestLength (now request)) × (wellFormedRegistry (now registry) ≡ true) × (bufferLeast ≤ length (now out)) ⌝ }
+    ensures { λ r. ⌜ AnsweredBy (λ c. judge judgement (now (registry .entry)) c (now (request .entry))) (now (registry .exit)) (now (out .entry)) (now (out .exit)) r ⌝ }
+{
+    if is_oversized(request) {
+        return answer_skipped(out, request);
+    }
+    answer_request(out, request, registry)
+}

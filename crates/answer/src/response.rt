@@ -1,0 +1,108 @@
+// A response written: the header, and behind it the body, straight to its place ("Bytes on the wire", "Operations and their
+// fields").
+use judgement::Output;
+use judgement::Status;
+use judgement::statuses::status_number;
+use protobuf::write::bytes_field_size;
+use protobuf::write::write_bytes_field;
+use protobuf::write::write_number_field;
+use registry::Line;
+use registry::key::key_data;
+use wire::bytes::copy_into;
+use wire::header::Header;
+use wire::response::response_header;
+ghost use mathlib.Core.Bool.{true};
+ghost use mathlib.Core.List.{[]};
+ghost use mathlib.Core.Path.{_≡_};
+ghost use Prim.Native.Nat.{_≤_, _<_};
+ghost use lib.ListN.{length};
+ghost use Rattle.wire.specs.Response.{bufferLeast, responseBytes};
+ghost use Rattle.wire.specs.Wrote.{Wrote};
+ghost use Rattle.registry.specs.Registry.{lineCount, slotsOf};
+ghost use Rattle.registry.specs.WellFormed.{wellFormedRegistry};
+ghost use Rattle.judgement.specs.Status.{statusNumber};
+ghost use Rattle.judgement.specs.Decided.{outputMost, SafeOutput, outputBytes};
+
+// How long a response's body is.
+fn output_size(registry: &[u8], line: Line, output: Output) -> usize
+    requires { ⌜ (wellFormedRegistry (now registry) ≡ true) × (line .0 < lineCount) × SafeOutput output ⌝ }
+    ensures { λ r. ⌜ (r ≡ length (outputBytes (slotsOf (now (registry .entry)) line) output)) × (r ≤ outputMost) ⌝ }
+{
+    match output {
+        Output::Nothing => 0,
+        Output::Version => 2,
+        Output::Providers => 4,
+        Output::Opcodes(_) => 5,
+        Output::Data(slot) => {
+            let data = key_data(registry, line, slot);
+            bytes_field_size(1, data.len())
+        }
+    }
+}
+
+// A response's body, written straight to its place.
+fn write_output(out: &mut [u8], registry: &[u8], line: Line, output: Output) -> usize
+    requires { ⌜ (wellFormedRegistry (now registry) ≡ true) × (line .0 < lineCount) × SafeOutput output × (outputMost ≤ length (now out)) ⌝ }
+    ensures { λ r. ⌜ Wrote (outputBytes (slotsOf (now (registry .entry)) line) output) (now (out .entry)) (now (out .exit)) r ⌝ }
+{
+    match output {
+        Output::Nothing => 0,
+        Output::Version => write_number_field(out, 1, 1),
+        Output::Providers => {
+            let providers = [0u8, 1];
+            write_bytes_field(out, 1, &providers)
+        }
+        Output::Opcodes(provider) => {
+            if provider == 0 {
+                let core = [1u8, 8, 9];
+                return write_bytes_field(out, 1, &core);
+            }
+            let keystore = [3u8, 6, 7];
+            write_bytes_field(out, 1, &keystore)
+        }
+        Output::Data(slot) => {
+            let data = key_data(registry, line, slot);
+            write_bytes_field(out, 1, data)
+        }
+    }
+}
+
+// A response: the header, and behind its 26 bytes the body.
+pub fn write_response(
+    out: &mut [u8],
+    h: Header,
+    status: Status,
+    registry: &[u8],
+    line: Line,
+    output: Output,
+) -> usize
+    requires { ⌜ (wellFormedRegistry (now registry) ≡ true) × (line .0 < lineCount) × SafeOutput output × (bufferLeast ≤ length (now out)) ⌝ }
+    ensures { λ r. ⌜ Wrote (responseBytes (h .provider) (h .session) (h .opcode) (statusNumber status) (outputBytes (slotsOf (now (registry .entry)) line) output)) (now (out .entry)) (now (out .exit)) r ⌝ }
+{
+    let size = output_size(registry, line, output);
+    let head = response_header(
+        h.provider,
+        h.session,
+        size as u32,
+        h.opcode,
+        status_number(status),
+    );
+    let k = copy_into(out, &head);
+    let m = write_output(&mut out[26..], registry, line, output);
+    k + m
+}
+
+// The response to a request that is refused: an empty body.
+pub fn write_refused(
+    out: &mut [u8],
+    provider: u8,
+    session: u64,
+    opcode: u16,
+    status: Status,
+) -> usize
+    requires { ⌜ bufferLeast ≤ length (now out) ⌝ }
+    ensures { λ r. ⌜ Wrote (responseBytes provider session opcode (statusNumber status) []) (now (out .entry)) (now (out .exit)) r ⌝ }
+{
+    let head = response_header(provider, session, 0, opcode, status_number(status));
+    copy_into(out, &head)
+}
