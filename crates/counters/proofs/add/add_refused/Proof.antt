@@ -1,5 +1,5 @@
 -- `counters::add::add_refused` meets its contract.
-use Prim.Native.Nat.{_≤_, _<_}
+use Prim.Native.Nat.{_≤_}
 use mathlib.Core.Path.{subst}
 use native.Mathlib.Numerals.{add-one}
 use native.Mathlib.Omega.{arith}
