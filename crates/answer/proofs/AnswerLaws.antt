@@ -32,7 +32,6 @@ use Rattle.judgement.specs.Operations.{opcodesOf, noFields, opcodesFields, Oper
 use Rattle.judgement.specs.Counts.{Counts, countRefused, count}
 use Rattle.judgement.specs.Judgement.{applicationOf, refusals, askersSlots, resultOf, changedBy, verdictOf, refusedEarly, oversizedStatus, judgement}
 use Rattle.judgement.specs.Decided.{headerTests, namedOr, authOf, askersLine, outputBytes, resultIn, Decided, oneOfCore, oneOfKeystore, AskerBelow}
-use Rattle.answer.specs.Answers.{AnsweredBy, PassedHeader, resultForNobody, ResultAnswered}
 use Rattle.judgement.proofs.OrderLaws.{one-of-three}
 use Rattle.judgement.specs.declared.Status.{Status}
 use Rattle.judgement.specs.declared.Status.the-variants.{AuthenticationError, NotAuthenticated, BodySizeExceedsLimit}
@@ -41,6 +40,7 @@ use Rattle.judgement.specs.declared.Asker.the-variants.{Nobody, Named}
 use Rattle.judgement.specs.declared.Auth.{Auth}
 use Rattle.judgement.specs.declared.Auth.the-variants.{Refused as AuthRefused, Accepted}
 use Rattle.judgement.specs.declared.Decision.{Decision}
+use Rattle.answer.specs.Answers.{AnsweredBy, PassedHeader, resultForNobody, ResultAnswered}
 use Rattle.answer.specs.declared.Answered.{Answered}
 
 -- ---- the first test that applies

@@ -9,13 +9,13 @@ use denote.Enum.Declared.{tagOf}
 use types.Run.{OneOf}
 use Rattle.wire.specs.Choice.{firstOf}
 use Rattle.stream.specs.Calls.{Answer, Call, CallOutcome, refused, took}
-use Rattle.service.specs.Refusals.{refusalNumber}
-use Rattle.service.specs.Call.{Memory, memoryOf, refusalTests, codeOf, refusalOf, callOutcome}
 use Rattle.counters.specs.Counters.{totalsOf, countersOf}
 use Rattle.counters.specs.Counted.{countEvent, counted}
+use Rattle.counters.specs.declared.Counters.{Counters}
+use Rattle.service.specs.Refusals.{refusalNumber}
+use Rattle.service.specs.Call.{Memory, memoryOf, refusalTests, codeOf, refusalOf, callOutcome}
 use Rattle.service.specs.Called.{lentMemory, callWith, codeFor, codeNumber, answerOf, refusedWith, outcomeWith, CallContract}
 use Rattle.service.specs.Served.{WroteAny, Carried, effectOf}
-use Rattle.counters.specs.declared.Counters.{Counters}
 use Rattle.service.specs.declared.Refusal.{Refusal}
 use Rattle.service.specs.declared.Code.{Code}
 use Rattle.service.specs.declared.Code.the-variants.{Taken}

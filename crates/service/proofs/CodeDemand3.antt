@@ -11,9 +11,9 @@ use Rattle.stream.proofs.DeliveryLaws.{within, TakenWhole}
 use Rattle.registry.specs.WellFormed.{wellFormedRegistry}
 use Rattle.judgement.specs.Judgement.{judgement}
 use Rattle.counters.specs.Counters.{counterMost}
+use Rattle.counters.specs.declared.Counters.{Counters}
 use Rattle.service.specs.Call.{Memory, layout, fresh, bufferLeast, chunkMost, refusalOf, callOutcome, callsOutcome}
 use Rattle.service.specs.Called.{lentMemory, callWith, codeNumber, CallContract}
-use Rattle.counters.specs.declared.Counters.{Counters}
 use Rattle.service.specs.declared.CallAnswer.{CallAnswer}
 use Rattle.service.proofs.Demand3.{FollowsRules, demand3}
 

@@ -26,10 +26,10 @@ use Rattle.answer.specs.declared.Answered.{Answered}
 use Rattle.counters.specs.Counters.{totalsOf, countersOf}
 use Rattle.counters.specs.Counted.{countEvent, counted}
 use Rattle.counters.proofs.CountedLaws.{event-counts, event-below}
+use Rattle.counters.specs.declared.Counters.{Counters}
 use Rattle.service.specs.Call.{bufferLeast, chunkMost, stateIn}
 use Rattle.service.specs.Called.{lentMemory}
 use Rattle.service.specs.Served.{Modest, waited, finished, droppedAll, Carried, SkipReady, effectOf, skipEffect}
-use Rattle.counters.specs.declared.Counters.{Counters}
 use Rattle.service.specs.declared.Handled.{Handled}
 
 abbrev pub stateWith : Connection → (registry : List ℕ) → Counters → State (List ℕ) Counts

@@ -45,14 +45,18 @@ use Rattle.stream.specs.Calls.{Call}
 use Rattle.counters.specs.Counted.{counted, Fits}
 use Rattle.counters.specs.declared.Counters.{Counters}
 use Rattle.counters.specs.declared.Increments.{Increments}
-use Rattle.service.specs.Call.{Memory as CallMemory}
-use Rattle.service.specs.Called.{lentMemory, callWith, answerOf, CallContract}
-use Rattle.service.specs.declared.Handled.{Handled}
-use Rattle.service.specs.declared.CallAnswer.{CallAnswer}
 use Rattle.counters.proofs.Counters as T
 use Rattle.counters.proofs.Counters.Laws as T′
 use Rattle.counters.proofs.Increments as I
 use Rattle.counters.proofs.Increments.Laws as I′
+use Rattle.counters.proofs.counting.count as count-of
+use Rattle.counters.proofs.counting.count.Symbol as count-def
+use Rattle.counters.proofs.counting.count.Symbol.{name as #count}
+use Rattle.counters.proofs.counting.count.Met as count-thm
+use Rattle.service.specs.Call.{Memory as CallMemory}
+use Rattle.service.specs.Called.{lentMemory, callWith, answerOf, CallContract}
+use Rattle.service.specs.declared.Handled.{Handled}
+use Rattle.service.specs.declared.CallAnswer.{CallAnswer}
 use Rattle.service.proofs.Handled as D
 use Rattle.service.proofs.Handled.Laws as D′
 use Rattle.service.proofs.CallAnswer as N
@@ -61,10 +65,6 @@ use Rattle.service.proofs.call.handle as g
 use Rattle.service.proofs.call.handle.Symbol as g-def
 use Rattle.service.proofs.call.handle.Symbol.{name as #handle}
 use Rattle.service.proofs.call.handle.Met as g-thm
-use Rattle.counters.proofs.counting.count as count-of
-use Rattle.counters.proofs.counting.count.Symbol as count-def
-use Rattle.counters.proofs.counting.count.Symbol.{name as #count}
-use Rattle.counters.proofs.counting.count.Met as count-thm
 use Rattle.service.proofs.call.added_of as added-of
 use Rattle.service.proofs.call.added_of.Symbol as added-of-def
 use Rattle.service.proofs.call.added_of.Symbol.{name as #added-of}

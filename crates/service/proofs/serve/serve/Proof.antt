@@ -18,10 +18,10 @@ use Rattle.connection.proofs.StateLaws.{state-open, state-skipping, state-close
 use Rattle.judgement.specs.Counts.{Counts}
 use Rattle.judgement.specs.Judgement.{judgement}
 use Rattle.counters.specs.Counters.{totalsOf}
+use Rattle.counters.specs.declared.Counters.{Counters}
 use Rattle.service.specs.Call.{chunkMost}
 use Rattle.service.specs.Called.{lentMemory}
 use Rattle.service.specs.Served.{Ready, SkipReady, Carried, headerAt, skipEffect, effectOf}
-use Rattle.counters.specs.declared.Counters.{Counters}
 use Rattle.service.specs.declared.Handled.{Handled}
 use Rattle.service.proofs.ServeLaws.{stateWith, skip-ready, serves-skip, serves-drop}
 use borrow.Author.Needs.{needs}

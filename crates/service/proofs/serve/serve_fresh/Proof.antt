@@ -20,8 +20,8 @@ use Rattle.connection.proofs.StateLaws.{memory-is, header-few}
 use Rattle.judgement.specs.Counts.{Counts}
 use Rattle.judgement.specs.Judgement.{judgement}
 use Rattle.counters.specs.Counters.{totalsOf}
-use Rattle.service.specs.Call.{chunkMost}
 use Rattle.counters.specs.declared.Counters.{Counters}
+use Rattle.service.specs.Call.{chunkMost}
 use Rattle.service.proofs.ServeLaws.{stateWith, bad-steady, judge-steady, serves-wait, serves-answer}
 use borrow.Author.Needs.{needs}
 use Rattle.service.proofs.serve.serve_fresh.Statement.{statement}

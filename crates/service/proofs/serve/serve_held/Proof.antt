@@ -26,10 +26,10 @@ use Rattle.judgement.specs.Counts.{Counts}
 use Rattle.judgement.specs.Judgement.{judgement}
 use Rattle.answer.specs.Answers.{AnsweredBy}
 use Rattle.answer.specs.declared.Answered.{Answered}
+use Rattle.counters.specs.declared.Counters.{Counters}
 use Rattle.service.specs.Call.{chunkMost}
 use Rattle.service.specs.Called.{lentMemory}
 use Rattle.service.specs.Served.{Ready, SkipReady, Carried, finished, headerAt, skipEffect, effectOf}
-use Rattle.counters.specs.declared.Counters.{Counters}
 use Rattle.service.specs.declared.Handled.{Handled}
 use Rattle.service.proofs.ServeLaws.{stateWith, bad-steady, judge-steady, skip-ready, serves-wait, serves-answer, serves-skip}
 use borrow.Author.Needs.{needs}
