@@ -1,9 +1,9 @@
 -- What the exported functions answer, as numbers. No part of the reading copy.
 use Prim.Native.Nat.{ℕ, _+_}
 use mathlib.Core.List.{List}
-use Rattle.registry.specs.Roster.{faultNumber, RosterOutcome}
-use Rattle.registry.specs.declared.roster.Loaded.{Loaded}
-use Rattle.registry.specs.declared.roster.Loaded.the-variants.{Good, Faulty}
+use Rattle.roster.specs.Roster.{faultNumber, RosterOutcome}
+use Rattle.roster.specs.declared.Loaded.{Loaded}
+use Rattle.roster.specs.declared.Loaded.the-variants.{Good, Faulty}
 use Rattle.connection.specs.Connection.{Opening}
 use Rattle.connection.specs.declared.change.Opened.{Opened}
 use Rattle.connection.specs.declared.change.Opened.the-variants.{Fresh, WrongSize}

@@ -17,11 +17,11 @@ use Rattle.wire.proofs.ListLaws.{part-of-part, all-take, all-drop}
 use Rattle.wire.proofs.NumberLaws.{isByte, field-append}
 use Rattle.registry.specs.Names.{legalName, isNew}
 use Rattle.registry.specs.Registry.{applicationNameMost, lineCount}
-use Rattle.registry.specs.Roster.{recordLength, valueIn, recordFaults, rosterOf}
-use Rattle.registry.specs.declared.RosterFault.{RosterFault}
-use Rattle.registry.specs.declared.RosterFault.the-variants.{CutRecord, UnknownTag, BadName, NinthName, RepeatedName}
 use Rattle.registry.proofs.NameLaws.{legal-short}
-use Rattle.registry.proofs.LoadLaws.{whole-fit, whole-room, cut-test, passed-whole, passed-room, rosterFrom, roster-fault, roster-on}
+use Rattle.roster.specs.Roster.{recordLength, valueIn, recordFaults, rosterOf}
+use Rattle.roster.specs.declared.RosterFault.{RosterFault}
+use Rattle.roster.specs.declared.RosterFault.the-variants.{CutRecord, UnknownTag, BadName, NinthName, RepeatedName}
+use Rattle.roster.proofs.LoadLaws.{whole-fit, whole-room, cut-test, passed-whole, passed-room, rosterFrom, roster-fault, roster-on}
 use Rattle.bill.specs.Front.{goodRecordMost, recordMost, frontMost}
 
 -- ---- a record's length

@@ -18,11 +18,12 @@ use Rattle.connection.specs.Connection.{wellFormedConnection}
 use Rattle.connection.proofs.ConnectionLaws.{stored-good}
 use Rattle.registry.specs.Registry.{registrySize}
 use Rattle.registry.specs.WellFormed.{wellFormedRegistry}
-use Rattle.registry.specs.Roster.{Roster, applications, faulty, rosterOf, RosterOutcome, rosterInto, loadRoster}
-use Rattle.registry.specs.declared.RosterFault.{RosterFault}
-use Rattle.registry.specs.declared.roster.Loaded.{Loaded}
-use Rattle.registry.specs.declared.roster.Loaded.the-variants as loaded
-use Rattle.registry.proofs.RosterLaws.{roster-legal, registry-good}
+use Rattle.registry.proofs.KeylessLaws.{registry-good}
+use Rattle.roster.specs.Roster.{Roster, applications, faulty, rosterOf, RosterOutcome, rosterInto, loadRoster}
+use Rattle.roster.specs.declared.RosterFault.{RosterFault}
+use Rattle.roster.specs.declared.Loaded.{Loaded}
+use Rattle.roster.specs.declared.Loaded.the-variants as loaded
+use Rattle.roster.proofs.RosterLaws.{roster-legal}
 use Rattle.judgement.specs.Judgement.{judgement}
 use Rattle.counters.specs.Counters.{largestCount}
 use Rattle.service.specs.Call.{Memory, memoryOf}

@@ -7,8 +7,8 @@ use mathlib.Core.Option.{Option}
 use mathlib.Core.List.{List}
 use lib.ListN.{length, take}
 use Rattle.registry.specs.Registry.{registryOf}
-use Rattle.registry.specs.Roster.{applications, faulty, rosterOf}
-use Rattle.registry.specs.declared.RosterFault.{RosterFault}
+use Rattle.roster.specs.Roster.{applications, faulty, rosterOf}
+use Rattle.roster.specs.declared.RosterFault.{RosterFault}
 use Rattle.service.specs.Call.{Memory}
 use Rattle.billing.specs.Outcome.{billIn}
 use Rattle.service.specs.Bill.{refusedRoster, noFile, bill}

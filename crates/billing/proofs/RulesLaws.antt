@@ -13,9 +13,10 @@ use Rattle.stream.specs.Calls.{Call, takenStream}
 use Rattle.stream.proofs.KeptLaws.{rules-connection}
 use Rattle.stream.proofs.CallsLaws.{Lawful}
 use Rattle.registry.specs.Registry.{lineCount, applicationNameMost, namesIn, registryOf}
-use Rattle.registry.specs.Roster.{applications, rosterOf}
 use Rattle.registry.proofs.NameLaws.{legal-some}
-use Rattle.registry.proofs.RosterLaws.{isLegal, LegalNames, roster-legal, registry-names, registry-good}
+use Rattle.registry.proofs.KeylessLaws.{isLegal, LegalNames, registry-names, registry-good}
+use Rattle.roster.specs.Roster.{applications, rosterOf}
+use Rattle.roster.proofs.RosterLaws.{roster-legal}
 use Rattle.judgement.specs.Judgement.{judgement}
 use Rattle.judgement.proofs.NamesLaws.{rules-names}
 use Rattle.service.specs.Call.{memoryOf, layout, fresh}

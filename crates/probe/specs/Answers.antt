@@ -12,13 +12,13 @@ use Rattle.registry.specs.Slots.{Key, Entry, free, keyNameMost, dataMost, flag}
 use Rattle.registry.specs.Registry.{lineCount, slotCount, registrySize, applicationNamed, slotNamed, slotsOf, changed, fill, clear}
 use Rattle.registry.specs.WellFormed.{wellFormedRegistry}
 use Rattle.registry.specs.Check.{applicationFound, bytesIn, exportIn}
-use Rattle.registry.specs.Roster.{faultNumber}
-use Rattle.registry.specs.declared.roster.Loaded.{Loaded}
-use Rattle.registry.specs.declared.roster.Loaded.the-variants.{Good, Faulty}
 use Rattle.registry.specs.declared.Application.{Application}
 use Rattle.registry.specs.declared.Application.the-variants.{Named, Unknown}
 use Rattle.registry.specs.declared.Found.{Found}
 use Rattle.registry.specs.declared.Found.the-variants.{At, Nothing}
+use Rattle.roster.specs.Roster.{faultNumber}
+use Rattle.roster.specs.declared.Loaded.{Loaded}
+use Rattle.roster.specs.declared.Loaded.the-variants.{Good, Faulty}
 use Rattle.connection.specs.declared.change.Opened.{Opened}
 use Rattle.connection.specs.declared.change.Opened.the-variants.{Fresh, WrongSize}
 

@@ -16,17 +16,17 @@ use registry::find::find_application;
 use registry::find::find_slot;
 use registry::key::is_exportable;
 use registry::key::key_data;
-use registry::roster::Loaded;
-use registry::roster::fault_number;
-use registry::roster::load_roster;
+use roster::Loaded;
+use roster::load::fault_number;
+use roster::load::load_roster;
 use wire::bytes::copy_into;
 ghost use mathlib.Core.Path.{_≡_};
 ghost use mathlib.Core.Bool.{_&&_};
 ghost use lib.ListN.{length};
 ghost use lib.Dec.{leb};
 ghost use Rattle.registry.specs.WellFormed.{wellFormedRegistry};
-ghost use Rattle.registry.specs.Roster.{loadRoster};
 ghost use Rattle.registry.specs.Check.{keyFrom};
+ghost use Rattle.roster.specs.Roster.{loadRoster};
 ghost use Rattle.probe.specs.Answers.{WroteIf, ChangedIf, lineFound, slotFound, isClearable, cleared, isFillable, filled, isReadable, dataAt, exportable, loadedNumber};
 
 #[no_mangle]

@@ -2,11 +2,10 @@ pub mod NameLaws
 pub mod SlotLaws
 pub mod RegistryLaws
 pub mod WellFormedLaws
-pub mod RosterLaws
+pub mod KeylessLaws
 pub mod ChangeLaws
 pub mod BlockNameLaws
 pub mod CheckLaws
 pub mod FindLaws
 pub mod KeyLaws
-pub mod LoadLaws
 pub mod WrittenLaws

@@ -4,7 +4,6 @@ pub mod check;
 pub mod find;
 pub mod key;
 pub mod names;
-pub mod roster;
 pub mod slots;
 
 pub const KEY_NAME_MOST: usize = 32;
@@ -58,14 +57,4 @@ pub enum Found {
 pub enum Application {
     Named(Line),
     Unknown,
-}
-
-// Why a roster file is refused: R0 to R5.
-pub enum RosterFault {
-    WrongMemorySize,
-    CutRecord,
-    UnknownTag,
-    BadName,
-    NinthName,
-    RepeatedName,
 }

@@ -18,7 +18,7 @@ use Rattle.protobuf.specs.Written.{varintWithin, varint, numberField, bytesFiel
 use Rattle.registry.specs.Names.{legalName, indexFrom}
 use Rattle.registry.specs.Slots.{Entry, free, held, legalData, legalBits, keyBytes, slotBytes, slotOf}
 use Rattle.registry.specs.Registry.{applicationNamed, slotsOf, slotNamed, changed, lineOf, registryOf}
-use Rattle.registry.specs.Roster.{faultNumber, recordFaults, Roster, applications, faulty, recordTurn, rosterOf}
+use Rattle.roster.specs.Roster.{faultNumber, recordFaults, Roster, applications, faulty, recordTurn, rosterOf}
 use Rattle.stream.specs.Frame.{legalStart, oversized, next}
 use Rattle.stream.specs.Rules.{Outcome, heldBytes, answer, finish, judge, rulesWithin, rulesFrom, start, rules}
 use Rattle.judgement.specs.Status.{statusNumber}

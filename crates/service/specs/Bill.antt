@@ -7,8 +7,8 @@ use lib.Dec.{ltb, eqb}
 use Rattle.wire.specs.Choice.{if_then_else_}
 use Rattle.stream.specs.Rules.{heldBytes, State, rules}
 use Rattle.registry.specs.Registry.{registryOf}
-use Rattle.registry.specs.Roster.{faultNumber, Roster, applications, faulty, rosterOf}
-use Rattle.registry.specs.declared.RosterFault.{RosterFault}
+use Rattle.roster.specs.Roster.{faultNumber, Roster, applications, faulty, rosterOf}
+use Rattle.roster.specs.declared.RosterFault.{RosterFault}
 use Rattle.judgement.specs.Status.{statusNumber, refusedStatuses}
 use Rattle.judgement.specs.Counts.{Counts}
 use Rattle.judgement.specs.Judgement.{judgement}

@@ -2,9 +2,9 @@
 use Prim.Native.Nat.{ℕ, _≤_}
 use native.Mathlib.Omega.{arith}
 use mathlib.Core.Path.{_≡_, ap}
-use Rattle.registry.specs.Roster.{faultNumber}
-use Rattle.registry.specs.declared.RosterFault.{RosterFault}
-use Rattle.registry.proofs.RosterLaws.{fault-small}
+use Rattle.roster.specs.Roster.{faultNumber}
+use Rattle.roster.specs.declared.RosterFault.{RosterFault}
+use Rattle.roster.proofs.RosterLaws.{fault-small}
 use Rattle.abi.specs.Numbers.{loadedNumber, loadedWith}
 use borrow.Author.Needs.{needs}
 use Rattle.abi.proofs.razidkot_load_roster.Statement.{statement}

@@ -2,7 +2,7 @@
 use mathlib.Core.Path.{sym, subst}
 use native.Mathlib.Omega.{arith}
 use lib.Seq.{length-take-le}
-use Rattle.registry.specs.declared.roster.Loaded.{Loaded}
+use Rattle.roster.specs.declared.Loaded.{Loaded}
 use Rattle.bill.specs.Printed.{SourceOf}
 use Rattle.bill.proofs.FeedLaws.{kept-bytes}
 use Rattle.bill.proofs.PrintLaws.{sourceFor, source-of}

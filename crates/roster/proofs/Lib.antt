@@ -1,0 +1,2 @@
+pub mod RosterLaws
+pub mod LoadLaws

@@ -1,0 +1,234 @@
+-- Laws of loading a roster file as the code does it: whole records, their faults, one turn of the scan, names kept by place, and
+-- lines written one after another.
+use mathlib.Core.Path.{_≡_, refl, sym, ap, _∙_}
+use mathlib.Core.Bool.{Bool, true, false, not, _||_, or-true}
+use mathlib.Core.Option.{Option, none, some}
+use mathlib.Core.List.{List, [], _∷_, _++_, map, flatten, map-append, append-assoc, append-nil}
+use Prim.Native.Nat.{ℕ, _+_, _-_, _*_, _≤_, _<_}
+use native.Mathlib.Numerals.{add-one}
+use native.Mathlib.Omega.{arith}
+use borrow.Author.Tests.{lt-ltb, le-ltb, ltb-false, leb-false, not-true}
+use borrow.Rule.Slice.PartMut.{putMid}
+use lib.Dec.{leb, ltb, eqb}
+use lib.ListN.{length, take, drop, getD, set, replicate, length-map, length-set, drop-of-length-le, replicate-append-replicate}
+use lib.Seq.{length-take-le, take-suc, take-suc-set, getD-take}
+use Rattle.wire.specs.Choice.{firstOf}
+use Rattle.wire.specs.Lists.{all, padded}
+use Rattle.wire.specs.Numbers.{field}
+use Rattle.wire.specs.Scan.{follow, scanAt}
+use Rattle.wire.proofs.TestLaws.{or-right, not-across, none-at}
+use Rattle.wire.proofs.ListLaws.{all-at, all-append, all-take, map-at}
+use Rattle.wire.proofs.BufferLaws.{lent}
+use Rattle.wire.proofs.BlockLaws.{length-flatten, flatten-snoc}
+use Rattle.wire.proofs.ScanLaws.{TurnAhead, scan-end, scan-on}
+use Rattle.registry.specs.Names.{legalName, isNew}
+use Rattle.registry.specs.Slots.{slotSize}
+use Rattle.registry.specs.Registry.{applicationNameMost, lineCount, slotCount, lineSize, lineOf}
+use Rattle.registry.proofs.KeylessLaws.{isLegal, sized-names}
+use Rattle.roster.specs.Roster.{recordLength, valueIn, recordFaults, Roster, applications, faulty, recordTurn, rosterOf}
+use Rattle.roster.specs.Check.{loadedOf, isWhole, namesAt, withName, Within, rosterIn, RosterKnown}
+use Rattle.roster.specs.declared.RosterFault.{RosterFault}
+use Rattle.roster.specs.declared.RosterFault.the-variants.{CutRecord, UnknownTag, BadName, NinthName, RepeatedName}
+use Rattle.roster.specs.declared.Loaded.the-variants.{Good, Faulty}
+use Rattle.roster.specs.declared.records.Names.{Names}
+use Rattle.roster.specs.declared.load.Checked.{Checked}
+
+-- ---- a whole record
+
+module _ (bytes : List ℕ) where
+  pub whole-short : length bytes < 3 → isWhole bytes ≡ false
+  unfolding isWhole
+  whole-short h = rw (lt-ltb _ _ h)
+
+  pub whole-cut : length bytes < recordLength bytes → isWhole bytes ≡ false
+  unfolding isWhole
+  whole-cut h = rw (lt-ltb _ _ h, or-true)
+
+  pub whole-fit : recordLength bytes ≤ length bytes → isWhole bytes ≡ true
+  unfolding isWhole
+  whole-fit h =
+      let three : 3 ≤ length bytes = omega arith in
+      rw (le-ltb _ _ three, le-ltb _ _ h)
+
+  pub whole-room : isWhole bytes ≡ true → recordLength bytes ≤ length bytes
+  unfolding isWhole
+  whole-room e =
+      let short : Bool = ltb (length bytes) 3 in
+      let cut : Bool = ltb (length bytes) (recordLength bytes) in
+      ltb-false _ _ (or-right short cut (not-true (short || cut) e))
+
+  pub cut-test : {t : Bool} → isWhole bytes ≡ t → ltb (length bytes) 3 || ltb (length bytes) (recordLength bytes) ≡ not t
+  unfolding isWhole
+  cut-test {t} e = not-across _ t e
+
+-- ---- the first fault of a record
+
+module _ (names : List (List ℕ)) (bytes : List ℕ) where
+  pub fault-cut : isWhole bytes ≡ false → firstOf (recordFaults names bytes) ≡ some CutRecord
+  unfolding recordFaults firstOf
+  fault-cut whole = rw (cut-test bytes whole)
+
+  module _ (whole : isWhole bytes ≡ true) where
+    pub fault-tag : eqb (field 0 1 bytes) 1 ≡ false → firstOf (recordFaults names bytes) ≡ some UnknownTag
+    unfolding recordFaults firstOf
+    fault-tag tag = rw (cut-test bytes whole, tag)
+
+    module _ (tag : eqb (field 0 1 bytes) 1 ≡ true) where
+      pub fault-name : legalName applicationNameMost (valueIn bytes) ≡ false → firstOf (recordFaults names bytes) ≡ some BadName
+      unfolding recordFaults firstOf
+      fault-name legal = rw (cut-test bytes whole, tag, legal)
+
+      module _ (legal : legalName applicationNameMost (valueIn bytes) ≡ true) where
+        pub fault-ninth : leb lineCount (length names) ≡ true → firstOf (recordFaults names bytes) ≡ some NinthName
+        unfolding recordFaults firstOf
+        fault-ninth ninth = rw (cut-test bytes whole, tag, legal, ninth)
+
+        pub fault-repeated : leb lineCount (length names) ≡ false → isNew (valueIn bytes) names ≡ false → firstOf (recordFaults names bytes) ≡ some RepeatedName
+        unfolding recordFaults firstOf
+        fault-repeated ninth repeated = rw (cut-test bytes whole, tag, legal, ninth, repeated)
+
+        pub fault-none : leb lineCount (length names) ≡ false → isNew (valueIn bytes) names ≡ true → firstOf (recordFaults names bytes) ≡ none
+        unfolding recordFaults firstOf
+        fault-none ninth repeated = rw (cut-test bytes whole, tag, legal, ninth, repeated)
+
+  -- a record without a fault is whole, and there is room for its name
+  module _ (e : firstOf (recordFaults names bytes) ≡ none) where
+    pub passed-whole : isWhole bytes ≡ true
+    unfolding recordFaults isWhole
+    passed-whole = ap not (none-at (recordFaults names bytes) 0 CutRecord e)
+
+    pub passed-room : length names < lineCount
+    unfolding recordFaults
+    passed-room = leb-false _ _ (none-at (recordFaults names bytes) 3 NinthName e)
+
+pub loaded-good : (o : Option RosterFault) → loadedOf o ≡ Good → o ≡ none
+unfolding loadedOf
+loaded-good none e = refl
+loaded-good (some fault) e = cc
+
+pub loaded-faulty : (o : Option RosterFault) (fault : RosterFault) → loadedOf o ≡ Faulty fault → o ≡ some fault
+unfolding loadedOf
+loaded-faulty none fault e = cc
+loaded-faulty (some f) fault e = cc
+
+-- ---- one turn of the scan
+
+-- what the records from `at` on give, behind these names
+abbrev pub rosterFrom : (file : List ℕ) (at : ℕ) (names : List (List ℕ)) → Roster
+rosterFrom file at names = scanAt (λ at names. recordTurn names at (drop at file)) applications (length file) at names
+
+module _ (file : List ℕ) where
+  turn-ahead : (at : ℕ) (names : List (List ℕ)) → TurnAhead at (recordTurn names at (drop at file))
+  unfolding recordTurn
+  turn-ahead at names = go (firstOf (recordFaults names (drop at file))) refl
+    where
+      go : (o : Option RosterFault) → firstOf (recordFaults names (drop at file)) ≡ o → TurnAhead at (recordTurn names at (drop at file))
+      go (some fault) e = rw (e, recordTurn) tt
+      go none e = rw (e, recordTurn) (omega arith)
+
+  module _ (at : ℕ) (names : List (List ℕ)) where
+    pub roster-end : length file ≤ at → rosterFrom file at names ≡ applications names
+    roster-end h = scan-end (λ at names. recordTurn names at (drop at file)) applications (length file) at names h
+
+    next : at < length file → rosterFrom file at names ≡ follow (recordTurn names at (drop at file)) (rosterFrom file)
+    next h = scan-on (λ at names. recordTurn names at (drop at file)) applications (length file) turn-ahead at names h
+
+    pub roster-fault : (fault : RosterFault) → at < length file → firstOf (recordFaults names (drop at file)) ≡ some fault → rosterFrom file at names ≡ faulty fault
+    unfolding recordTurn
+    roster-fault fault h e = next h ∙ rw (e, recordTurn)
+
+    pub roster-on : at < length file → firstOf (recordFaults names (drop at file)) ≡ none
+        → rosterFrom file at names ≡ rosterFrom file (at + recordLength (drop at file)) (names ++ (valueIn (drop at file) ∷ []))
+    unfolding recordTurn
+    roster-on h e = next h ∙ rw (e, recordTurn)
+
+-- ---- the names kept by place
+
+module _ (file : List ℕ) (names : Names) (w : Within file names) where
+  places-many : length (take (names .count) (names .starts)) ≡ names .count
+  places-many = length-take-le (names .count) (names .starts) (omega (arith, w .few, w .places))
+
+  pub names-many : length (namesAt file names) ≡ names .count
+  unfolding namesAt
+  names-many = length-map (take (names .count) (names .starts)) (λ at. valueIn (drop at file)) ∙ places-many
+
+  module _ (i : ℕ) (h : i < names .count) where
+    there : i < length (take (names .count) (names .starts))
+    there = rw places-many h
+
+    pub place-whole : isWhole (drop (getD (names .starts) i 0) file) ≡ true
+    place-whole =
+        rw (← getD-take (names .count) (names .starts) i 0 h)
+        (all-at (λ at. isWhole (drop at file)) 0 (take (names .count) (names .starts)) i there (w .whole))
+
+    pub name-there : getD (namesAt file names) i [] ≡ valueIn (drop (getD (names .starts) i 0) file)
+    unfolding namesAt
+    name-there =
+        map-at (λ at. valueIn (drop at file)) (take (names .count) (names .starts)) i 0 [] there
+        ∙ ap (λ (at : ℕ). valueIn (drop at file)) (getD-take (names .count) (names .starts) i 0 h)
+
+  -- one name more
+  module _ (at : ℕ) (room : names .count < lineCount) where
+    places-more : take (names .count + 1) (withName names at .starts) ≡ take (names .count) (names .starts) ++ (at ∷ [])
+    unfolding withName
+    places-more =
+        let h : names .count < length (names .starts) = omega (arith, w .places) in
+        rw (add-one, take-suc-set (names .starts) (names .count) at h)
+
+    pub names-more : namesAt file (withName names at) ≡ namesAt file names ++ (valueIn (drop at file) ∷ [])
+    unfolding namesAt withName
+    names-more = ap (map (λ at. valueIn (drop at file))) places-more ∙ map-append (λ at. valueIn (drop at file)) (take (names .count) (names .starts)) (at ∷ [])
+
+    pub within-more : isWhole (drop at file) ≡ true → Within file (withName names at)
+    unfolding withName
+    within-more e = record {
+      few = omega arith;
+      places = length-set (names .starts) (names .count) at ∙ w .places;
+      whole = ap (all (λ at. isWhole (drop at file))) places-more
+          ∙ all-append (λ at. isWhole (drop at file)) (take (names .count) (names .starts)) (at ∷ []) (w .whole) (rw e);
+    }
+
+-- ---- lines written one after another
+
+-- zeros behind the name, up to the line's end
+line-padded : (name : List ℕ) → length name ≤ applicationNameMost → lineOf name ≡ length name ∷ padded (lineSize - 1) name
+unfolding lineOf
+line-padded name h =
+    let n : ℕ = applicationNameMost - length name in
+    let e : n + slotCount * slotSize ≡ lineSize - 1 - length name = omega arith in
+    ap (λ (r : List ℕ). length name ∷ r)
+    (append-assoc name (replicate n 0) (replicate (slotCount * slotSize) 0)
+    ∙ ap (λ (r : List ℕ). name ++ r) (replicate-append-replicate n (slotCount * slotSize) 0 ∙ ap (λ (k : ℕ). replicate k 0) e))
+
+-- the length of the name at a line's front, and the name and zeros over the part behind it
+pub line-written : (l m name : List ℕ) (x : ℕ) → length l ≡ lineSize → length name ≤ applicationNameMost → x ≡ length name
+    → m ≡ padded (length (take (length (set l 0 x) - 1) (drop 1 (set l 0 x)))) name → putMid 1 (length (set l 0 x) - 1) (set l 0 x) m ≡ lineOf name
+line-written [] m name x long short e q = absurd (omega arith)
+line-written (y ∷ l) m name x long short e q =
+    let size : length l ≡ lineSize - 1 = omega arith in
+    let none : drop (length (x ∷ l) - 1) l ≡ [] = drop-of-length-le l (let h : length l ≤ length (x ∷ l) - 1 = omega arith in h) in
+    rw (none, append-nil, q, lent 1 (x ∷ l), size, e, line-padded name short)
+
+-- the lines of the first i names
+abbrev pub linesOf : (names : List (List ℕ)) (i : ℕ) → List ℕ
+linesOf names i = flatten (map lineOf (take i names))
+
+module _ (names : List (List ℕ)) (i : ℕ) where
+  pub lines-more : i < length names → linesOf names (i + 1) ≡ linesOf names i ++ lineOf (getD names i [])
+  lines-more h = rw (add-one, take-suc names i [] h, map-append, flatten-snoc)
+
+  pub lines-long : all isLegal names ≡ true → i ≤ length names → length (linesOf names i) ≡ i * lineSize
+  lines-long legal h =
+      length-flatten lineSize (map lineOf (take i names)) (sized-names (take i names) (all-take isLegal i names legal))
+      ∙ ap (λ (n : ℕ). n * lineSize) (length-map (take i names) lineOf ∙ length-take-le i names h)
+
+-- ---- a checked file
+
+module _ (file : List ℕ) (checked : Checked) (k : RosterKnown file checked) where
+  pub known-good : checked .loaded ≡ Good → rosterOf file ≡ applications (namesAt file (checked .names))
+  unfolding rosterIn
+  known-good e = sym (k .roster) ∙ rw (rosterIn, e)
+
+  pub known-faulty : (fault : RosterFault) → checked .loaded ≡ Faulty fault → rosterOf file ≡ faulty fault
+  unfolding rosterIn
+  known-faulty fault e = sym (k .roster) ∙ rw (rosterIn, e)

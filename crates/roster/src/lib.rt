@@ -1,0 +1,20 @@
+// The roster file ("Roster, registry, connection, tally"): `records` says what is wrong with a record, `load` reads a whole
+// file into memory lent for the registry.
+pub mod load;
+mod records;
+
+// Why a roster file is refused: R0 to R5.
+pub enum RosterFault {
+    WrongMemorySize,
+    CutRecord,
+    UnknownTag,
+    BadName,
+    NinthName,
+    RepeatedName,
+}
+
+// What loading a roster file gives.
+pub enum Loaded {
+    Good,
+    Faulty(RosterFault),
+}
