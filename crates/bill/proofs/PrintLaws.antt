@@ -27,7 +27,7 @@ use Rattle.roster.proofs.RosterLaws.{roster-legal}
 use Rattle.judgement.specs.Judgement.{judgement}
 use Rattle.counters.specs.Counters.{largestCount}
 use Rattle.service.specs.Call.{Memory, memoryOf}
-use Rattle.service.specs.Bill.{noFile, billFor, bill}
+use Rattle.billing.specs.Bill.{noFile, billFor, bill}
 use Rattle.service.proofs.KeptLaws.{keeps}
 use Rattle.billing.specs.Outcome.{billMost, billIn, refusalTests, BillOutcome, outcomeOf, billOutcome}
 use Rattle.billing.specs.declared.Billed.{Billed}

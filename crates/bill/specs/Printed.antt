@@ -11,7 +11,7 @@ use Rattle.roster.specs.Roster.{applications, faulty, rosterOf}
 use Rattle.roster.specs.declared.RosterFault.{RosterFault}
 use Rattle.service.specs.Call.{Memory}
 use Rattle.billing.specs.Outcome.{billIn}
-use Rattle.service.specs.Bill.{refusedRoster, noFile, bill}
+use Rattle.billing.specs.Bill.{refusedRoster, noFile, bill}
 use Rattle.bill.specs.declared.text.Source.{Source}
 use Rattle.bill.specs.declared.text.Source.the-variants.{Good, Faulty, Unreadable}
 

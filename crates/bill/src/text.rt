@@ -24,7 +24,7 @@ ghost use Rattle.connection.specs.Connection.{wellFormedConnection};
 ghost use Rattle.registry.specs.WellFormed.{wellFormedRegistry};
 ghost use Rattle.registry.specs.Registry.{registrySize};
 ghost use Rattle.service.specs.Called.{lentMemory};
-ghost use Rattle.service.specs.Bill.{noFile};
+ghost use Rattle.billing.specs.Bill.{noFile};
 ghost use Rattle.billing.specs.Outcome.{billMost};
 ghost use Rattle.bill.specs.Printed.{faultyText, takenText, Started, SourceOf, Prints};
 

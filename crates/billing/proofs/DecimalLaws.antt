@@ -9,7 +9,7 @@ use borrow.Author.Tests.{lt-ltb, le-ltb, ltb-true, ltb-false}
 use lib.ListN.{length, take, drop, set, length-set, length-drop}
 use lib.Seq.{drop-cons, drop-length, drop-set-lt, getD-set-same, take-all}
 use lib.Dec.{ltb}
-use Rattle.service.specs.Bill.{digitsBefore, decimal}
+use Rattle.billing.specs.Bill.{digitsBefore, decimal}
 use Rattle.billing.specs.Text.{digitsMost}
 
 -- ---- the digits, by the last

@@ -1,3 +1,6 @@
+pub mod Cases
+pub mod Stars
+pub mod Beyond
 pub mod PlacedLaws
 pub mod DecimalLaws
 pub mod LineLaws

@@ -23,8 +23,8 @@ use Rattle.registry.proofs.WellFormedLaws.{good-of}
 use Rattle.registry.proofs.BlockNameLaws.{blockAt, fits, length-names, names-cons, name-at, name-length}
 use Rattle.judgement.specs.Status.{statusNumber, refusedStatuses}
 use Rattle.judgement.specs.declared.Status.the-variants.{Success}
-use Rattle.service.specs.Text.{ascii}
-use Rattle.service.specs.Bill.{decimal, textLine, applicationLines, refusedLines}
+use Rattle.billing.specs.Ascii.{ascii}
+use Rattle.billing.specs.Bill.{decimal, textLine, applicationLines, refusedLines}
 use Rattle.billing.specs.Text.{usedNames, refusedLine}
 
 -- ---- the applications

@@ -20,9 +20,9 @@ use Rattle.roster.proofs.RosterLaws.{roster-legal}
 use Rattle.judgement.specs.Judgement.{judgement}
 use Rattle.judgement.proofs.NamesLaws.{rules-names}
 use Rattle.service.specs.Call.{memoryOf, layout, fresh}
-use Rattle.service.specs.Bill.{billOf, billFor}
 use Rattle.service.proofs.Demand3.{lawful}
 use Rattle.service.proofs.CodeDemand3.{Ran, Runs, answersIn, leftAfter, code-demand3}
+use Rattle.billing.specs.Bill.{billOf, billFor}
 use Rattle.billing.specs.Text.{usedNames}
 use Rattle.billing.specs.Outcome.{billIn}
 

@@ -11,7 +11,7 @@ use Rattle.connection.specs.Connection.{wellFormedConnection}
 use Rattle.registry.specs.Registry.{namesIn}
 use Rattle.registry.specs.WellFormed.{wellFormedRegistry}
 use Rattle.service.specs.Call.{Memory, stateIn}
-use Rattle.service.specs.Bill.{billOf}
+use Rattle.billing.specs.Bill.{billOf}
 use Rattle.billing.specs.Text.{usedNames}
 use Rattle.billing.specs.declared.Billed.{Billed}
 use Rattle.billing.specs.declared.Billed.the-variants.{Written, BufferTooSmall, ConnectionIllFormed, RegistryIllFormed}

@@ -7,8 +7,8 @@ use lib.Dec.{eqb}
 use Rattle.wire.specs.Choice.{if_then_else_}
 use Rattle.wire.specs.Lists.{put}
 use Rattle.registry.specs.Registry.{applicationNameMost}
-use Rattle.service.specs.Text.{ascii}
-use Rattle.service.specs.Bill.{decimal, textLine}
+use Rattle.billing.specs.Ascii.{ascii}
+use Rattle.billing.specs.Bill.{decimal, textLine}
 
 -- ---- the longest texts
 

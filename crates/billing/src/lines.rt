@@ -15,8 +15,8 @@ ghost use lib.ListN.{length};
 ghost use Rattle.registry.specs.Registry.{lineCount, applicationNameMost, namesIn};
 ghost use Rattle.registry.specs.WellFormed.{wellFormedRegistry};
 ghost use Rattle.judgement.specs.Status.{refusedStatuses, refusedCount};
-ghost use Rattle.service.specs.Text.{ascii};
-ghost use Rattle.service.specs.Bill.{decimal, textLine, applicationLines, refusedLines};
+ghost use Rattle.billing.specs.Ascii.{ascii};
+ghost use Rattle.billing.specs.Bill.{decimal, textLine, applicationLines, refusedLines};
 ghost use Rattle.billing.specs.Text.{wordMost, countLineMost, applicationLineMost, refusedLineMost, Placed, refusedLine, usedNames};
 
 // A line of a word and a number.

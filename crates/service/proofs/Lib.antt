@@ -1,6 +1,3 @@
-pub mod Cases
-pub mod Stars
-pub mod Beyond
 pub mod KeptLaws
 pub mod CallLaws
 pub mod CountedLaws

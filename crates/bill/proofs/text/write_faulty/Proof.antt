@@ -1,7 +1,7 @@
 -- `bill::text::write_faulty` meets its contract.
 use borrow.Author.Tests.{not-true, not-false}
-use Rattle.service.specs.Text.{ascii}
-use Rattle.service.specs.Bill.{textLine, refusedRoster}
+use Rattle.billing.specs.Ascii.{ascii}
+use Rattle.billing.specs.Bill.{textLine, refusedRoster}
 use Rattle.billing.proofs.PlacedLaws.{placed-on, placed-front}
 use Rattle.bill.specs.Printed.{faultyText}
 use borrow.Author.Needs.{needs}

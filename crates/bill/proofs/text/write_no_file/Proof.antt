@@ -1,6 +1,6 @@
 -- `bill::text::write_no_file` meets its contract.
-use Rattle.service.specs.Text.{ascii}
-use Rattle.service.specs.Bill.{textLine, noFile}
+use Rattle.billing.specs.Ascii.{ascii}
+use Rattle.billing.specs.Bill.{textLine, noFile}
 use Rattle.billing.proofs.PlacedLaws.{placed-front}
 use borrow.Author.Needs.{needs}
 use Rattle.bill.proofs.text.write_no_file.Statement.{statement}

@@ -1,8 +1,8 @@
 -- `billing::lines::write_application` meets its contract.
 use native.Mathlib.Omega.{arith}
 use borrow.Author.Needs.{needs}
-use Rattle.service.specs.Text.{ascii}
-use Rattle.service.specs.Bill.{textLine}
+use Rattle.billing.specs.Ascii.{ascii}
+use Rattle.billing.specs.Bill.{textLine}
 use Rattle.billing.proofs.PlacedLaws.{placed-on}
 use Rattle.billing.proofs.lines.write_application.Statement.{statement}
 use Rattle.billing.proofs.lines.write_application.Tie as tie

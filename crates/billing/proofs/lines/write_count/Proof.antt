@@ -1,6 +1,6 @@
 -- `billing::lines::write_count` meets its contract.
 use borrow.Author.Needs.{needs}
-use Rattle.service.specs.Bill.{textLine}
+use Rattle.billing.specs.Bill.{textLine}
 use Rattle.billing.proofs.PlacedLaws.{placed-on}
 use Rattle.billing.proofs.lines.write_count.Statement.{statement}
 use Rattle.billing.proofs.lines.write_count.Tie as tie

@@ -4,10 +4,10 @@ use native.Mathlib.Omega.{arith}
 use borrow.Author.Needs.{needs}
 use Rattle.registry.specs.Registry.{lineCount}
 use Rattle.judgement.specs.Status.{refusedCount}
-use Rattle.service.specs.Text.{ascii}
 use Rattle.counters.specs.Counters.{totalsOf}
 use Rattle.service.specs.Call.{stateIn}
-use Rattle.service.specs.Bill.{billOf}
+use Rattle.billing.specs.Ascii.{ascii}
+use Rattle.billing.specs.Bill.{billOf}
 use Rattle.billing.specs.Text.{countLineMost, applicationLineMost, refusedLineMost}
 use Rattle.billing.specs.Outcome.{billIn}
 use Rattle.billing.proofs.PlacedLaws.{placed-on, placed-front}

@@ -25,8 +25,8 @@ use Rattle.judgement.specs.Status.{statusNumber}
 use Rattle.judgement.specs.Operations.{opcodesOf, readBody, operationOf, success, refuse, importBits, importable, performImport, performDestroy, exportOf, performExport, performListOpcodes, perform, operated}
 use Rattle.judgement.specs.Counts.{Counts, noCounts, increment, indexOf, countRefused, countServed, count}
 use Rattle.judgement.specs.Judgement.{applicationOf, refusals, askersSlots, resultOf, changedBy, verdictOf, refusedEarly, oversizedStatus, judgement}
-use Rattle.service.specs.Text.{ascii}
-use Rattle.service.specs.Bill.{digitsBefore, decimal, textLine, applicationLines, refusedLines, billOf, refusedRoster, billFor, bill}
+use Rattle.billing.specs.Ascii.{ascii}
+use Rattle.billing.specs.Bill.{digitsBefore, decimal, textLine, applicationLines, refusedLines, billOf, refusedRoster, billFor, bill}
 
 -- ---- what a case shows: the responses, the slots of application 0 afterwards, and the bill
 pub record Shown : Type 0 where

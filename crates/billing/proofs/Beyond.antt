@@ -6,8 +6,8 @@ use mathlib.Core.Bool.{true, false}
 use mathlib.Core.List.{List, [], _∷_, _++_}
 use lib.ListN.{length}
 use Rattle.registry.specs.Slots.{free, held}
-use Rattle.service.specs.Text.{ascii}
-use Rattle.service.proofs.Cases.{Case, showing, Holds, AllHold, case-of, longRequest, request, response, key, keyBody, nameBody, imported, allFree}
+use Rattle.billing.specs.Ascii.{ascii}
+use Rattle.billing.proofs.Cases.{Case, showing, Holds, AllHold, case-of, longRequest, request, response, key, keyBody, nameBody, imported, allFree}
 
 -- applications `b` and `c`
 roster-bc : List ℕ

@@ -13,7 +13,7 @@ use Rattle.judgement.specs.Status.{statusNumber, refusedStatuses}
 use Rattle.judgement.specs.Counts.{Counts}
 use Rattle.judgement.specs.Judgement.{judgement}
 use Rattle.judgement.specs.declared.Status.{Status}
-use Rattle.service.specs.Text.{ascii}
+use Rattle.billing.specs.Ascii.{ascii}
 
 -- ---- words and numbers
 
