@@ -5,9 +5,9 @@ use Prim.Native.Nat.{ℕ}
 use mathlib.Core.Bool.{true, false}
 use mathlib.Core.List.{List, [], _∷_, _++_}
 use lib.ListN.{length}
-use Rattle.registry.specs.Slots.{free, held}
+use Rattle.registry.specs.Slots.{held}
 use Rattle.billing.specs.Ascii.{ascii}
-use Rattle.billing.proofs.Cases.{Case, showing, Holds, AllHold, case-of, longRequest, request, response, key, keyBody, nameBody, imported, allFree}
+use Rattle.billing.proofs.Cases.{Case, showing, Holds, AllHold, case-of, longRequest, request, response, key, keyBody, nameBody, imported, holding}
 
 -- applications `b` and `c`
 roster-bc : List ℕ
@@ -34,7 +34,7 @@ exported bytes = response 1 7 0 0 (0x0A ∷ length bytes ∷ bytes)
 case-long-header : Case
 case-long-header = case-of roster-bc (longRequest more 1 1 6 1 (keyBody 0x61) (0x62 ∷ []) ++ exports 0x61 0x62)
     (imported ∷ exported (0xAA ∷ 0xBB ∷ []) ∷ [])
-    (key 0x61 ∷ free ∷ free ∷ free ∷ [])
+    (key 0x61 ∷ [])
     (ascii "taken 81\nline 0 b 2\nline 1 c 0\nopen 0\ndropped 0\nheld 0\n")
 
 -- 1140 is 0x0474
@@ -42,12 +42,12 @@ case-two-keys : Case
 case-two-keys = case-of roster-bc
     (imports 0x61 0x62 ++ (importsOther 0x64 0x62 ++ (importsOther 0x61 0x63 ++ (exports 0x64 0x62 ++ (exports 0x61 0x62 ++ (exports 0x61 0x63 ++ exports 0x64 0x63))))))
     (imported ∷ imported ∷ imported ∷ exported (0xCC ∷ 0xDD ∷ 0xEE ∷ []) ∷ exported (0xAA ∷ 0xBB ∷ []) ∷ exported (0xCC ∷ 0xDD ∷ 0xEE ∷ []) ∷ response 1 7 0x74 0x04 [] ∷ [])
-    (key 0x61 ∷ held (record { name = 0x64 ∷ []; bytes = 0xCC ∷ 0xDD ∷ 0xEE ∷ []; bits = 2048; exportAllowed = true; verifyAllowed = false }) ∷ free ∷ free ∷ [])
+    (key 0x61 ∷ held (record { name = 0x64 ∷ []; bytes = 0xCC ∷ 0xDD ∷ 0xEE ∷ []; bits = 2048; exportAllowed = true; verifyAllowed = false }) ∷ [])
     (ascii "taken 253\nline 0 b 4\nline 1 c 2\nopen 0\nrefused 1140 1\ndropped 0\nheld 0\n")
 
 pub table : List Case
 table = case-long-header ∷ case-two-keys ∷ []
 
 pub beyond : AllHold table
-unfolding table Holds showing case-of longRequest request response key keyBody nameBody imported allFree roster-bc more imports importsOther exports exported case-long-header case-two-keys
+unfolding table Holds showing case-of longRequest request response key keyBody nameBody imported holding roster-bc more imports importsOther exports exported case-long-header case-two-keys
 beyond = (refl, (refl, tt))

@@ -1,10 +1,10 @@
 -- What a case of a table says, and that it is computed from the rules on a whole stream.
 use mathlib.Core.Path.{_≡_}
-use Prim.Native.Nat.{ℕ, _+_}
+use Prim.Native.Nat.{ℕ, _+_, _-_}
 use mathlib.Core.Bool.{true, false}
 use mathlib.Core.Option.{some}
 use mathlib.Core.List.{List, [], _∷_, _++_, flatMap, flatten}
-use lib.ListN.{length}
+use lib.ListN.{length, replicate}
 use Rattle.wire.specs.Choice.{firstOf, isSome}
 use Rattle.wire.specs.Lists.{oneOf}
 use Rattle.wire.specs.Numbers.{littleEndian, littleEndianOf, field}
@@ -17,7 +17,7 @@ use Rattle.protobuf.specs.Message.{withValue, itemOf, stepAt}
 use Rattle.protobuf.specs.Written.{varintWithin, varint, numberField, bytesField, packedField}
 use Rattle.registry.specs.Names.{legalName, indexFrom}
 use Rattle.registry.specs.Slots.{Entry, free, held, legalData, legalBits, keyBytes, slotBytes, slotOf}
-use Rattle.registry.specs.Registry.{applicationNamed, slotsOf, slotNamed, changed, lineOf, registryOf}
+use Rattle.registry.specs.Registry.{slotCount, applicationNamed, slotsOf, slotNamed, changed, lineOf, registryOf}
 use Rattle.roster.specs.Roster.{faultNumber, recordFaults, Roster, applications, faulty, recordTurn, rosterOf}
 use Rattle.stream.specs.Frame.{legalStart, oversized, next}
 use Rattle.stream.specs.Rules.{Outcome, heldBytes, answer, finish, judge, rulesWithin, rulesFrom, start, rules}
@@ -62,9 +62,13 @@ AllHold (c ∷ cs) = Holds c × AllHold cs
 
 -- ---- the cases' parts
 
-unfoldable pub case-of : (roster stream : List ℕ) (responses : List (List ℕ)) (slots : List Entry) (bill : List ℕ) → Case
-case-of roster stream responses slots bill =
-    record { roster = roster; stream = stream; shown = record { responses = responses; slots = slots; bill = bill } }
+-- these keys in the first slots, and the other slots free
+unfoldable pub holding : (keys : List Entry) → List Entry
+holding keys = keys ++ replicate (slotCount - length keys) free
+
+unfoldable pub case-of : (roster stream : List ℕ) (responses : List (List ℕ)) (keys : List Entry) (bill : List ℕ) → Case
+case-of roster stream responses keys bill =
+    record { roster = roster; stream = stream; shown = record { responses = responses; slots = holding keys; bill = bill } }
 
 -- a request with session 0; `more` are the bytes past the 22nd of its header
 unfoldable pub longRequest : (more : List ℕ) (major provider opcode authType : ℕ) (body auth : List ℕ) → List ℕ
@@ -93,6 +97,3 @@ nameBody name = 0x0A ∷ 0x01 ∷ name ∷ []
 
 unfoldable pub imported : List ℕ
 imported = response 1 6 0 0 []
-
-unfoldable pub allFree : List Entry
-allFree = free ∷ free ∷ free ∷ free ∷ []

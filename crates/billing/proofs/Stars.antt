@@ -3,9 +3,8 @@ use mathlib.Core.Path.{refl}
 use Prim.Native.Nat.{ℕ, _+_}
 use mathlib.Core.List.{List, [], _∷_, _++_}
 use lib.ListN.{replicate}
-use Rattle.registry.specs.Slots.{free}
 use Rattle.billing.specs.Ascii.{ascii}
-use Rattle.billing.proofs.Cases.{Case, showing, Holds, AllHold, case-of, longRequest, request, response, key, keyBody, nameBody, imported, allFree}
+use Rattle.billing.proofs.Cases.{Case, showing, Holds, AllHold, case-of, longRequest, request, response, key, keyBody, nameBody, imported, holding}
 
 -- ---- the table
 
@@ -34,38 +33,38 @@ destroys : ℕ → List ℕ
 destroys name = request 1 1 3 1 (nameBody name) (0x62 ∷ [])
 
 case-ping : Case
-case-ping = case-of [] ping (pong ∷ []) allFree (ascii "taken 28\nopen 1\ndropped 0\nheld 0\n")
+case-ping = case-of [] ping (pong ∷ []) [] (ascii "taken 28\nopen 1\ndropped 0\nheld 0\n")
 
 case-providers : Case
-case-providers = case-of [] (request 1 0 8 0 [] []) (response 0 8 0 0 (0x0A ∷ 0x02 ∷ 0x00 ∷ 0x01 ∷ []) ∷ []) allFree
+case-providers = case-of [] (request 1 0 8 0 [] []) (response 0 8 0 0 (0x0A ∷ 0x02 ∷ 0x00 ∷ 0x01 ∷ []) ∷ []) []
     (ascii "taken 28\nopen 1\ndropped 0\nheld 0\n")
 
 case-opcodes-0 : Case
-case-opcodes-0 = case-of [] (request 1 0 9 0 [] []) (response 0 9 0 0 (0x0A ∷ 0x03 ∷ 0x01 ∷ 0x08 ∷ 0x09 ∷ []) ∷ []) allFree
+case-opcodes-0 = case-of [] (request 1 0 9 0 [] []) (response 0 9 0 0 (0x0A ∷ 0x03 ∷ 0x01 ∷ 0x08 ∷ 0x09 ∷ []) ∷ []) []
     (ascii "taken 28\nopen 1\ndropped 0\nheld 0\n")
 
 case-opcodes-1 : Case
-case-opcodes-1 = case-of [] (request 1 0 9 0 (0x08 ∷ 0x01 ∷ []) []) (response 0 9 0 0 (0x0A ∷ 0x03 ∷ 0x03 ∷ 0x06 ∷ 0x07 ∷ []) ∷ []) allFree
+case-opcodes-1 = case-of [] (request 1 0 9 0 (0x08 ∷ 0x01 ∷ []) []) (response 0 9 0 0 (0x0A ∷ 0x03 ∷ 0x03 ∷ 0x06 ∷ 0x07 ∷ []) ∷ []) []
     (ascii "taken 30\nopen 1\ndropped 0\nheld 0\n")
 
 case-import : Case
-case-import = case-of roster-b (imports 0x61) (imported ∷ []) (key 0x61 ∷ free ∷ free ∷ free ∷ [])
+case-import = case-of roster-b (imports 0x61) (imported ∷ []) (key 0x61 ∷ [])
     (ascii "taken 41\nline 0 b 1\nopen 0\ndropped 0\nheld 0\n")
 
 case-bill : Case
-case-bill = case-of [] (ping ++ replicate 6 0xFF) (pong ∷ response 0 0 17 0 [] ∷ []) allFree
+case-bill = case-of [] (ping ++ replicate 6 0xFF) (pong ∷ response 0 0 17 0 [] ∷ []) []
     (ascii "taken 34\nopen 1\nrefused 17 1\ndropped 0\nheld 0\n")
 
 case-oversized : Case
-case-oversized = case-of [] oversizedRequest (response 0 1 20 0 [] ∷ []) allFree
+case-oversized = case-of [] oversizedRequest (response 0 1 20 0 [] ∷ []) []
     (ascii "taken 4382\nopen 0\nrefused 20 1\ndropped 0\nheld 0\n")
 
 case-version : Case
-case-version = case-of [] (request 2 0 0 0 [] []) (response 0 0 4 0 [] ∷ []) allFree
+case-version = case-of [] (request 2 0 0 0 [] []) (response 0 0 4 0 [] ∷ []) []
     (ascii "taken 28\nopen 0\nrefused 4 1\ndropped 0\nheld 0\n")
 
 case-opcode : Case
-case-opcode = case-of [] (request 1 0 0 0 [] []) (response 0 0 9 0 [] ∷ []) allFree
+case-opcode = case-of [] (request 1 0 0 0 [] []) (response 0 0 9 0 [] ∷ []) []
     (ascii "taken 28\nopen 0\nrefused 9 1\ndropped 0\nheld 0\n")
 
 -- 1142 is 0x0476
@@ -92,5 +91,5 @@ table =
 -- ---- the claim
 
 pub stars : AllHold table
-unfolding table Holds showing case-of longRequest request response ping pong oversizedRequest roster-b imports destroys key keyBody nameBody imported allFree case-ping case-providers case-opcodes-0 case-opcodes-1 case-import case-bill case-oversized case-version case-opcode case-fifth case-held
+unfolding table Holds showing case-of longRequest request response ping pong oversizedRequest roster-b imports destroys key keyBody nameBody imported holding case-ping case-providers case-opcodes-0 case-opcodes-1 case-import case-bill case-oversized case-version case-opcode case-fifth case-held
 stars = (refl, (refl, (refl, (refl, (refl, (refl, (refl, (refl, (refl, (refl, (refl, tt)))))))))))
