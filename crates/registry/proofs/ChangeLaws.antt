@@ -14,11 +14,11 @@ use Rattle.registry.specs.declared.Line.{Line}
 use Rattle.registry.specs.declared.Slot.{Slot}
 use Rattle.registry.proofs.SlotLaws.{Legal, key-length, short-name, short-data, slot-back}
 use Rattle.registry.proofs.NameLaws.{legal-some}
-use Rattle.registry.proofs.RegistryLaws.{slot-there}
+use Rattle.registry.proofs.RegistryLaws.{placeOf, slot-there}
 
 -- two slots do not overlap
 apart : (l k l′ k′ : ℕ) → k < slotCount → k′ < slotCount → (l ≡ l′ → k ≡ k′ → ⊥)
-    → (place l′ k′ + slotSize ≤ place l k) ⊎ (place l k + slotSize ≤ place l′ k′)
+    → (placeOf l′ k′ + slotSize ≤ placeOf l k) ⊎ (placeOf l k + slotSize ≤ placeOf l′ k′)
 apart l k l′ k′ h h′ other =
     elim (decLt l′ l) [
       | yes a ↦ inl (omega arith)
@@ -37,7 +37,7 @@ apart l k l′ k′ h h′ other =
 module _ (r : List ℕ) (size : length r ≡ registrySize) (line : Line) (hl : line .0 < lineCount) (slot : Slot) (hk : slot .0 < slotCount)
     (v : List ℕ) (long : length v ≡ slotSize) where
   abbrev at : ℕ
-  at = place (line .0) (slot .0)
+  at = place line slot
 
   within : at + slotSize ≤ length r
   within = omega arith
@@ -52,7 +52,7 @@ module _ (r : List ℕ) (size : length r ≡ registrySize) (line : Line) (hl : l
       → getD (slotsOf (put r at v) line′) (slot′ .0) free ≡ getD (slotsOf r line′) (slot′ .0) free
   others-stay line′ slot′ h′ other =
       let w = within in
-      let at′ : ℕ = place (line′ .0) (slot′ .0) in
+      let at′ : ℕ = place line′ slot′ in
       let same : take slotSize (drop at′ (put r at v)) ≡ take slotSize (drop at′ r) =
       ⊎-elim
       (λ before. part-before r at v at′ slotSize (omega arith) before)

@@ -27,10 +27,10 @@ module _ (registry name : List ℕ) where
     unfolding applicationNamed applicationFound blockNames
     application-missing g = rw (← e, lt-ltb 0 (length name) h, le-ltb n lineCount g)
 
-module _ (registry name : List ℕ) (line : Line) (n : ℕ) (e : n ≡ indexFrom name (blockNames lineHead slotSize slotCount (lineAt registry (line .0))) 0) where
+module _ (registry name : List ℕ) (line : Line) (n : ℕ) (e : n ≡ indexFrom name (blockNames lineHead slotSize slotCount (lineAt registry line)) 0) where
   same-index : indexFrom name (map nameOf (slotsOf registry line)) 0 ≡ n
   unfolding slotsOf blockNames
-  same-index = ap (λ (names : List (List ℕ)). indexFrom name names 0) (slot-names (slotsIn (lineAt registry (line .0)))) ∙ sym e
+  same-index = ap (λ (names : List (List ℕ)). indexFrom name names 0) (slot-names (slotsIn (lineAt registry line))) ∙ sym e
 
   pub slot-found : n < slotCount → slotNamed name (slotsOf registry line) ≡ At (record { 0 = n })
   unfolding slotNamed

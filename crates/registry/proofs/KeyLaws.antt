@@ -55,9 +55,9 @@ module _ (slot : List ℕ) (good : wellFormedSlot slot ≡ true) where
           omega arith
 
 module _ (r : List ℕ) (w : wellFormedRegistry r ≡ true) (line : Line) (hl : line .0 < lineCount) (k : ℕ) (hk : k < slotCount)
-    (inside : place (line .0) k + slotSize ≤ length r) where
+    (inside : place line (record { 0 = k }) + slotSize ≤ length r) where
   abbrev at : ℕ
-  at = place (line .0) k
+  at = place line (record { 0 = k })
 
   abbrev slot : List ℕ
   slot = take slotSize (drop at r)

@@ -63,7 +63,7 @@ named-used registry name line e = go (ltb 0 (length name) && ltb i lineCount) re
 pub length-slots : (registry : List ℕ) (line : Line) → length (slotsOf registry line) ≡ slotCount
 unfolding slotsOf
 length-slots registry line =
-    length-map (slotsIn (lineAt registry (line .0))) slotOf ∙ length-blocks slotSize slotCount (drop lineHead (lineAt registry (line .0)))
+    length-map (slotsIn (lineAt registry line)) slotOf ∙ length-blocks slotSize slotCount (drop lineHead (lineAt registry line))
 
 slotNumber : Found → ℕ
 slotNumber (At slot) = slot .0
@@ -118,18 +118,22 @@ pub slot-names : (bs : List (List ℕ)) → map nameOf (map slotOf bs) ≡ map n
 slot-names [] = refl
 slot-names (b ∷ bs) = λ i. name-of b i ∷ slot-names bs i
 
+-- where a slot begins, by the numbers of its line and itself
+abbrev pub placeOf : (l k : ℕ) → ℕ
+placeOf l k = place (record { 0 = l }) (record { 0 = k })
+
 -- slot k of line l, where it lies in the registry
 pub slot-place : (registry : List ℕ) (l k : ℕ) → k < slotCount
-    → take slotSize (drop (k * slotSize) (drop lineHead (lineAt registry l))) ≡ take slotSize (drop (place l k) registry)
+    → take slotSize (drop (k * slotSize) (drop lineHead (lineAt registry (record { 0 = l })))) ≡ take slotSize (drop (placeOf l k) registry)
 slot-place registry l k h =
-    ap (take slotSize) (drop-drop (k * slotSize) lineHead (lineAt registry l))
+    ap (take slotSize) (drop-drop (k * slotSize) lineHead (lineAt registry (record { 0 = l })))
     ∙ part-of-part slotSize (lineHead + k * slotSize) lineSize (drop (l * lineSize) registry) (omega arith)
     ∙ ap (take slotSize) (drop-drop (lineHead + k * slotSize) (l * lineSize) registry)
 
 pub slot-there : (registry : List ℕ) (line : Line) (k : ℕ) → k < slotCount
-    → getD (slotsOf registry line) k free ≡ slotOf (take slotSize (drop (place (line .0) k) registry))
+    → getD (slotsOf registry line) k free ≡ slotOf (take slotSize (drop (place line (record { 0 = k })) registry))
 unfolding slotsOf
 slot-there registry line k h =
-    let l : List ℕ = lineAt registry (line .0) in
+    let l : List ℕ = lineAt registry line in
     map-at slotOf (slotsIn l) k [] free (rw (length-blocks slotSize slotCount (drop lineHead l)) h)
     ∙ ap slotOf (block-at slotSize slotCount (drop lineHead l) k h ∙ slot-place registry (line .0) k h)

@@ -15,14 +15,14 @@ use Rattle.wire.proofs.PutLaws.{length-put, take-put, drop-put}
 use Rattle.wire.proofs.BlockLaws.{length-blocks, block-at, all-block, zero-blocks, blocks-put, blocks-put-whole}
 use Rattle.registry.specs.Names.{legalName, nameIn, isNew, distinct}
 use Rattle.registry.specs.Slots.{Key, Entry, free, keyBytes, slotBytes, slotOf, slotSize, wellFormedSlot}
-use Rattle.registry.specs.Registry.{lineCount, slotCount, applicationNameMost, lineHead, lineSize, registrySize, linesIn, namesIn, slotsIn, lineAt, slotsOf, slotNamed, Change, unchanged, fill, clear, place, changed}
+use Rattle.registry.specs.Registry.{lineCount, slotCount, applicationNameMost, lineHead, lineSize, registrySize, linesIn, namesIn, slotsIn, lineAt, slotsOf, slotNamed, Change, unchanged, fill, clear, changed}
 use Rattle.registry.specs.WellFormed.{isUsed, noneUsed, usedFirst, legalIfUsed, freeIfUnused, slotsWellFormed, zerosBehindName, keysDistinct, registryTests, wellFormedRegistry}
 use Rattle.registry.specs.declared.Line.{Line}
 use Rattle.registry.specs.declared.Slot.{Slot}
 use Rattle.registry.specs.declared.Found.the-variants.{At, Nothing}
 use Rattle.registry.proofs.NameLaws.{legal-short, lone, lone-absent, Apart, apart-empty, apart-absent, distinct-set, distinct-empty}
 use Rattle.registry.proofs.SlotLaws.{Legal, ShortEntry, entry-short, free-good, key-good, key-length, key-name}
-use Rattle.registry.proofs.RegistryLaws.{Used, found-none, slot-below, slot-names, slot-place}
+use Rattle.registry.proofs.RegistryLaws.{Used, found-none, slot-below, slot-names, placeOf, slot-place}
 
 -- ---- the clauses, one by one
 
@@ -169,7 +169,7 @@ module _ (r : List ℕ) (g : Good r) (l : ℕ) (hl : l < lineCount) where
   many : l < length (linesIn r)
   many = rw (length-blocks lineSize lineCount r) hl
 
-  line-there : line ≡ lineAt r l
+  line-there : line ≡ lineAt r (record { 0 = l })
   line-there = block-at lineSize lineCount r l hl
 
   line-long : length line ≡ lineSize
@@ -202,7 +202,7 @@ module _ (r : List ℕ) (g : Good r) (l : ℕ) (hl : l < lineCount) where
     byte : getD line 0 0 ≤ applicationNameMost
     byte = name-byte line line-long used-line legal-there
 
-    lines-after : linesIn (put r (place l k) v) ≡ set (linesIn r) l line′
+    lines-after : linesIn (put r (placeOf l k) v) ≡ set (linesIn r) l line′
     unfolding line′ written
     lines-after = blocks-put lineSize lineCount r l (lineHead + k * slotSize) v (g .size) hl (omega arith)
 
@@ -214,7 +214,7 @@ module _ (r : List ℕ) (g : Good r) (l : ℕ) (hl : l < lineCount) where
     unfolding line′
     slots-after = slots-written line k v line-long hk e
 
-    names-after : namesIn (put r (place l k) v) ≡ namesIn r
+    names-after : namesIn (put r (placeOf l k) v) ≡ namesIn r
     names-after = ap (map nameIn) lines-after ∙ map-set-same nameIn (linesIn r) l line′ [] name-after
 
     zeros-after : zerosBehindName line′ ≡ true
@@ -226,11 +226,11 @@ module _ (r : List ℕ) (g : Good r) (l : ℕ) (hl : l < lineCount) where
         let u : isUsed (nameIn line′) ≡ true = ap isUsed name-after ∙ used-line in
         ap (λ (t : Bool). t || all (λ slot. all isZero slot) (slotsIn line′)) u
 
-    good-after : Good (put r (place l k) v)
+    good-after : Good (put r (placeOf l k) v)
     good-after =
         let p = g .lines in
         record {
-          size = length-put r (place l k) v (omega (arith, g .size)) ∙ g .size;
+          size = length-put r (placeOf l k) v (omega (arith, g .size)) ∙ g .size;
           named = ap distinct names-after ∙ g .named;
           lines = record {
             first = ap usedFirst names-after ∙ p .first;
@@ -245,7 +245,7 @@ module _ (r : List ℕ) (g : Good r) (l : ℕ) (hl : l < lineCount) where
           };
         }
 
-    kept-after : Good (put r (place l k) v) × (namesIn (put r (place l k) v) ≡ namesIn r)
+    kept-after : Good (put r (placeOf l k) v) × (namesIn (put r (placeOf l k) v) ≡ namesIn r)
     kept-after = (good-after, names-after)
 
 -- ---- the changes that operations make
@@ -264,7 +264,7 @@ module _ (r : List ℕ) (w : wellFormedRegistry r ≡ true) (line : Line) (a : U
   unfolding slotsOf names
   absent-name name e =
       ap (λ (l : List ℕ). isNew name (map nameIn (slotsIn l))) (line-there r (good-of r w) (line .0) (a .there))
-      ∙ sym (ap (isNew name) (slot-names (slotsIn (lineAt r (line .0)))))
+      ∙ sym (ap (isNew name) (slot-names (slotsIn (lineAt r line))))
       ∙ found-none name (slotsOf r line) e
 
   -- the registry stays well formed, and keeps the applications' names
@@ -290,17 +290,17 @@ blocks-short (b ∷ bs) e zero = entry-short b (and-left (wellFormedSlot b) _ e)
 blocks-short (b ∷ bs) e (suc i) = blocks-short bs (and-right (wellFormedSlot b) _ e) i
 
 -- each slot is well formed, where it lies
-pub slot-good : (r : List ℕ) → wellFormedRegistry r ≡ true → (l k : ℕ) → l < lineCount → k < slotCount → wellFormedSlot (take slotSize (drop (place l k) r)) ≡ true
+pub slot-good : (r : List ℕ) → wellFormedRegistry r ≡ true → (l k : ℕ) → l < lineCount → k < slotCount → wellFormedSlot (take slotSize (drop (placeOf l k) r)) ≡ true
 slot-good r w l k hl hk =
     let g = good-of r w in
-    let slots : slotsWellFormed (lineAt r l) ≡ true = subst (λ (x : List ℕ). slotsWellFormed x ≡ true) (line-there r g l hl) (slots-there r g l hl) in
+    let slots : slotsWellFormed (lineAt r (record { 0 = l })) ≡ true = subst (λ (x : List ℕ). slotsWellFormed x ≡ true) (line-there r g l hl) (slots-there r g l hl) in
     subst (λ (x : List ℕ). wellFormedSlot x ≡ true) (slot-place r l k hk)
-    (all-block wellFormedSlot slotSize slotCount (drop lineHead (lineAt r l)) k hk slots)
+    (all-block wellFormedSlot slotSize slotCount (drop lineHead (lineAt r (record { 0 = l }))) k hk slots)
 
 -- the data of a slot is short
 pub slots-short : (r : List ℕ) → wellFormedRegistry r ≡ true → (line : Line) → line .0 < lineCount → (i : ℕ) → ShortEntry (getD (slotsOf r line) i free)
 unfolding slotsOf
 slots-short r w line h i =
     let g = good-of r w in
-    blocks-short (slotsIn (lineAt r (line .0)))
+    blocks-short (slotsIn (lineAt r line))
     (subst (λ (l : List ℕ). slotsWellFormed l ≡ true) (line-there r g (line .0) h) (slots-there r g (line .0) h)) i

@@ -57,13 +57,13 @@ applicationNamed registry name =
     let number = indexFrom name (namesIn registry) 0 in
     if ltb 0 (length name) && ltb number lineCount then some (record { 0 = number }) else none
 
--- the bytes of line l
-abbrev pub lineAt : List ℕ → (l : ℕ) → List ℕ
-lineAt registry l = take lineSize (drop (l * lineSize) registry)
+-- the bytes of a line
+abbrev pub lineAt : List ℕ → Line → List ℕ
+lineAt registry line = take lineSize (drop (line .0 * lineSize) registry)
 
 -- the slots of an application
 unfoldable pub slotsOf : List ℕ → Line → List Entry
-slotsOf registry line = map slotOf (slotsIn (lineAt registry (line .0)))
+slotsOf registry line = map slotOf (slotsIn (lineAt registry line))
 
 -- the first slot with this name; the empty name is that of a free slot
 unfoldable pub slotNamed : (name : List ℕ) → List Entry → Found
@@ -78,14 +78,14 @@ pub data Change : Type 0 where
   fill : Slot → Key → Change
   clear : Slot → Change  -- the slot becomes free, all zero
 
--- where slot k of line l begins
-abbrev pub place : (l k : ℕ) → ℕ
-place l k = l * lineSize + (lineHead + k * slotSize)
+-- where a slot begins
+abbrev pub place : Line → Slot → ℕ
+place line slot = line .0 * lineSize + (lineHead + slot .0 * slotSize)
 
 unfoldable pub changed : List ℕ → Line → Change → List ℕ
 changed registry line unchanged = registry
-changed registry line (fill slot key) = put registry (place (line .0) (slot .0)) (keyBytes key)
-changed registry line (clear slot) = put registry (place (line .0) (slot .0)) (slotBytes free)
+changed registry line (fill slot key) = put registry (place line slot) (keyBytes key)
+changed registry line (clear slot) = put registry (place line slot) (slotBytes free)
 
 -- ---- the registry of a roster: its names, and no keys
 

@@ -18,7 +18,7 @@ ghost use Rattle.registry.specs.Check.{applicationFound};
 // Where a slot begins in the registry.
 pub fn slot_at(line: Line, slot: Slot) -> usize
     requires { ⌜ (line .0 < lineCount) × (slot .0 < slotCount) ⌝ }
-    ensures { λ r. ⌜ r ≡ place (line .0) (slot .0) ⌝ }
+    ensures { λ r. ⌜ r ≡ place line slot ⌝ }
 {
     let l = line.0;
     let k = slot.0;

@@ -33,7 +33,7 @@ scan-requires c κs = search needs
 -- the scan was of the line's bytes
 scanned : (c : tie.After-scan)
     → (let s = c .before .before .before .before in
-    c .scan .result ≡ indexFrom (s .args .name .now) (blockNames lineHead slotSize slotCount (lineAt (s .args .registry .now) (s .args .line .0))) 0)
+    c .scan .result ≡ indexFrom (s .args .name .now) (blockNames lineHead slotSize slotCount (lineAt (s .args .registry .now) (s .args .line))) 0)
 scanned c =
     let s = c .before .before .before .before in
     let a : ℕ = s .args .line .0 * lineSize in

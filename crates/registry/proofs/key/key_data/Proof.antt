@@ -14,7 +14,7 @@ use Rattle.registry.proofs.key.key_data.Statement.{statement}
 use Rattle.registry.proofs.key.key_data.Tie as tie
 
 abbrev at : tie.Start → ℕ
-at c = place (c .args .line .0) (c .args .slot .0)
+at c = place (c .args .line) (c .args .slot)
 
 room : (c : tie.Start) → at c + slotSize ≤ length (c .args .registry .now)
 room c = omega (arith, good-of (c .args .registry .now) (c .pre .0) .size, c .pre .1, c .pre .2)
