@@ -40,7 +40,7 @@ use Rattle.judgement.specs.declared.Asker.the-variants.{Nobody, Named}
 use Rattle.judgement.specs.declared.Auth.{Auth}
 use Rattle.judgement.specs.declared.Auth.the-variants.{Refused as AuthRefused, Accepted}
 use Rattle.judgement.specs.declared.Decision.{Decision}
-use Rattle.answer.specs.Answers.{AnsweredBy, PassedHeader, resultForNobody, ResultAnswered}
+use Rattle.answer.specs.Answers.{AnsweredBy, PassedHeader, resultForNobody, ResultAnswered, RefusedWith}
 use Rattle.answer.specs.declared.Answered.{Answered}
 
 -- ---- the first test that applies
@@ -250,11 +250,6 @@ refused-kept : (registry : List ℕ) (application : Option Line) (status : Statu
 unfolding changedBy changed refuse
 refused-kept registry none status = refl
 refused-kept registry (some line) status = refl
-
--- what `refuse` leaves
-abbrev pub RefusedWith : (provider session opcode : ℕ) → Status → (before after : List ℕ) → Answered → Type 0
-RefusedWith provider session opcode status before after r =
-    (r .status ≡ status) × (r .asker ≡ Nobody) × Wrote (responseBytes provider session opcode (statusNumber status) []) before after (r .written)
 
 module _ {before after : List ℕ} {r : Answered} where
   -- before the last byte, or at the wrong start

@@ -15,8 +15,10 @@ use Rattle.judgement.specs.Status.{statusNumber}
 use Rattle.judgement.specs.Operations.{Result, refuse, operated}
 use Rattle.judgement.specs.Counts.{Counts, noCounts, count}
 use Rattle.judgement.specs.Decided.{headerTests, askersLine, AskerBelow}
+use Rattle.judgement.specs.declared.Status.{Status}
 use Rattle.judgement.specs.declared.Status.the-variants.{NotAuthenticated}
 use Rattle.judgement.specs.declared.Asker.{Asker}
+use Rattle.judgement.specs.declared.Asker.the-variants.{Nobody}
 use Rattle.answer.specs.declared.Answered.{Answered}
 
 -- the verdict `v` was carried out: its response stands at the front of the buffer `before`, which is now `after`, the registry
@@ -26,6 +28,11 @@ pub record AnsweredBy (v : Counts → Verdict (List ℕ) Counts (List ℕ)) (reg
   pub kept : registry ≡ v noCounts .registry
   pub counts : (c : Counts) → count c (askersLine (r .asker)) (r .status) ≡ v c .counts
   pub asker : AskerBelow (r .asker)
+
+-- a request was refused with this status: it is nobody's, and counts by its status alone
+abbrev pub RefusedWith : (provider session opcode : ℕ) → Status → (before after : List ℕ) → Answered → Type 0
+RefusedWith provider session opcode status before after r =
+    (r .status ≡ status) × (r .asker ≡ Nobody) × Wrote (responseBytes provider session opcode (statusNumber status) []) before after (r .written)
 
 -- ---- a request whose header has passed
 

@@ -1,11 +1,12 @@
-// A request answered: its response written, and what it changes carried out ("Order of judgement on one request").
+// A request answered ("Order of judgement on one request"): `request` answers it by the order's three steps, `response` writes a
+// response.
 use judgement::Asker;
 use judgement::Status;
 
 pub mod request;
-pub mod response;
+mod response;
 
-// A request that was answered: for whom it counts, and how many bytes of response were written.
+// A request that was answered: with which status, for whom it counts, and how many bytes of response were written.
 pub struct Answered {
     pub status: Status,
     pub asker: Asker,

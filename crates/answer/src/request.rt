@@ -36,7 +36,7 @@ ghost use Rattle.registry.specs.WellFormed.{wellFormedRegistry};
 ghost use Rattle.judgement.specs.Status.{statusNumber};
 ghost use Rattle.judgement.specs.Judgement.{judgement};
 ghost use Rattle.judgement.specs.Decided.{SafeEdit, changeOf, Decided};
-ghost use Rattle.answer.specs.Answers.{AnsweredBy, PassedHeader, resultForNamed, resultForNobody, ResultAnswered};
+ghost use Rattle.answer.specs.Answers.{AnsweredBy, RefusedWith, PassedHeader, resultForNamed, resultForNobody, ResultAnswered};
 
 // Carries out what an operation changes.
 fn make_edit(registry: &mut [u8], line: Line, body: &[u8], d: Decision)
@@ -77,7 +77,7 @@ fn make_edit(registry: &mut [u8], line: Line, body: &[u8], d: Decision)
 // A refused request is nobody's: it counts by its status alone.
 fn refuse(out: &mut [u8], h: Header, status: Status) -> Answered
     requires { ⌜ bufferLeast ≤ length (now out) ⌝ }
-    ensures { λ r. ⌜ (r .status ≡ status) × (r .asker ≡ Asker.Nobody) × Wrote (responseBytes (h .provider) (h .session) (h .opcode) (statusNumber status) []) (now (out .entry)) (now (out .exit)) (r .written) ⌝ }
+    ensures { λ r. ⌜ RefusedWith (h .provider) (h .session) (h .opcode) status (now (out .entry)) (now (out .exit)) r ⌝ }
 {
     let written = write_refused(out, h.provider, h.session, h.opcode, status);
     Answered {

@@ -13,8 +13,8 @@ use Rattle.judgement.specs.Decided.{askersLine, AskerBelow}
 use Rattle.judgement.specs.declared.Status.{Status}
 use Rattle.judgement.specs.declared.Asker.{Asker}
 use Rattle.judgement.specs.declared.Asker.the-variants.{Nobody, Named}
-use Rattle.counters.specs.Counters.{totalsOf, countersOf, maximum, largestCount, largestCounter}
-use Rattle.counters.specs.Counted.{servedFor, eventOf, countEvent, counted, takenAfter, answeredAfter, droppedAfter, servedAfter, unauthenticatedAfter, refusedAfter, EventBelow, LowFor, ServedFits, UnauthenticatedFits, RefusedFits, Fits}
+use Rattle.counters.specs.Counters.{totalsOf, countersOf, counterMost, maximum, largestCount, largestCounter}
+use Rattle.counters.specs.Counted.{servedFor, eventOf, countEvent, counted, takenAfter, answeredAfter, droppedAfter, servedAfter, unauthenticatedAfter, refusedAfter, EventBelow, LowFor, CountFits, RowFits, Fits}
 use Rattle.counters.specs.declared.Counters.{Counters}
 use Rattle.counters.specs.declared.Event.{Event}
 use Rattle.counters.specs.declared.Event.the-variants.{NoRequest, Served, ServedUnauthenticated, Refused}
@@ -56,6 +56,12 @@ counted-apart c by = λ i. countersOf (record {
 
 -- ---- there is room in each counter where there is room in all
 
+pub low-enough : (highest : ℕ) (event : Event) → highest ≤ counterMost → LowFor highest event
+low-enough highest NoRequest low = tt
+low-enough highest (Served line) low = low
+low-enough highest ServedUnauthenticated low = low
+low-enough highest (Refused status) low = low
+
 lower-for : (low high : ℕ) (event : Event) → low ≤ high → LowFor high event → LowFor low event
 lower-for low high NoRequest less fits = tt
 lower-for low high (Served line) less fits = omega arith
@@ -63,15 +69,15 @@ lower-for low high ServedUnauthenticated less fits = omega arith
 lower-for low high (Refused status) less fits = omega arith
 
 module _ (c : Counters) (by : Increments) (fits : Fits c by) where
-  pub served-fits : ServedFits (c .served) by
+  pub served-fits : RowFits (c .served) by
   unfolding largestCounter largestCount totalsOf
   served-fits = (lower-for (maximum (c .served)) (largestCounter c) (by .event) (omega arith) (fits .low), fits .below)
 
-  pub unauthenticated-fits : UnauthenticatedFits (c .unauthenticated) by
+  pub unauthenticated-fits : CountFits (c .unauthenticated) by
   unfolding largestCounter largestCount totalsOf
   unauthenticated-fits = lower-for (c .unauthenticated) (largestCounter c) (by .event) (omega arith) (fits .low)
 
-  pub refused-fits : RefusedFits (c .refused) by
+  pub refused-fits : RowFits (c .refused) by
   unfolding largestCounter largestCount totalsOf
   refused-fits = (lower-for (maximum (c .refused)) (largestCounter c) (by .event) (omega arith) (fits .low), fits .below)
 

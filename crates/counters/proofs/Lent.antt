@@ -66,27 +66,28 @@ memberOf F = record { row = F .row; ty = lone (F .row .mir) }
 abbrev pub members : List Member
 members = map memberOf (T.struct .parts)
 
--- where field k begins
+-- the offset of a field that there is
 abbrev behind : Option (Ty × ℕ) → ℕ
 behind none = 0
 behind (some place) = place .1
 
+-- where field k begins
 abbrev pub offset : (k : ℕ) → ℕ
 offset k = behind (fieldAt 0 (toTys (mirs (rowsOf members))) k)
 
 module _ {M : Type 1} (𝓤 : URA M) (H : Heap 𝓤) (A : Atoms 𝓤) (b o k : ℕ) where
   -- field k of the counters c, and all but it
-  abbrev pub Taken : Counters → SProp 𝓤
-  Taken c = sem 𝓤 H A (oneAt fullShare members 0 (T.the-type .to c) b o k)
+  abbrev pub FieldOut : Counters → SProp 𝓤
+  FieldOut c = sem 𝓤 H A (oneAt fullShare members 0 (T.the-type .to c) b o k)
 
-  abbrev pub Left : Counters → SProp 𝓤
-  Left c = sep 𝓤 (sem 𝓤 H A (restAt fullShare members 0 (T.the-type .to c) b o k)) (PartsBack 𝓤 H A fullShare (T.struct .name) members b o)
+  abbrev pub AllBut : Counters → SProp 𝓤
+  AllBut c = sep 𝓤 (sem 𝓤 H A (restAt fullShare members 0 (T.the-type .to c) b o k)) (PartsBack 𝓤 H A fullShare (T.struct .name) members b o)
 
-  pub field-taken : Given 𝓤 H A → (c : Counters) → ent 𝓤 (sem 𝓤 H A (mem T.the-row .lies c b o)) (sep 𝓤 (Taken c) (Left c))
+  pub field-taken : Given 𝓤 H A → (c : Counters) → ent 𝓤 (sem 𝓤 H A (mem T.the-row .lies c b o)) (sep 𝓤 (FieldOut c) (AllBut c))
   field-taken W c = record-field-out 𝓤 H A W fullShare (T.struct .name) members Counters (T.the-type .to) (T.the-type .to-one)
       (LL.lawfuls 𝓤 H A W (T.struct .parts) T′.the-laws) c b o k
 
-  pub field-put : Given 𝓤 H A → (c : Counters) → ent 𝓤 (sep 𝓤 (Taken c) (Left c)) (sem 𝓤 H A (mem T.the-row .lies c b o))
+  pub field-put : Given 𝓤 H A → (c : Counters) → ent 𝓤 (sep 𝓤 (FieldOut c) (AllBut c)) (sem 𝓤 H A (mem T.the-row .lies c b o))
   field-put W c = record-field-back 𝓤 H A W fullShare (T.struct .name) members Counters (T.the-type .to) (T.the-type .to-one) c b o k
 
 -- ---- a function of the shape `fn f(counter: &mut F, by: Increments)`

@@ -1,3 +1,3 @@
-pub mod CountingLaws
+pub mod CountersLaws
 pub mod CountedLaws
 pub mod Lent

@@ -63,7 +63,7 @@ refusedAfter refused by = countEvent (record { served = []; unauthenticated = 0;
 
 -- ---- when there is room for it
 
--- the event has a counter
+-- the event, if it is a request, has a counter
 abbrev pub EventBelow : Event → Type 0
 EventBelow NoRequest = Unit {0}
 EventBelow (Served line) = line .0 < lineCount
@@ -86,14 +86,12 @@ AnsweredFits n by = n + by .answered < 2 ^ 64
 abbrev pub DroppedFits : ℕ → Increments → Type 0
 DroppedFits n by = n + by .dropped < 2 ^ 64
 
-abbrev pub ServedFits : List ℕ → Increments → Type 0
-ServedFits served by = LowFor (maximum served) (by .event) × EventBelow (by .event)
+-- of one counter of requests, and of a row of them
+abbrev pub CountFits : ℕ → Increments → Type 0
+CountFits n by = LowFor n (by .event)
 
-abbrev pub UnauthenticatedFits : ℕ → Increments → Type 0
-UnauthenticatedFits n by = LowFor n (by .event)
-
-abbrev pub RefusedFits : List ℕ → Increments → Type 0
-RefusedFits refused by = LowFor (maximum refused) (by .event) × EventBelow (by .event)
+abbrev pub RowFits : List ℕ → Increments → Type 0
+RowFits row by = LowFor (maximum row) (by .event) × EventBelow (by .event)
 
 pub record Fits (c : Counters) (by : Increments) : Type 0 where
   pub taken : TakenFits (c .taken) by

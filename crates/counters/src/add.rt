@@ -5,7 +5,7 @@ use judgement::REFUSED_STATUSES;
 use judgement::statuses::refused_index;
 use registry::LINES;
 ghost use mathlib.Core.Path.{_≡_};
-ghost use Rattle.counters.specs.Counted.{takenAfter, answeredAfter, droppedAfter, servedAfter, unauthenticatedAfter, refusedAfter, TakenFits, AnsweredFits, DroppedFits, ServedFits, UnauthenticatedFits, RefusedFits};
+ghost use Rattle.counters.specs.Counted.{takenAfter, answeredAfter, droppedAfter, servedAfter, unauthenticatedAfter, refusedAfter, TakenFits, AnsweredFits, DroppedFits, CountFits, RowFits};
 
 // The bytes that a call took.
 pub fn add_taken(counter: &mut u64, by: Increments)
@@ -31,9 +31,9 @@ pub fn add_dropped(counter: &mut u64, by: Increments)
     *counter += by.dropped as u64;
 }
 
-// A request served for an application.
+// A request served for an application: its line's counter; the others stay.
 pub fn add_served(served: &mut [u64; LINES], by: Increments)
-    requires { ⌜ ServedFits (now served) by ⌝ }
+    requires { ⌜ RowFits (now served) by ⌝ }
     ensures { λ _. ⌜ now (served .exit) ≡ servedAfter (now (served .entry)) by ⌝ }
 {
     let event = by.event;
@@ -50,7 +50,7 @@ pub fn add_served(served: &mut [u64; LINES], by: Increments)
 
 // A request served with auth type 0.
 pub fn add_unauthenticated(counter: &mut u64, by: Increments)
-    requires { ⌜ UnauthenticatedFits (now counter) by ⌝ }
+    requires { ⌜ CountFits (now counter) by ⌝ }
     ensures { λ _. ⌜ now (counter .exit) ≡ unauthenticatedAfter (now (counter .entry)) by ⌝ }
 {
     let event = by.event;
@@ -64,9 +64,9 @@ pub fn add_unauthenticated(counter: &mut u64, by: Increments)
     }
 }
 
-// A request refused with a status.
+// A request refused with a status: that status's counter; the others stay.
 pub fn add_refused(refused: &mut [u64; REFUSED_STATUSES], by: Increments)
-    requires { ⌜ RefusedFits (now refused) by ⌝ }
+    requires { ⌜ RowFits (now refused) by ⌝ }
     ensures { λ _. ⌜ now (refused .exit) ≡ refusedAfter (now (refused .entry)) by ⌝ }
 {
     let event = by.event;

@@ -27,7 +27,7 @@ pub fn zero_counters() -> Counters
     }
 }
 
-// Counts what a call adds where the counters lie.
+// Adds what a call counts to each counter, where it lies.
 pub fn count(counters: &mut Counters, by: Increments)
     requires { ⌜ Fits (now counters) by ⌝ }
     ensures { λ _. ⌜ now (counters .exit) ≡ counted (now (counters .entry)) by ⌝ }
@@ -40,7 +40,7 @@ pub fn count(counters: &mut Counters, by: Increments)
     add_refused(&mut counters.refused, by);
 }
 
-// The same by value, for callers that the prover's own walk covers.
+// The same by value, for callers that the borrow checker covers.
 pub fn with_increments(c: Counters, by: Increments) -> Counters
     requires { ⌜ Fits c by ⌝ }
     ensures { λ r. ⌜ r ≡ counted c by ⌝ }

@@ -5,7 +5,7 @@ use judgement::Status;
 use registry::LINES;
 use registry::Line;
 
-pub mod add;
+mod add;
 pub mod counting;
 pub mod events;
 pub mod limit;
@@ -22,7 +22,7 @@ pub struct Counters {
     pub refused: [u64; REFUSED_STATUSES],
 }
 
-// The request that a call answered, as it is counted: each event has a counter of its own.
+// What the request that a call answered counts as, if it answered one: each kind of request has a counter of its own.
 pub enum Event {
     NoRequest,
     Served(Line),

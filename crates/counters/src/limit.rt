@@ -22,7 +22,7 @@ fn largest(counters: &[u64]) -> u64
     most
 }
 
-// Whether a counter is too high.
+// Whether any counter is above 2^62.
 pub fn is_too_high(c: Counters) -> bool
     ensures { λ r. ⌜ r ≡ ltb counterMost (largestCounter c) ⌝ }
 {

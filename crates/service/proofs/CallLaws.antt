@@ -14,6 +14,7 @@ use Rattle.wire.proofs.TestLaws.{either, some≢none, none-at}
 use Rattle.stream.specs.Frame.{Next, unfinished, badStart, skipped, whole, next}
 use Rattle.stream.specs.Rules.{Connection, opened, skipping, closed, State}
 use Rattle.stream.specs.Call.{Step, keep, respond, dropByte, openRule, skipRule, byteRule, callRule}
+use Rattle.stream.specs.Call as stream
 use Rattle.stream.specs.Calls.{Call, refused, took, CallOutcome, callOn}
 use Rattle.stream.proofs.CallLaws.{call-responds, call-goes-on}
 use Rattle.stream.proofs.CallsLaws.{took-code}
@@ -23,8 +24,8 @@ use Rattle.registry.specs.WellFormed.{wellFormedRegistry}
 use Rattle.judgement.specs.Counts.{Counts}
 use Rattle.judgement.specs.Judgement.{refusedEarly, judgement}
 use Rattle.judgement.proofs.ResponseLaws.{responseMost, bad-short, oversized-short, judge-short}
-use Rattle.counters.specs.Counters.{totalsOf, countersOf, largestCounter, counterMost}
-use Rattle.service.specs.Call.{Memory, stateIn, memoryOf, layout, bufferLeast, refusalTests, codeOf, refusalOf, callOutcome}
+use Rattle.counters.specs.Counters.{totalsOf, countersOf, zeroCounters, counterMost, largestCounter}
+use Rattle.service.specs.Call.{Memory, stateIn, memoryOf, layout, fresh, bufferLeast, refusalTests, codeOf, refusalOf, callOutcome}
 use Rattle.service.specs.Served.{Ready, effectOf}
 use Rattle.service.specs.declared.Refusal.{Refusal}
 use Rattle.service.specs.declared.Refusal.the-variants.{ResponseBufferTooSmall, ChunkTooLong, ConnectionIllFormed, RegistryIllFormed, CounterTooHigh}
@@ -194,3 +195,9 @@ empty-idle m buffer = go (refusalOf m call) refl
           buffer-stays = refl;
           memory-stays = λ i. record { connection = store-load (m .connection) (t .ready .connection-good) i; registry = m .registry; counters = m .counters };
         })
+
+-- ---- the counters that demand 3 starts from are those that cleared counters are
+
+pub fresh-counters : (registry : List ℕ) → fresh registry .counters ≡ zeroCounters
+unfolding fresh memoryOf stream.fresh judgement zeroCounters
+fresh-counters registry = refl

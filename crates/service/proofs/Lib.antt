@@ -1,6 +1,6 @@
 pub mod KeptLaws
 pub mod CallLaws
-pub mod CountedLaws
+pub mod RoomLaws
 pub mod Demand3
 pub mod ServeLaws
 pub mod CalledLaws

@@ -32,7 +32,7 @@ fn refuse(code: Code) -> Handled
     }
 }
 
-// A call but for its counters, which are looked at and left.
+// A call but for its counters, which are looked at and stay as they are.
 fn handle(
     chunk: &[u8],
     connection: &mut [u8],

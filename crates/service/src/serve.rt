@@ -157,7 +157,7 @@ fn drop_all(n: usize) -> Handled
     }
 }
 
-// A call that none of C1 to C4 refuses. C5 is for who counts: no counter is looked at here.
+// A call that none of C1 to C4 refuses. C5 is left to the caller, who counts: no counter is looked at here.
 pub fn serve(connection: &mut [u8], registry: &mut [u8], out: &mut [u8], chunk: &[u8]) -> Handled
     requires { ⌜ Ready (now connection) (now registry) (now chunk) (now out) ⌝ }
     ensures { λ r. ⌜ ((c : Counters) → Carried c (effectOf (lentMemory (now (connection .entry)) (now (registry .entry)) c) (now (chunk .entry))) (now (connection .exit)) (now (registry .exit)) (now (out .entry)) (now (out .exit)) r) ⌝ }

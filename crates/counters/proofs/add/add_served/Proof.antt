@@ -8,7 +8,7 @@ use Rattle.registry.specs.Registry.{lineCount}
 use Rattle.judgement.specs.Counts.{increment, countServed, countRefused}
 use Rattle.counters.specs.Counters.{counterMost, maximum}
 use Rattle.counters.specs.Counted.{countEvent, servedAfter, EventBelow, LowFor}
-use Rattle.counters.proofs.CountingLaws.{at-most-maximum}
+use Rattle.counters.proofs.CountersLaws.{at-most-maximum}
 use Rattle.counters.proofs.add.add_served.Statement.{statement}
 use Rattle.counters.proofs.add.add_served.Tie as tie
 

@@ -35,11 +35,11 @@ use denote.Triple.Walked.{says, needs, Stays, stay-ref, stay-none, walkOf, AllGo
 use denote.Exit.{yes}
 use Rattle.registry.specs.Registry.{lineCount}
 use Rattle.judgement.specs.Status.{refusedCount}
-use Rattle.counters.specs.Counted.{takenAfter, answeredAfter, droppedAfter, servedAfter, unauthenticatedAfter, refusedAfter, TakenFits, AnsweredFits, DroppedFits, ServedFits, UnauthenticatedFits, RefusedFits, Fits}
+use Rattle.counters.specs.Counted.{takenAfter, answeredAfter, droppedAfter, servedAfter, unauthenticatedAfter, refusedAfter, TakenFits, AnsweredFits, DroppedFits, CountFits, RowFits, Fits}
 use Rattle.counters.specs.declared.Counters.{Counters}
 use Rattle.counters.specs.declared.Increments.{Increments}
 use Rattle.counters.proofs.CountedLaws.{counted-apart, served-fits, unauthenticated-fits, refused-fits}
-use Rattle.counters.proofs.Lent.{IsIncrements, offset, Left, field-taken, field-put, Adder, calls-field}
+use Rattle.counters.proofs.Lent.{IsIncrements, offset, AllBut, field-taken, field-put, Adder, calls-field}
 use Rattle.counters.proofs.Counters as T
 use Rattle.counters.proofs.Increments as D
 use Rattle.counters.proofs.Increments.Laws as D′
@@ -73,7 +73,7 @@ Served = Array u64 lineCount
 abbrev Refused : RattleType
 Refused = Array u64 refusedCount
 
--- row k of the counters, n numbers at (b, at): what is left when it is taken out is R
+-- a row of the counters, n numbers at (b, at): R is what is left when it is taken out
 module _ {M : Type 1} (𝓤 : URA M) (H : Heap 𝓤) (A : Atoms 𝓤) (n b o at : ℕ) (R : SProp 𝓤) (c : Counters) (row : List ℕ) where
   abbrev RowTaken : List ℕ → Type 1
   RowTaken l = ent 𝓤 (sem 𝓤 H A (mem T.the-row .lies c b o)) (sep 𝓤 (sem 𝓤 H A (mem (Array u64 n) .lies l b at)) R)
@@ -92,9 +92,9 @@ record Known {M : Type 1} (𝓤 : URA M) (H : Heap 𝓤) (A : Atoms 𝓤) (C : C
   taken : Triple 𝓤 (C #taken) (Adder u64 TakenFits takenAfter 𝓤 H A)
   answered : Triple 𝓤 (C #answered) (Adder u64 AnsweredFits answeredAfter 𝓤 H A)
   dropped : Triple 𝓤 (C #dropped) (Adder u64 DroppedFits droppedAfter 𝓤 H A)
-  served : Triple 𝓤 (C #served) (Adder Served ServedFits servedAfter 𝓤 H A)
-  unauthenticated : Triple 𝓤 (C #unauthenticated) (Adder u64 UnauthenticatedFits unauthenticatedAfter 𝓤 H A)
-  refused : Triple 𝓤 (C #refused) (Adder Refused RefusedFits refusedAfter 𝓤 H A)
+  served : Triple 𝓤 (C #served) (Adder Served RowFits servedAfter 𝓤 H A)
+  unauthenticated : Triple 𝓤 (C #unauthenticated) (Adder u64 CountFits unauthenticatedAfter 𝓤 H A)
+  refused : Triple 𝓤 (C #refused) (Adder Refused RowFits refusedAfter 𝓤 H A)
 
 abbrev stayed : Stays (f.ended .signature .params) (f.ended .kept)
 stayed = (stay-ref (0 ∷ []) tt (plain (λ _. T.the-row)), (stay-none (λ _. D.the-row) yes, tt))
@@ -158,35 +158,35 @@ module _ {M : Type 1} (𝓤 : URA M) (H : Heap 𝓤) (A : Atoms 𝓤) (W : Given
         move ! (20 ∷ 21 ∷ []) $
         -- [counters; its token; _9; …; _8; …; _7; …; _6; …; _5; …; _4; …; _3; …; _2; …; _1; …; _0; …; what x owns; true], at each of the six calls
         assigns ! (addr ! (from ! (hop ! (look ! 18 refl) (fld ! refl (stop !))))) (from ! (stop !)) (init ! 12 refl (tt, tt)) $
-        calls-field ! fm u64 TakenFits takenAfter (known .taken) b o (o + offset 0) c c₁ (c .taken) x is (fits .taken) (Left 𝓤 H A b o 0 c)
+        calls-field ! fm u64 TakenFits takenAfter (known .taken) b o (o + offset 0) c c₁ (c .taken) x is (fits .taken) (AllBut 𝓤 H A b o 0 c)
         (field-taken 𝓤 H A b o 0 W c) (field-put 𝓤 H A b o 0 W c₁)
         (λ α δ. and-then ! (load ! (from ! (stop !)) (look ! 12 refl)) (and-then ! (load ! (from ! (stop !)) (look ! 16 refl)) (no-more !))) $
         land ! (from ! (stop !)) (init ! 14 refl (tt, tt)) $
         assigns ! (addr ! (from ! (hop ! (look ! 18 refl) (fld ! refl (stop !))))) (from ! (stop !)) (init ! 10 refl (tt, tt)) $
-        calls-field ! fm u64 AnsweredFits answeredAfter (known .answered) b o (o + offset 1) c₁ c₂ (c .answered) x is (fits .answered) (Left 𝓤 H A b o 1 c₁)
+        calls-field ! fm u64 AnsweredFits answeredAfter (known .answered) b o (o + offset 1) c₁ c₂ (c .answered) x is (fits .answered) (AllBut 𝓤 H A b o 1 c₁)
         (field-taken 𝓤 H A b o 1 W c₁) (field-put 𝓤 H A b o 1 W c₂)
         (λ α δ. and-then ! (load ! (from ! (stop !)) (look ! 10 refl)) (and-then ! (load ! (from ! (stop !)) (look ! 16 refl)) (no-more !))) $
         land ! (from ! (stop !)) (store ! 14 refl (tt, tt)) $
         assigns ! (addr ! (from ! (hop ! (look ! 18 refl) (fld ! refl (stop !))))) (from ! (stop !)) (init ! 8 refl (tt, tt)) $
-        calls-field ! fm u64 DroppedFits droppedAfter (known .dropped) b o (o + offset 2) c₂ c₃ (c .dropped) x is (fits .dropped) (Left 𝓤 H A b o 2 c₂)
+        calls-field ! fm u64 DroppedFits droppedAfter (known .dropped) b o (o + offset 2) c₂ c₃ (c .dropped) x is (fits .dropped) (AllBut 𝓤 H A b o 2 c₂)
         (field-taken 𝓤 H A b o 2 W c₂) (field-put 𝓤 H A b o 2 W c₃)
         (λ α δ. and-then ! (load ! (from ! (stop !)) (look ! 8 refl)) (and-then ! (load ! (from ! (stop !)) (look ! 16 refl)) (no-more !))) $
         land ! (from ! (stop !)) (store ! 14 refl (tt, tt)) $
         assigns ! (addr ! (from ! (hop ! (look ! 18 refl) (fld ! refl (stop !))))) (from ! (stop !)) (init ! 6 refl (tt, tt)) $
-        calls-field ! fm Served ServedFits servedAfter (known .served) b o (o + offset 3) c₃ c₄ (c .served) x is (served-fits c x fits) (Left 𝓤 H A b o 3 c₃)
-        (row-taken 𝓤 H A lineCount b o (o + offset 3) (Left 𝓤 H A b o 3 c₃) c₃ (c₃ .served) (field-taken 𝓤 H A b o 3 W c₃))
-        (row-put 𝓤 H A lineCount b o (o + offset 3) (Left 𝓤 H A b o 3 c₃) c₄ (c₄ .served) (field-put 𝓤 H A b o 3 W c₄))
+        calls-field ! fm Served RowFits servedAfter (known .served) b o (o + offset 3) c₃ c₄ (c .served) x is (served-fits c x fits) (AllBut 𝓤 H A b o 3 c₃)
+        (row-taken 𝓤 H A lineCount b o (o + offset 3) (AllBut 𝓤 H A b o 3 c₃) c₃ (c₃ .served) (field-taken 𝓤 H A b o 3 W c₃))
+        (row-put 𝓤 H A lineCount b o (o + offset 3) (AllBut 𝓤 H A b o 3 c₃) c₄ (c₄ .served) (field-put 𝓤 H A b o 3 W c₄))
         (λ α δ. and-then ! (load ! (from ! (stop !)) (look ! 6 refl)) (and-then ! (load ! (from ! (stop !)) (look ! 16 refl)) (no-more !))) $
         land ! (from ! (stop !)) (store ! 14 refl (tt, tt)) $
         assigns ! (addr ! (from ! (hop ! (look ! 18 refl) (fld ! refl (stop !))))) (from ! (stop !)) (init ! 4 refl (tt, tt)) $
-        calls-field ! fm u64 UnauthenticatedFits unauthenticatedAfter (known .unauthenticated) b o (o + offset 4) c₄ c₅ (c .unauthenticated) x is
-        (unauthenticated-fits c x fits) (Left 𝓤 H A b o 4 c₄) (field-taken 𝓤 H A b o 4 W c₄) (field-put 𝓤 H A b o 4 W c₅)
+        calls-field ! fm u64 CountFits unauthenticatedAfter (known .unauthenticated) b o (o + offset 4) c₄ c₅ (c .unauthenticated) x is
+        (unauthenticated-fits c x fits) (AllBut 𝓤 H A b o 4 c₄) (field-taken 𝓤 H A b o 4 W c₄) (field-put 𝓤 H A b o 4 W c₅)
         (λ α δ. and-then ! (load ! (from ! (stop !)) (look ! 4 refl)) (and-then ! (load ! (from ! (stop !)) (look ! 16 refl)) (no-more !))) $
         land ! (from ! (stop !)) (store ! 14 refl (tt, tt)) $
         assigns ! (addr ! (from ! (hop ! (look ! 18 refl) (fld ! refl (stop !))))) (from ! (stop !)) (init ! 2 refl (tt, tt)) $
-        calls-field ! fm Refused RefusedFits refusedAfter (known .refused) b o (o + offset 5) c₅ c₆ (c .refused) x is (refused-fits c x fits) (Left 𝓤 H A b o 5 c₅)
-        (row-taken 𝓤 H A refusedCount b o (o + offset 5) (Left 𝓤 H A b o 5 c₅) c₅ (c₅ .refused) (field-taken 𝓤 H A b o 5 W c₅))
-        (row-put 𝓤 H A refusedCount b o (o + offset 5) (Left 𝓤 H A b o 5 c₅) c₆ (c₆ .refused) (field-put 𝓤 H A b o 5 W c₆))
+        calls-field ! fm Refused RowFits refusedAfter (known .refused) b o (o + offset 5) c₅ c₆ (c .refused) x is (refused-fits c x fits) (AllBut 𝓤 H A b o 5 c₅)
+        (row-taken 𝓤 H A refusedCount b o (o + offset 5) (AllBut 𝓤 H A b o 5 c₅) c₅ (c₅ .refused) (field-taken 𝓤 H A b o 5 W c₅))
+        (row-put 𝓤 H A refusedCount b o (o + offset 5) (AllBut 𝓤 H A b o 5 c₅) c₆ (c₆ .refused) (field-put 𝓤 H A b o 5 W c₆))
         (λ α δ. and-then ! (load ! (from ! (stop !)) (look ! 2 refl)) (and-then ! (load ! (from ! (stop !)) (look ! 16 refl)) (no-more !))) $
         land ! (from ! (stop !)) (store ! 14 refl (tt, tt)) $
         assigns ! (of-opd ! (unit-lit !)) (from ! (stop !)) (init ! 20 refl (tt, tt)) $
@@ -227,10 +227,10 @@ count-spec 𝓤 H 𝓜 𝓖 𝓡 =
           code.calls-counters·add·add-answered (answered-thm.met 𝓤 H 𝓜 𝓖 𝓡);
       dropped = cited 𝓤 H (Adder u64 DroppedFits droppedAfter 𝓤 H (𝓖 .A)) 𝓜 𝓡 code.env #dropped dropped-def.routine
           code.calls-counters·add·add-dropped (dropped-thm.met 𝓤 H 𝓜 𝓖 𝓡);
-      served = cited 𝓤 H (Adder Served ServedFits servedAfter 𝓤 H (𝓖 .A)) 𝓜 𝓡 code.env #served served-def.routine code.calls-counters·add·add-served
+      served = cited 𝓤 H (Adder Served RowFits servedAfter 𝓤 H (𝓖 .A)) 𝓜 𝓡 code.env #served served-def.routine code.calls-counters·add·add-served
           (served-thm.met 𝓤 H 𝓜 𝓖 𝓡);
-      unauthenticated = cited 𝓤 H (Adder u64 UnauthenticatedFits unauthenticatedAfter 𝓤 H (𝓖 .A)) 𝓜 𝓡 code.env #unauthenticated
+      unauthenticated = cited 𝓤 H (Adder u64 CountFits unauthenticatedAfter 𝓤 H (𝓖 .A)) 𝓜 𝓡 code.env #unauthenticated
           unauthenticated-def.routine code.calls-counters·add·add-unauthenticated (unauthenticated-thm.met 𝓤 H 𝓜 𝓖 𝓡);
-      refused = cited 𝓤 H (Adder Refused RefusedFits refusedAfter 𝓤 H (𝓖 .A)) 𝓜 𝓡 code.env #refused refused-def.routine
+      refused = cited 𝓤 H (Adder Refused RowFits refusedAfter 𝓤 H (𝓖 .A)) 𝓜 𝓡 code.env #refused refused-def.routine
           code.calls-counters·add·add-refused (refused-thm.met 𝓤 H 𝓜 𝓖 𝓡);
     }))

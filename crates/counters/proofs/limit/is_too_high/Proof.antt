@@ -4,9 +4,8 @@ use mathlib.Core.Path.{sym}
 use native.Mathlib.Omega.{arith}
 use borrow.Author.Tests.{lt-ltb}
 use borrow.Author.Needs.{needs}
-use Rattle.counters.specs.Counters.{totalsOf, largestCount, largestCounter}
-use Rattle.counters.specs.Counters.{counterMost}
-use Rattle.counters.proofs.CountingLaws.{above-both}
+use Rattle.counters.specs.Counters.{totalsOf, counterMost, largestCount, largestCounter}
+use Rattle.counters.proofs.CountersLaws.{above-both}
 use Rattle.counters.proofs.limit.is_too_high.Statement.{statement}
 use Rattle.counters.proofs.limit.is_too_high.Tie as tie
 

@@ -6,7 +6,7 @@ use native.Mathlib.Omega.{arith}
 use borrow.Author.Needs.{needs}
 use lib.ListN.{length, drop}
 use Rattle.counters.specs.Counters.{maximum}
-use Rattle.counters.proofs.CountingLaws.{maximum-next, maximum-end}
+use Rattle.counters.proofs.CountersLaws.{maximum-next, maximum-end}
 use Rattle.counters.proofs.limit.largest.Statement.{statement}
 use Rattle.counters.proofs.limit.largest.Tie as tie
 

@@ -3,7 +3,6 @@ use Rattle.wire.specs.Lists.{all, blocks}
 use Rattle.wire.proofs.BlockLaws.{blocks-pass, blocks-fail, blocks-end}
 use Rattle.registry.specs.Slots.{slotSize, wellFormedSlot}
 use Rattle.registry.specs.Registry.{slotCount, lineHead}
-use Rattle.wire.specs.Lists.{blocks}
 use lib.Seq.{drop-drop}
 use mathlib.Core.Path.{_≡_, refl, sym, ap, _∙_}
 use mathlib.Core.List.{List}

@@ -4,7 +4,7 @@ use Rattle.counters.specs.Counted.{Fits}
 use Rattle.service.specs.declared.Handled.{Handled}
 use Rattle.service.proofs.CallLaws.{passed}
 use Rattle.service.proofs.CalledLaws.{taken-passes, refused-call, taken-call}
-use Rattle.service.proofs.CountedLaws.{modest-fits, nothing-fits}
+use Rattle.service.proofs.RoomLaws.{modest-fits, nothing-fits}
 use borrow.Author.Needs.{needs}
 use Rattle.service.proofs.call.handle.Statement.{statement}
 use Rattle.service.proofs.call.handle.Tie as tie

@@ -34,26 +34,6 @@ at-most-maximum (n ∷ l) (suc i) = omega (arith, at-most-maximum l i)
 
 -- ---- the largest counter
 
--- no counter is above `most`
-pub record NoneAbove (most : ℕ) (c : Counters) : Type 0 where
-  pub taken : c .taken ≤ most
-  pub answered : c .answered ≤ most
-  pub dropped : c .dropped ≤ most
-  pub unauthenticated : c .unauthenticated ≤ most
-  pub served : (i : ℕ) → getD (c .served) i 0 ≤ most
-  pub refused : (i : ℕ) → getD (c .refused) i 0 ≤ most
-
-pub none-above : (most : ℕ) (c : Counters) → largestCounter c ≤ most → NoneAbove most c
-unfolding largestCounter largestCount totalsOf
-none-above most c h = record {
-  taken = omega arith;
-  answered = omega arith;
-  dropped = omega arith;
-  unauthenticated = omega arith;
-  served = λ i. omega (arith, at-most-maximum (c .served) i);
-  refused = λ i. omega (arith, at-most-maximum (c .refused) i);
-}
-
 -- two numbers that are above k together
 pub above-both : (k a b : ℕ) → (k < a → k < b) → (k < b → k < a) → ltb k a ≡ ltb k b
 above-both k a b f g = both (ltb k a) (ltb k b) (λ t. lt-ltb k b (f (ltb-true k a t))) (λ t. lt-ltb k a (g (ltb-true k b t)))
