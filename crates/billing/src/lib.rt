@@ -1,5 +1,5 @@
 // The bill: what counters, registry and connection come to, as text ("The bill").
-pub mod lines;
+mod lines;
 pub mod text;
 pub mod whole;
 

@@ -1,4 +1,4 @@
--- Laws of the counters: the largest of some, that none is above it, and where a refused status is counted.
+-- Laws of the counters: the largest of some, and where a refused status is counted.
 use Prim.Native.Nat.{ℕ, zero, suc, _+_, _≤_, _<_, max}
 use mathlib.Core.Path.{_≡_}
 use mathlib.Core.List.{List, [], _∷_}
@@ -31,8 +31,6 @@ unfolding maximum
 at-most-maximum [] i = omega arith
 at-most-maximum (n ∷ l) zero = omega arith
 at-most-maximum (n ∷ l) (suc i) = omega (arith, at-most-maximum l i)
-
--- ---- the largest counter
 
 -- two numbers that are above k together
 pub above-both : (k a b : ℕ) → (k < a → k < b) → (k < b → k < a) → ltb k a ≡ ltb k b
