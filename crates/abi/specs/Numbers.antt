@@ -1,4 +1,4 @@
--- What the exported functions answer, as numbers. No part of the reading copy.
+-- What the functions exported to C answer, as numbers.
 use Prim.Native.Nat.{ℕ, _+_}
 use mathlib.Core.List.{List}
 use Rattle.roster.specs.Roster.{faultNumber, RosterOutcome}
@@ -7,7 +7,7 @@ use Rattle.roster.specs.declared.Loaded.the-variants.{Good, Faulty}
 use Rattle.connection.specs.Connection.{Opening}
 use Rattle.connection.specs.declared.change.Opened.{Opened}
 use Rattle.connection.specs.declared.change.Opened.the-variants.{Fresh, WrongSize}
-use Rattle.service.specs.Called.{codeNumber}
+use Rattle.service.specs.Contract.{codeNumber}
 use Rattle.service.specs.declared.CallAnswer.{CallAnswer}
 use Rattle.billing.specs.Outcome.{BillOutcome}
 use Rattle.billing.specs.declared.Billed.{Billed}

@@ -18,7 +18,7 @@ ghost use Rattle.connection.specs.Connection.{openConnection};
 ghost use Rattle.counters.specs.Counters.{zeroCounters};
 ghost use Rattle.service.specs.Refusals.{refusalNumber};
 ghost use Rattle.service.specs.Call.{callOutcome};
-ghost use Rattle.service.specs.Called.{lentMemory, callWith, codeNumber, outcomeWith};
+ghost use Rattle.service.specs.Contract.{lentMemory, callWith, codeNumber, outcomeWith};
 ghost use Rattle.billing.specs.Outcome.{billOutcome};
 ghost use Rattle.abi.specs.Numbers.{loadedWith, openedWith, numbered, billNumbered, billedWith};
 

@@ -13,9 +13,9 @@ use lib.Dec.{ltb, eqb}
 use Rattle.wire.specs.Choice.{if_then_else_, firstOf, isSome}
 use Rattle.wire.specs.Lists.{oneOf}
 use Rattle.wire.specs.Request.{contentLength, authLength, headerLength, requestLength, Request, requestOf}
-use Rattle.wire.specs.Header.{headerOf}
+use Rattle.wire.specs.code.Header.{headerOf}
 use Rattle.wire.specs.Response.{responseBytes}
-use Rattle.wire.specs.Wrote.{Wrote}
+use Rattle.wire.specs.code.Wrote.{Wrote}
 use Rattle.wire.specs.declared.header.Header.{Header}
 use Rattle.wire.proofs.TestLaws.{some≢none, none-at, first-before, first-behind}
 use Rattle.stream.specs.Frame.{contentMost}
@@ -31,7 +31,7 @@ use Rattle.judgement.specs.Status.{statusNumber}
 use Rattle.judgement.specs.Operations.{opcodesOf, noFields, opcodesFields, Operation, ping, listProviders, listOpcodes, readBody, operationOf, Result, refuse, perform, operated}
 use Rattle.judgement.specs.Counts.{Counts, countRefused, count}
 use Rattle.judgement.specs.Judgement.{applicationOf, refusals, askersSlots, resultOf, changedBy, verdictOf, refusedEarly, oversizedStatus, judgement}
-use Rattle.judgement.specs.Decided.{headerTests, namedOr, authOf, askersLine, outputBytes, resultIn, Decided, oneOfCore, oneOfKeystore, AskerBelow}
+use Rattle.judgement.specs.code.Decided.{headerTests, namedOr, authOf, askersLine, outputBytes, resultIn, Decided, oneOfCore, oneOfKeystore, AskerBelow}
 use Rattle.judgement.proofs.OrderLaws.{one-of-three}
 use Rattle.judgement.specs.declared.Status.{Status}
 use Rattle.judgement.specs.declared.Status.the-variants.{AuthenticationError, NotAuthenticated, BodySizeExceedsLimit}
@@ -40,7 +40,7 @@ use Rattle.judgement.specs.declared.Asker.the-variants.{Nobody, Named}
 use Rattle.judgement.specs.declared.Auth.{Auth}
 use Rattle.judgement.specs.declared.Auth.the-variants.{Refused as AuthRefused, Accepted}
 use Rattle.judgement.specs.declared.Decision.{Decision}
-use Rattle.answer.specs.Answers.{AnsweredBy, PassedHeader, resultForNobody, ResultAnswered, RefusedWith}
+use Rattle.answer.specs.code.Answers.{AnsweredBy, PassedHeader, resultForNobody, ResultAnswered, RefusedWith}
 use Rattle.answer.specs.declared.Answered.{Answered}
 
 -- ---- the first test that applies

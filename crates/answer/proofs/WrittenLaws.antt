@@ -8,12 +8,12 @@ use borrow.Rule.Slice.PartMut.{putMid}
 use lib.ListN.{length, take, drop, getD}
 use Rattle.wire.specs.Numbers.{littleEndianOf}
 use Rattle.wire.specs.Response.{responseHeader, responseBytes}
-use Rattle.wire.specs.Wrote.{Wrote}
+use Rattle.wire.specs.code.Wrote.{Wrote}
 use Rattle.wire.proofs.BufferLaws.{wrote-on}
 use Rattle.registry.specs.Slots.{Entry, free, held, dataMost}
 use Rattle.registry.specs.Registry.{lineCount, slotsOf}
 use Rattle.registry.specs.WellFormed.{wellFormedRegistry}
-use Rattle.registry.specs.Check.{bytesIn}
+use Rattle.registry.specs.code.Check.{bytesIn}
 use Rattle.registry.specs.declared.Line.{Line}
 use Rattle.registry.proofs.SlotLaws.{ShortEntry}
 use Rattle.registry.proofs.WellFormedLaws.{slots-short}

@@ -28,15 +28,15 @@ ghost use Prim.Native.Nat.{ℕ, _≤_, _<_};
 ghost use lib.ListN.{length, take};
 ghost use Rattle.wire.specs.Request.{requestLeast, headerLength, requestLength};
 ghost use Rattle.wire.specs.Response.{bufferLeast, responseBytes};
-ghost use Rattle.wire.specs.Wrote.{Wrote};
+ghost use Rattle.wire.specs.code.Wrote.{Wrote};
 ghost use Rattle.stream.specs.Frame.{legalStart, oversized};
 ghost use Rattle.stream.specs.Rules.{judge};
 ghost use Rattle.registry.specs.Registry.{lineCount, registrySize, slotsOf, changed};
 ghost use Rattle.registry.specs.WellFormed.{wellFormedRegistry};
 ghost use Rattle.judgement.specs.Status.{statusNumber};
 ghost use Rattle.judgement.specs.Judgement.{judgement};
-ghost use Rattle.judgement.specs.Decided.{SafeEdit, changeOf, Decided};
-ghost use Rattle.answer.specs.Answers.{AnsweredBy, RefusedWith, PassedHeader, resultForNamed, resultForNobody, ResultAnswered};
+ghost use Rattle.judgement.specs.code.Decided.{SafeEdit, changeOf, Decided};
+ghost use Rattle.answer.specs.code.Answers.{AnsweredBy, RefusedWith, PassedHeader, resultForNamed, resultForNobody, ResultAnswered};
 
 // Carries out what an operation changes.
 fn make_edit(registry: &mut [u8], line: Line, body: &[u8], d: Decision)

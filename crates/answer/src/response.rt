@@ -17,11 +17,11 @@ ghost use mathlib.Core.Path.{_≡_};
 ghost use Prim.Native.Nat.{_≤_, _<_};
 ghost use lib.ListN.{length};
 ghost use Rattle.wire.specs.Response.{bufferLeast, responseBytes};
-ghost use Rattle.wire.specs.Wrote.{Wrote};
+ghost use Rattle.wire.specs.code.Wrote.{Wrote};
 ghost use Rattle.registry.specs.Registry.{lineCount, slotsOf};
 ghost use Rattle.registry.specs.WellFormed.{wellFormedRegistry};
 ghost use Rattle.judgement.specs.Status.{statusNumber};
-ghost use Rattle.judgement.specs.Decided.{outputMost, SafeOutput, outputBytes};
+ghost use Rattle.judgement.specs.code.Decided.{outputMost, SafeOutput, outputBytes};
 
 // How long a response's body is.
 fn output_size(registry: &[u8], line: Line, output: Output) -> usize

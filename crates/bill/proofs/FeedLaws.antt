@@ -20,11 +20,11 @@ use Rattle.registry.specs.WellFormed.{wellFormedRegistry}
 use Rattle.judgement.specs.Judgement.{judgement}
 use Rattle.counters.specs.Counters.{zeroCounters, counterMost}
 use Rattle.service.specs.Call.{Memory, memoryOf, layout, fresh, bufferLeast, chunkMost, refusalOf, callOutcome}
-use Rattle.service.specs.Called.{lentMemory, callWith}
+use Rattle.service.specs.Contract.{lentMemory, callWith}
 use Rattle.service.proofs.Demand3.{lawful, accepts}
 use Rattle.counters.specs.declared.Counters.{Counters}
 use Rattle.connection.specs.declared.change.Opened.{Opened}
-use Rattle.bill.specs.Stream.{ReadWithin, KeptWithin, leftBy, Follows, Takes, After}
+use Rattle.bill.specs.code.Stream.{ReadWithin, KeptWithin, leftBy, Follows, Takes, After}
 use Rattle.bill.specs.declared.files.Input.{Input}
 use Rattle.bill.specs.declared.files.Input.the-variants.{Bytes}
 

@@ -22,7 +22,7 @@ use Rattle.roster.specs.Roster.{recordLength, valueIn, recordFaults, rosterOf}
 use Rattle.roster.specs.declared.RosterFault.{RosterFault}
 use Rattle.roster.specs.declared.RosterFault.the-variants.{CutRecord, UnknownTag, BadName, NinthName, RepeatedName}
 use Rattle.roster.proofs.LoadLaws.{whole-fit, whole-room, cut-test, passed-whole, passed-room, rosterFrom, roster-fault, roster-on}
-use Rattle.bill.specs.Front.{goodRecordMost, recordMost, frontMost}
+use Rattle.bill.specs.code.Front.{goodRecordMost, recordMost, frontMost}
 
 -- ---- a record's length
 

@@ -11,7 +11,8 @@ use types.Run.{OneOf, miss}
 use lib.ListN.{length, take, drop, length-append}
 use lib.Seq.{take-append-seam}
 use Rattle.wire.specs.Choice.{firstOf}
-use Rattle.wire.specs.Wrote.{over, Wrote}
+use Rattle.wire.specs.Lists.{over}
+use Rattle.wire.specs.code.Wrote.{Wrote}
 use Rattle.stream.specs.Rules.{rules}
 use Rattle.stream.proofs.KeptLaws.{rules-connection, rules-kept}
 use Rattle.connection.specs.Connection.{wellFormedConnection}
@@ -34,8 +35,9 @@ use Rattle.billing.specs.declared.Billed.{Billed}
 use Rattle.billing.specs.declared.Billed.the-variants.{Written}
 use Rattle.billing.proofs.Billed.{the-type}
 use Rattle.billing.proofs.RulesLaws.{bill-by-rules}
-use Rattle.bill.specs.Stream.{leftBy, After}
-use Rattle.bill.specs.Printed.{faultyText, takenText, Started, Refused, SourceOf, Prints}
+use Rattle.bill.specs.code.Stream.{leftBy, After}
+use Rattle.bill.specs.Prints.{Prints}
+use Rattle.bill.specs.code.Printed.{faultyText, takenText, Started, Refused, SourceOf}
 use Rattle.bill.specs.declared.text.Source.{Source}
 use Rattle.bill.specs.declared.text.Source.the-variants as source
 

@@ -1,3 +1,2 @@
-pub mod Stream
-pub mod Printed
-pub mod Front
+pub mod Prints
+pub mod code

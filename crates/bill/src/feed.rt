@@ -15,8 +15,8 @@ ghost use Rattle.connection.specs.Connection.{connectionSize};
 ghost use Rattle.registry.specs.WellFormed.{wellFormedRegistry};
 ghost use Rattle.counters.specs.Counters.{counterMost};
 ghost use Rattle.service.specs.Call.{bufferLeast, chunkMost};
-ghost use Rattle.service.specs.Called.{lentMemory};
-ghost use Rattle.bill.specs.Stream.{Follows, Takes, After};
+ghost use Rattle.service.specs.Contract.{lentMemory};
+ghost use Rattle.bill.specs.code.Stream.{Follows, Takes, After};
 
 // A stream that was read: the counters after it, and whether it could be read to its end.
 pub struct Taken {

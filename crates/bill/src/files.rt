@@ -1,6 +1,6 @@
 // Files read in constant memory. A file that can't be opened or read to its end is unreadable.
 ghost use lib.ListN.{length};
-ghost use Rattle.bill.specs.Stream.{ReadWithin, KeptWithin};
+ghost use Rattle.bill.specs.code.Stream.{ReadWithin, KeptWithin};
 
 // What reading once gives.
 pub enum Input {

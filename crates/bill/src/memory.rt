@@ -9,7 +9,7 @@ ghost use lib.ListN.{length};
 ghost use Rattle.connection.specs.Connection.{connectionSize};
 ghost use Rattle.registry.specs.Registry.{registrySize};
 ghost use Rattle.billing.specs.Outcome.{billMost};
-ghost use Rattle.bill.specs.Front.{frontMost};
+ghost use Rattle.bill.specs.code.Front.{frontMost};
 
 // The longest good record of a roster file: tag, length and name.
 const GOOD_RECORD_MOST: usize = 3 + APPLICATION_NAME_MOST;

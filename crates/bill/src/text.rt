@@ -19,14 +19,15 @@ ghost use mathlib.Core.Bool.{true};
 ghost use mathlib.Core.Path.{_≡_};
 ghost use Prim.Native.Nat.{_≤_};
 ghost use lib.ListN.{length};
-ghost use Rattle.wire.specs.Wrote.{Wrote};
+ghost use Rattle.wire.specs.code.Wrote.{Wrote};
 ghost use Rattle.connection.specs.Connection.{wellFormedConnection};
 ghost use Rattle.registry.specs.WellFormed.{wellFormedRegistry};
 ghost use Rattle.registry.specs.Registry.{registrySize};
-ghost use Rattle.service.specs.Called.{lentMemory};
+ghost use Rattle.service.specs.Contract.{lentMemory};
 ghost use Rattle.billing.specs.Bill.{noFile};
 ghost use Rattle.billing.specs.Outcome.{billMost};
-ghost use Rattle.bill.specs.Printed.{faultyText, takenText, Started, SourceOf, Prints};
+ghost use Rattle.bill.specs.Prints.{Prints};
+ghost use Rattle.bill.specs.code.Printed.{faultyText, takenText, Started, SourceOf};
 
 // What becomes of a roster file.
 enum Source {

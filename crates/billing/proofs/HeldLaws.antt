@@ -12,7 +12,7 @@ use Rattle.stream.specs.Call.{wellFormed}
 use Rattle.stream.proofs.FrameLaws.{requestLength-append}
 use Rattle.stream.proofs.ChunkLaws.{well-skipping}
 use Rattle.connection.specs.Connection.{heldMost, connectionBytes, connectionOf, wellFormedConnection}
-use Rattle.connection.specs.State.{stateOf}
+use Rattle.connection.specs.code.State.{stateOf}
 use Rattle.connection.specs.declared.check.State.the-variants.{Open, Skipping, Closed}
 use Rattle.connection.proofs.ConnectionLaws.{bytes-there, memory-good, store-load}
 

@@ -17,7 +17,7 @@ use Rattle.wire.proofs.ListLaws.{all-drop}
 use Rattle.registry.specs.Names.{nameIn}
 use Rattle.registry.specs.Registry.{lineCount, applicationNameMost, lineSize, namesIn}
 use Rattle.registry.specs.WellFormed.{legalIfUsed, wellFormedRegistry}
-use Rattle.registry.specs.Check.{blockNames}
+use Rattle.registry.specs.code.Check.{blockNames}
 use Rattle.registry.proofs.NameLaws.{legal-short}
 use Rattle.registry.proofs.WellFormedLaws.{good-of}
 use Rattle.registry.proofs.BlockNameLaws.{blockAt, fits, length-names, names-cons, name-at, name-length}
@@ -25,7 +25,8 @@ use Rattle.judgement.specs.Status.{statusNumber, refusedStatuses}
 use Rattle.judgement.specs.declared.Status.the-variants.{Success}
 use Rattle.billing.specs.Ascii.{ascii}
 use Rattle.billing.specs.Bill.{decimal, textLine, applicationLines, refusedLines}
-use Rattle.billing.specs.Text.{usedNames, refusedLine}
+use Rattle.billing.specs.Outcome.{usedNames}
+use Rattle.billing.specs.code.Text.{refusedLine}
 
 -- ---- the applications
 

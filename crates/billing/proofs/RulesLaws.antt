@@ -23,8 +23,7 @@ use Rattle.service.specs.Call.{memoryOf, layout, fresh}
 use Rattle.service.proofs.Demand3.{lawful}
 use Rattle.service.proofs.CodeDemand3.{Ran, Runs, answersIn, leftAfter, code-demand3}
 use Rattle.billing.specs.Bill.{billOf, billFor}
-use Rattle.billing.specs.Text.{usedNames}
-use Rattle.billing.specs.Outcome.{billIn}
+use Rattle.billing.specs.Outcome.{usedNames, billIn}
 
 used-first : (names : List (List ℕ)) (k : ℕ) → all isLegal names ≡ true → usedNames (names ++ replicate k []) ≡ names
 unfolding usedNames

@@ -1,4 +1,4 @@
 pub mod Ascii
 pub mod Bill
-pub mod Text
 pub mod Outcome
+pub mod code

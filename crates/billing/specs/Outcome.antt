@@ -1,4 +1,4 @@
--- What writing a bill comes to, for any memory and any buffer. No part of the reading copy: the bill's text is defined there.
+-- What writing a bill comes to, for any memory and any buffer.
 use Prim.Native.Nat.{ℕ}
 use mathlib.Core.Bool.{Bool, not}
 use mathlib.Core.Option.{Option, none, some}
@@ -6,19 +6,24 @@ use mathlib.Core.List.{List, [], _∷_}
 use lib.ListN.{length}
 use lib.Dec.{ltb}
 use Rattle.wire.specs.Choice.{firstOf}
-use Rattle.wire.specs.Wrote.{over}
+use Rattle.wire.specs.Lists.{over}
 use Rattle.connection.specs.Connection.{wellFormedConnection}
 use Rattle.registry.specs.Registry.{namesIn}
 use Rattle.registry.specs.WellFormed.{wellFormedRegistry}
 use Rattle.service.specs.Call.{Memory, stateIn}
 use Rattle.billing.specs.Bill.{billOf}
-use Rattle.billing.specs.Text.{usedNames}
 use Rattle.billing.specs.declared.Billed.{Billed}
 use Rattle.billing.specs.declared.Billed.the-variants.{Written, BufferTooSmall, ConnectionIllFormed, RegistryIllFormed}
 
 -- a buffer of so many bytes has room for every bill
 abbrev pub billMost : ℕ
 billMost = 2048
+
+-- the names of the used lines, which come first
+unfoldable pub usedNames : (names : List (List ℕ)) → List (List ℕ)
+usedNames [] = []
+usedNames ([] ∷ names) = []
+usedNames ((b ∷ name) ∷ names) = (b ∷ name) ∷ usedNames names
 
 -- the bill of what is kept in memory
 unfoldable pub billIn : Memory → List ℕ

@@ -4,7 +4,7 @@ ghost use mathlib.Core.List.{_∷_};
 ghost use Prim.Native.Nat.{_+_, _≤_};
 ghost use lib.ListN.{length};
 ghost use Rattle.billing.specs.Bill.{decimal};
-ghost use Rattle.billing.specs.Text.{digitsMost, Placed};
+ghost use Rattle.billing.specs.code.Text.{digitsMost, Placed};
 
 pub fn write_word(out: &mut [u8], at: usize, word: &[u8]) -> usize
     requires { ⌜ at + length (now word) ≤ length (now out) ⌝ }

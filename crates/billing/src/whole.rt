@@ -13,11 +13,11 @@ ghost use mathlib.Core.Bool.{true};
 ghost use mathlib.Core.Path.{_≡_};
 ghost use Prim.Native.Nat.{_≤_};
 ghost use lib.ListN.{length};
-ghost use Rattle.wire.specs.Wrote.{Wrote};
+ghost use Rattle.wire.specs.code.Wrote.{Wrote};
 ghost use Rattle.stream.specs.Rules.{heldBytes};
 ghost use Rattle.connection.specs.Connection.{connectionOf, wellFormedConnection};
 ghost use Rattle.registry.specs.WellFormed.{wellFormedRegistry};
-ghost use Rattle.service.specs.Called.{lentMemory};
+ghost use Rattle.service.specs.Contract.{lentMemory};
 ghost use Rattle.billing.specs.Outcome.{billMost, billIn, billOutcome};
 
 // How many bytes of an unfinished request a well-formed connection has seen, skipped ones too.

@@ -7,9 +7,8 @@ use native.Mathlib.Omega.{arith}
 use borrow.Rule.Slice.PartMut.{putMid}
 use lib.ListN.{length, take, drop, replicate, length-append, length-take, drop-of-length-le}
 use lib.Seq.{drop-at, drop-append-add, drop-append-seam}
-use Rattle.wire.specs.Lists.{padded}
+use Rattle.wire.specs.Lists.{padded, over}
 use Rattle.wire.specs.Numbers.{littleEndianOf}
-use Rattle.wire.specs.Wrote.{over}
 use Rattle.wire.proofs.BufferLaws.{onward}
 use Rattle.wire.proofs.NumberLaws.{length-number}
 use Rattle.connection.specs.Connection.{heldMost, laidOut}

@@ -16,8 +16,8 @@ use Rattle.stream.proofs.ChunkLaws.{unfinished-held, bad-found, whole-found, Sk
 use Rattle.stream.proofs.GatheredLaws.{length-gathered}
 use Rattle.stream.specs.Rules.{opened}
 use Rattle.connection.specs.Connection.{heldMost, connectionSize, connectionBytes}
-use Rattle.connection.specs.Gather.{wantedOf, heldIn, Holding, Filled, Gathers}
-use Rattle.stream.specs.Framed.{frameOf}
+use Rattle.connection.specs.code.Gather.{wantedOf, heldIn, Holding, Filled, Gathers}
+use Rattle.stream.specs.code.Framed.{frameOf}
 use Rattle.stream.specs.declared.frame.Frame.{Frame}
 use Rattle.connection.proofs.ConnectionLaws.{bytes-there, size-there, legal-most, held-most}
 

@@ -16,8 +16,8 @@ use Rattle.stream.specs.Call.{wellFormed}
 use Rattle.stream.proofs.FrameLaws.{legal-size, headerSize-append}
 use Rattle.stream.proofs.ChunkLaws.{unfinished-next, skip-found}
 use Rattle.connection.specs.Connection.{heldMost, connectionSize, laidOut, connectionBytes, connectionOf, wellFormedConnection}
-use Rattle.connection.specs.State.{stateOf}
-use Rattle.connection.specs.Gather.{heldIn, Holding}
+use Rattle.connection.specs.code.State.{stateOf}
+use Rattle.connection.specs.code.Gather.{heldIn, Holding}
 use Rattle.connection.specs.declared.check.State.the-variants.{Open, Skipping, Closed}
 use Rattle.connection.proofs.ConnectionLaws.{bytes-there, size-there, legal-most, WholeHeader, memory-good, store-load}
 use Rattle.connection.proofs.GatherLaws.{holding-of, held-back}

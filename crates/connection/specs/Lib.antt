@@ -1,3 +1,2 @@
 pub mod Connection
-pub mod State
-pub mod Gather
+pub mod code

@@ -23,7 +23,7 @@ ghost use lib.ListN.{length, drop, getD};
 ghost use Rattle.wire.specs.Lists.{all, isZero};
 ghost use Rattle.stream.specs.Call.{isBeginning};
 ghost use Rattle.connection.specs.Connection.{connectionSize, connectionOf, wellFormedConnection};
-ghost use Rattle.connection.specs.State.{stateOf};
+ghost use Rattle.connection.specs.code.State.{stateOf};
 
 // A connection without its bytes: how many it holds, or how many are to go.
 pub enum State {

@@ -11,7 +11,7 @@ ghost use Prim.Native.Nat.{_≤_, _<_, min};
 ghost use lib.ListN.{length};
 ghost use Rattle.stream.specs.Frame.{unfinished, next};
 ghost use Rattle.connection.specs.Connection.{heldMost};
-ghost use Rattle.connection.specs.Gather.{wantedOf, Holding, heldIn, Filled, Gathers};
+ghost use Rattle.connection.specs.code.Gather.{wantedOf, Holding, heldIn, Filled, Gathers};
 
 // What is gathered: how many bytes of the chunk, and what those held then begin with.
 pub struct Gathered {

@@ -9,12 +9,12 @@ use lib.Dec.{eqb}
 use Rattle.wire.specs.Choice.{if_then_else_}
 use Rattle.judgement.specs.Status.{statusNumber}
 use Rattle.judgement.specs.Counts.{Counts, countServed, countRefused, count}
-use Rattle.judgement.specs.Decided.{askersLine, AskerBelow}
+use Rattle.judgement.specs.code.Decided.{askersLine, AskerBelow}
 use Rattle.judgement.specs.declared.Status.{Status}
 use Rattle.judgement.specs.declared.Asker.{Asker}
 use Rattle.judgement.specs.declared.Asker.the-variants.{Nobody, Named}
 use Rattle.counters.specs.Counters.{totalsOf, countersOf, counterMost, maximum, largestCount, largestCounter}
-use Rattle.counters.specs.Counted.{servedFor, eventOf, countEvent, counted, takenAfter, answeredAfter, droppedAfter, servedAfter, unauthenticatedAfter, refusedAfter, EventBelow, LowFor, CountFits, RowFits, Fits}
+use Rattle.counters.specs.code.Counted.{servedFor, eventOf, countEvent, counted, takenAfter, answeredAfter, droppedAfter, servedAfter, unauthenticatedAfter, refusedAfter, EventBelow, LowFor, CountFits, RowFits, Fits}
 use Rattle.counters.specs.declared.Counters.{Counters}
 use Rattle.counters.specs.declared.Event.{Event}
 use Rattle.counters.specs.declared.Event.the-variants.{NoRequest, Served, ServedUnauthenticated, Refused}

@@ -1,2 +1,2 @@
 pub mod Counters
-pub mod Counted
+pub mod code

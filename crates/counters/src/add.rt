@@ -5,7 +5,7 @@ use judgement::REFUSED_STATUSES;
 use judgement::statuses::refused_index;
 use registry::LINES;
 ghost use mathlib.Core.Path.{_≡_};
-ghost use Rattle.counters.specs.Counted.{takenAfter, answeredAfter, droppedAfter, servedAfter, unauthenticatedAfter, refusedAfter, TakenFits, AnsweredFits, DroppedFits, CountFits, RowFits};
+ghost use Rattle.counters.specs.code.Counted.{takenAfter, answeredAfter, droppedAfter, servedAfter, unauthenticatedAfter, refusedAfter, TakenFits, AnsweredFits, DroppedFits, CountFits, RowFits};
 
 // The bytes that a call took.
 pub fn add_taken(counter: &mut u64, by: Increments)

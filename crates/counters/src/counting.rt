@@ -11,7 +11,7 @@ use judgement::REFUSED_STATUSES;
 use registry::LINES;
 ghost use mathlib.Core.Path.{_≡_};
 ghost use Rattle.counters.specs.Counters.{zeroCounters};
-ghost use Rattle.counters.specs.Counted.{counted, Fits};
+ghost use Rattle.counters.specs.code.Counted.{counted, Fits};
 
 // Nothing is counted yet.
 pub fn zero_counters() -> Counters

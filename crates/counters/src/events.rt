@@ -4,7 +4,7 @@ use judgement::Asker;
 use judgement::Status;
 use judgement::statuses::status_number;
 ghost use mathlib.Core.Path.{_≡_};
-ghost use Rattle.counters.specs.Counted.{eventOf};
+ghost use Rattle.counters.specs.code.Counted.{eventOf};
 
 // Status 0 is one more served, for the asker; any other is one more refused with that status.
 pub fn event_of(asker: Asker, status: Status) -> Event

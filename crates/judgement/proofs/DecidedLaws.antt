@@ -21,14 +21,14 @@ use Rattle.protobuf.proofs.BodyLaws.{BodyIn, body-in}
 use Rattle.registry.specs.Names.{legalName}
 use Rattle.registry.specs.Slots.{Key, Entry, free, held, nameOf, keyNameMost, dataMost, legalData, bitsLeast, bitsMost, legalBits}
 use Rattle.registry.specs.Registry.{slotCount, slotNamed, unchanged, fill, clear}
-use Rattle.registry.specs.Check.{bytesIn, exportIn}
+use Rattle.registry.specs.code.Check.{bytesIn, exportIn}
 use Rattle.registry.specs.declared.Slot.{Slot}
 use Rattle.registry.specs.declared.Found.the-variants.{At, Nothing as Missing}
 use Rattle.registry.proofs.NameLaws.{legal-some, legal-short}
 use Rattle.registry.proofs.SlotLaws.{Legal, legal-data}
 use Rattle.registry.proofs.RegistryLaws.{found-name}
 use Rattle.judgement.specs.Operations.{readBody, keyOf, Operation, operationOf, Result, success, refuse, importBits, importable, performImport, performDestroy, exportOf, performExport, performListOpcodes, perform, operated}
-use Rattle.judgement.specs.Decided.{outputBytes, changeOf, resultIn, refusedWith, ValuesIn, KeyParts, SafeOutput, Decided}
+use Rattle.judgement.specs.code.Decided.{outputBytes, changeOf, resultIn, refusedWith, ValuesIn, KeyParts, SafeOutput, Decided}
 use Rattle.judgement.specs.declared.Status.{Status}
 use Rattle.judgement.specs.declared.Status.the-variants.{Success, ProviderDoesNotExist, DeserializingBodyFailed, PsaErrorNotPermitted, PsaErrorInvalidArgument, PsaErrorAlreadyExists, PsaErrorDoesNotExist, PsaErrorInsufficientStorage}
 use Rattle.judgement.specs.declared.Output.{Output}

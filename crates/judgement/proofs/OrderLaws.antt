@@ -10,10 +10,10 @@ use lib.Dec.{eqb}
 use Rattle.wire.specs.Choice.{firstOf}
 use Rattle.wire.specs.Lists.{oneOf}
 use Rattle.wire.proofs.TestLaws.{or-left, or-right}
-use Rattle.registry.specs.Check.{applicationFound}
+use Rattle.registry.specs.code.Check.{applicationFound}
 use Rattle.registry.specs.declared.Line.{Line}
 use Rattle.registry.specs.declared.Application.the-variants.{Named, Unknown}
-use Rattle.judgement.specs.Decided.{checkedOf}
+use Rattle.judgement.specs.code.Decided.{checkedOf}
 use Rattle.judgement.specs.declared.Status.{Status}
 use Rattle.judgement.specs.declared.Checked.the-variants.{Passed, Refused}
 

@@ -9,7 +9,7 @@ use lib.Dec.{eqb}
 use Rattle.protobuf.specs.Written.{varintWithin, varint, numberField, bytesField, packedField}
 use Rattle.registry.specs.Slots.{Entry}
 use Rattle.judgement.specs.Operations.{coreOpcodes, keystoreOpcodes, opcodesOf}
-use Rattle.judgement.specs.Decided.{outputBytes}
+use Rattle.judgement.specs.code.Decided.{outputBytes}
 use Rattle.judgement.specs.declared.Output.the-variants.{Version, Providers, Opcodes}
 
 module _ (slots : List Entry) where

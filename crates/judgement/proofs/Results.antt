@@ -18,7 +18,7 @@ use Rattle.registry.specs.declared.Found.{Found}
 use Rattle.registry.specs.declared.Found.the-variants.{At, Nothing}
 use Rattle.judgement.specs.Operations.{Operation, ping, listProviders, listOpcodes, importKey, destroyKey, exportPublicKey, operationOf, Result, success, refuse, importable, performImport, performDestroy, exportOf, performExport, performListOpcodes, perform, operated}
 use Rattle.judgement.specs.Judgement.{applicationOf, refusals, askersSlots, resultOf}
-use Rattle.judgement.specs.Decided.{outputBytes}
+use Rattle.judgement.specs.code.Decided.{outputBytes}
 use Rattle.judgement.specs.declared.Status.{Status}
 use Rattle.judgement.specs.declared.Output.the-variants.{Opcodes}
 use Rattle.judgement.proofs.OutputLaws.{opcodes-length}

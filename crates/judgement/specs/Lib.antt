@@ -2,4 +2,4 @@ pub mod Status
 pub mod Operations
 pub mod Counts
 pub mod Judgement
-pub mod Decided
+pub mod code

@@ -26,7 +26,7 @@ ghost use Rattle.protobuf.specs.Message as message;
 ghost use Rattle.registry.specs.Registry.{lineCount, registrySize, slotsOf};
 ghost use Rattle.registry.specs.WellFormed.{wellFormedRegistry};
 ghost use Rattle.judgement.specs.Operations.{operated, noFields, opcodesFields, importFields, nameFields, performImport, performDestroy, performExport, keyOf, importable};
-ghost use Rattle.judgement.specs.Decided.{refusedWith, Decided, DecidedAnywhere, ValuesIn, oneOfCore, oneOfKeystore};
+ghost use Rattle.judgement.specs.code.Decided.{refusedWith, Decided, DecidedAnywhere, ValuesIn, oneOfCore, oneOfKeystore};
 
 // A request that is refused: no output, and nothing changes.
 pub fn refused(status: Status) -> Decision

@@ -13,7 +13,7 @@ ghost use Rattle.wire.specs.Choice.{firstOf};
 ghost use Rattle.wire.specs.Lists.{oneOf};
 ghost use Rattle.registry.specs.Registry.{registrySize, applicationNamed};
 ghost use Rattle.judgement.specs.Operations.{coreOpcodes, keystoreOpcodes, opcodesOf};
-ghost use Rattle.judgement.specs.Decided.{headerTests, checkedOf, authOf};
+ghost use Rattle.judgement.specs.code.Decided.{headerTests, checkedOf, authOf};
 
 fn is_listed(opcode: u16) -> bool
     ensures { λ r. ⌜ r ≡ oneOf (coreOpcodes ++ keystoreOpcodes) opcode ⌝ }

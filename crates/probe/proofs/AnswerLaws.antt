@@ -3,8 +3,8 @@ use mathlib.Core.Path.{_≡_, sym}
 use mathlib.Core.Bool.{Bool, true, false}
 use mathlib.Core.List.{List}
 use Prim.Native.Nat.{ℕ}
-use Rattle.wire.specs.Wrote.{Wrote}
-use Rattle.probe.specs.Answers.{refused, WroteIf, ChangedIf}
+use Rattle.wire.specs.code.Wrote.{Wrote}
+use Rattle.probe.specs.code.Answers.{refused, WroteIf, ChangedIf}
 
 module _ {s d : List ℕ} where
   pub wrote-not : {fits : Bool} → fits ≡ false → WroteIf fits s d d refused

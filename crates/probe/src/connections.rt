@@ -4,7 +4,7 @@ use connection::change::open_connection;
 use connection::check::is_well_formed;
 ghost use mathlib.Core.Path.{_≡_};
 ghost use Rattle.connection.specs.Connection.{wellFormedConnection, openConnection};
-ghost use Rattle.probe.specs.Answers.{isFresh};
+ghost use Rattle.probe.specs.code.Answers.{isFresh};
 
 #[no_mangle]
 pub extern "C" fn probe_connection_is_well_formed(memory: &[u8]) -> bool

@@ -4,7 +4,7 @@ use wire::header::read_header;
 use wire::response::response_header;
 ghost use mathlib.Core.Path.{_≡_};
 ghost use Rattle.wire.specs.Response.{responseHeader};
-ghost use Rattle.probe.specs.Numbers.{headerNumbers};
+ghost use Rattle.probe.specs.code.Numbers.{headerNumbers};
 
 // The fields of the header in `s`, in their order on the wire: 1 and the fields, or zeros where `s` is too short.
 #[no_mangle]

@@ -20,8 +20,8 @@ ghost use lib.Dec.{leb};
 ghost use Rattle.protobuf.specs.Varint.{varintAt};
 ghost use Rattle.protobuf.specs.Body.{bodyOf};
 ghost use Rattle.protobuf.specs.Written.{varint, numberField, bytesField};
-ghost use Rattle.probe.specs.Answers.{numberMost, WroteIf};
-ghost use Rattle.probe.specs.Numbers.{varintNumbers, bodyNumbers, schemaOf};
+ghost use Rattle.probe.specs.code.Answers.{numberMost, WroteIf};
+ghost use Rattle.probe.specs.code.Numbers.{varintNumbers, bodyNumbers, schemaOf};
 
 // The largest field number.
 const NUMBER_MOST: u64 = 536870911;

@@ -25,9 +25,9 @@ ghost use mathlib.Core.Bool.{_&&_};
 ghost use lib.ListN.{length};
 ghost use lib.Dec.{leb};
 ghost use Rattle.registry.specs.WellFormed.{wellFormedRegistry};
-ghost use Rattle.registry.specs.Check.{keyFrom};
+ghost use Rattle.registry.specs.code.Check.{keyFrom};
 ghost use Rattle.roster.specs.Roster.{loadRoster};
-ghost use Rattle.probe.specs.Answers.{WroteIf, ChangedIf, lineFound, slotFound, isClearable, cleared, isFillable, filled, isReadable, dataAt, exportable, loadedNumber};
+ghost use Rattle.probe.specs.code.Answers.{WroteIf, ChangedIf, lineFound, slotFound, isClearable, cleared, isFillable, filled, isReadable, dataAt, exportable, loadedNumber};
 
 #[no_mangle]
 pub extern "C" fn probe_registry_is_well_formed(registry: &[u8]) -> bool

@@ -9,7 +9,7 @@ use lib.ListN.{length, take, drop, set, length-append, length-set}
 use lib.Seq.{take-suc-set, drop-set-lt, drop-drop, append-snoc, set-split, length-take-le}
 use lib.Dec.{ltb}
 use borrow.Author.Tests.{lt-ltb, le-ltb, eq-eqb, ne-eqb}
-use Rattle.wire.specs.Wrote.{Wrote}
+use Rattle.wire.specs.code.Wrote.{Wrote}
 use Rattle.wire.proofs.TestLaws.{either}
 use Rattle.protobuf.specs.Written.{varintWithin, varint, numberField, bytesField}
 

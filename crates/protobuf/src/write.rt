@@ -4,7 +4,7 @@ ghost use mathlib.Core.Path.{_≡_};
 ghost use mathlib.Core.List.{List};
 ghost use Prim.Native.Nat.{ℕ, _+_, _^_, _<_, _≤_};
 ghost use lib.ListN.{length};
-ghost use Rattle.wire.specs.Wrote.{Wrote};
+ghost use Rattle.wire.specs.code.Wrote.{Wrote};
 ghost use Rattle.protobuf.specs.Written.{varint, numberField, bytesField};
 
 // How many bytes the shortest varint of a number takes.

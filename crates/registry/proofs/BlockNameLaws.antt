@@ -13,7 +13,7 @@ use Rattle.wire.specs.Lists.{same, blocks}
 use Rattle.wire.proofs.ListLaws.{part-of-part, part-cons}
 use Rattle.wire.proofs.BlockLaws.{block-at, length-blocks}
 use Rattle.registry.specs.Names.{nameIn, indexFrom, distinct}
-use Rattle.registry.specs.Check.{blockNames}
+use Rattle.registry.specs.code.Check.{blockNames}
 use Rattle.registry.proofs.NameLaws.{lone, distinct-cons}
 
 pub fits : (i count size : ℕ) → i < count → i * size + size ≤ count * size

@@ -17,7 +17,7 @@ use Rattle.registry.specs.Names.{legalName, nameIn, indexFrom, distinct}
 use Rattle.registry.specs.Slots.{slotSize}
 use Rattle.registry.specs.Registry.{lineCount, slotCount, applicationNameMost, lineHead, lineSize, registrySize, linesIn, namesIn, slotsIn}
 use Rattle.registry.specs.WellFormed.{isUsed, noneUsed, usedFirst, legalIfUsed, freeIfUnused, slotsWellFormed, zerosBehindName, keysDistinct, wellFormedRegistry}
-use Rattle.registry.specs.Check.{lineTests, wellFormedLine, usedLines}
+use Rattle.registry.specs.code.Check.{lineTests, wellFormedLine, usedLines}
 use Rattle.registry.proofs.RegistryLaws.{some-used}
 use Rattle.registry.proofs.WellFormedLaws.{Lines, good-of, well-of, zero-lines}
 

@@ -7,7 +7,7 @@ use lib.ListN.{length}
 use Rattle.registry.specs.Names.{indexFrom}
 use Rattle.registry.specs.Slots.{nameOf, slotSize}
 use Rattle.registry.specs.Registry.{lineCount, slotCount, lineHead, lineSize, slotsIn, applicationNamed, lineAt, slotsOf, slotNamed}
-use Rattle.registry.specs.Check.{blockNames, applicationFound}
+use Rattle.registry.specs.code.Check.{blockNames, applicationFound}
 use Rattle.registry.specs.declared.Line.{Line}
 use Rattle.registry.specs.declared.Application.the-variants.{Named, Unknown}
 use Rattle.registry.specs.declared.Found.the-variants.{At, Nothing}

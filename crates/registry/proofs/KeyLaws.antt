@@ -17,7 +17,7 @@ use Rattle.wire.proofs.NumberLaws.{zero-field, field-part}
 use Rattle.registry.specs.Slots.{free, held, dataMost, dataLengthAt, dataAt, exportAt, slotSize, dataIn, keyIn, slotOf, keyTests, wellFormedSlot}
 use Rattle.registry.specs.Registry.{lineCount, slotCount, slotsOf, place}
 use Rattle.registry.specs.WellFormed.{wellFormedRegistry}
-use Rattle.registry.specs.Check.{bytesIn, exportIn}
+use Rattle.registry.specs.code.Check.{bytesIn, exportIn}
 use Rattle.registry.specs.declared.Line.{Line}
 use Rattle.registry.proofs.SlotLaws.{free-slot, key-slot, legal-data}
 use Rattle.registry.proofs.RegistryLaws.{slot-there}

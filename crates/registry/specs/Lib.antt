@@ -2,4 +2,4 @@ pub mod Names
 pub mod Slots
 pub mod Registry
 pub mod WellFormed
-pub mod Check
+pub mod code

@@ -11,7 +11,7 @@ ghost use lib.ListN.{length};
 ghost use Rattle.registry.specs.Slots.{keyNameMost, dataMost};
 ghost use Rattle.registry.specs.Registry.{lineCount, slotCount, registrySize, changed};
 ghost use Rattle.registry.specs.Registry as registry_specs;
-ghost use Rattle.registry.specs.Check.{keyFrom};
+ghost use Rattle.registry.specs.code.Check.{keyFrom};
 
 pub fn fill_slot(
     registry: &mut [u8],

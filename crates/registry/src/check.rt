@@ -18,7 +18,7 @@ ghost use lib.ListN.{length};
 ghost use Rattle.wire.specs.Lists.{all, blocks};
 ghost use Rattle.registry.specs.Registry.{lineCount, lineSize, registrySize};
 ghost use Rattle.registry.specs.WellFormed.{slotsWellFormed, wellFormedRegistry};
-ghost use Rattle.registry.specs.Check.{wellFormedLine};
+ghost use Rattle.registry.specs.code.Check.{wellFormedLine};
 
 // Whether the slots of a line are well formed.
 fn are_slots(line: &[u8]) -> bool

@@ -13,7 +13,7 @@ ghost use mathlib.Core.Path.{_≡_};
 ghost use Prim.Native.Nat.{_<_};
 ghost use lib.ListN.{length};
 ghost use Rattle.registry.specs.Registry.{lineCount, slotCount, registrySize, place, applicationNamed, slotsOf, slotNamed};
-ghost use Rattle.registry.specs.Check.{applicationFound};
+ghost use Rattle.registry.specs.code.Check.{applicationFound};
 
 // Where a slot begins in the registry.
 pub fn slot_at(line: Line, slot: Slot) -> usize

@@ -13,7 +13,7 @@ ghost use lib.ListN.{getD};
 ghost use Rattle.registry.specs.Slots.{free};
 ghost use Rattle.registry.specs.Registry.{lineCount, slotCount, slotsOf};
 ghost use Rattle.registry.specs.WellFormed.{wellFormedRegistry};
-ghost use Rattle.registry.specs.Check.{bytesIn, exportIn};
+ghost use Rattle.registry.specs.code.Check.{bytesIn, exportIn};
 
 // The data of the key in a slot, as a part of the registry; a free slot has none.
 pub fn key_data<'a>(registry: &'a [u8], line: Line, slot: Slot) -> &'a [u8]

@@ -8,7 +8,7 @@ ghost use lib.Dec.{eqb};
 ghost use lib.ListN.{length, drop};
 ghost use Rattle.wire.specs.Lists.{all};
 ghost use Rattle.registry.specs.Names.{isNameByte, legalName, indexFrom, isNew, distinct};
-ghost use Rattle.registry.specs.Check.{blockNames};
+ghost use Rattle.registry.specs.code.Check.{blockNames};
 
 // A byte as a size. The contract also says its bound, which proofs need of a name's length byte.
 pub fn wide(x: u8) -> usize

@@ -21,7 +21,7 @@ ghost use lib.ListN.{length};
 ghost use Rattle.wire.specs.Lists.{padded};
 ghost use Rattle.wire.specs.Numbers.{littleEndianOf, field};
 ghost use Rattle.registry.specs.Slots.{keyNameMost, dataMost, legalBits, flag, slotSize, keyBytes, wellFormedSlot};
-ghost use Rattle.registry.specs.Check.{keyFrom};
+ghost use Rattle.registry.specs.code.Check.{keyFrom};
 
 // The number in the two bytes at `at`.
 pub fn size_at(s: &[u8], at: usize) -> usize

@@ -26,7 +26,7 @@ use Rattle.registry.specs.Slots.{slotSize}
 use Rattle.registry.specs.Registry.{applicationNameMost, lineCount, slotCount, lineSize, lineOf}
 use Rattle.registry.proofs.KeylessLaws.{isLegal, sized-names}
 use Rattle.roster.specs.Roster.{recordLength, valueIn, recordFaults, Roster, applications, faulty, recordTurn, rosterOf}
-use Rattle.roster.specs.Check.{loadedOf, isWhole, namesAt, withName, Within, rosterIn, RosterKnown}
+use Rattle.roster.specs.code.Check.{loadedOf, isWhole, namesAt, withName, Within, rosterIn, RosterKnown}
 use Rattle.roster.specs.declared.RosterFault.{RosterFault}
 use Rattle.roster.specs.declared.RosterFault.the-variants.{CutRecord, UnknownTag, BadName, NinthName, RepeatedName}
 use Rattle.roster.specs.declared.Loaded.the-variants.{Good, Faulty}

@@ -1,2 +1,2 @@
 pub mod Roster
-pub mod Check
+pub mod code

@@ -19,7 +19,7 @@ ghost use Rattle.wire.specs.Lists.{all};
 ghost use Rattle.registry.specs.Names.{legalName};
 ghost use Rattle.registry.specs.Registry.{applicationNameMost, lineSize, registrySize, lineOf, registryOf};
 ghost use Rattle.roster.specs.Roster.{faultNumber, loadRoster};
-ghost use Rattle.roster.specs.Check.{namesAt, Within, RosterKnown};
+ghost use Rattle.roster.specs.code.Check.{namesAt, Within, RosterKnown};
 
 // Document 01's number of a fault: R0 to R5.
 pub fn fault_number(fault: RosterFault) -> u32

@@ -15,7 +15,7 @@ ghost use Rattle.wire.specs.Choice.{firstOf};
 ghost use Rattle.registry.specs.Names.{isNew};
 ghost use Rattle.registry.specs.Registry.{lineCount};
 ghost use Rattle.roster.specs.Roster.{recordLength, valueIn, recordFaults};
-ghost use Rattle.roster.specs.Check.{loadedOf, isWhole, namesAt, withName, Within};
+ghost use Rattle.roster.specs.code.Check.{loadedOf, isWhole, namesAt, withName, Within};
 
 // The length of the record that bytes begin with.
 pub fn record_length(bytes: &[u8]) -> usize

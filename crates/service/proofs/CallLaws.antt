@@ -26,7 +26,7 @@ use Rattle.judgement.specs.Judgement.{refusedEarly, judgement}
 use Rattle.judgement.proofs.ResponseLaws.{responseMost, bad-short, oversized-short, judge-short}
 use Rattle.counters.specs.Counters.{totalsOf, countersOf, zeroCounters, counterMost, largestCounter}
 use Rattle.service.specs.Call.{Memory, stateIn, memoryOf, layout, fresh, bufferLeast, refusalTests, codeOf, refusalOf, callOutcome}
-use Rattle.service.specs.Served.{Ready, effectOf}
+use Rattle.service.specs.code.Served.{Ready, effectOf}
 use Rattle.service.specs.declared.Refusal.{Refusal}
 use Rattle.service.specs.declared.Refusal.the-variants.{ResponseBufferTooSmall, ChunkTooLong, ConnectionIllFormed, RegistryIllFormed, CounterTooHigh}
 use Rattle.service.proofs.KeptLaws.{keeps}

@@ -10,12 +10,13 @@ use types.Run.{OneOf}
 use Rattle.wire.specs.Choice.{firstOf}
 use Rattle.stream.specs.Calls.{Answer, Call, CallOutcome, refused, took}
 use Rattle.counters.specs.Counters.{totalsOf, countersOf}
-use Rattle.counters.specs.Counted.{countEvent, counted}
+use Rattle.counters.specs.code.Counted.{countEvent, counted}
 use Rattle.counters.specs.declared.Counters.{Counters}
 use Rattle.service.specs.Refusals.{refusalNumber}
 use Rattle.service.specs.Call.{Memory, memoryOf, refusalTests, codeOf, refusalOf, callOutcome}
-use Rattle.service.specs.Called.{lentMemory, callWith, codeFor, codeNumber, answerOf, refusedWith, outcomeWith, CallContract}
-use Rattle.service.specs.Served.{WroteAny, Carried, effectOf}
+use Rattle.service.specs.Contract.{lentMemory, callWith, codeNumber, outcomeWith, CallContract}
+use Rattle.service.specs.code.Called.{codeFor, answerOf, refusedWith}
+use Rattle.service.specs.code.Served.{WroteAny, Carried, effectOf}
 use Rattle.service.specs.declared.Refusal.{Refusal}
 use Rattle.service.specs.declared.Code.{Code}
 use Rattle.service.specs.declared.Code.the-variants.{Taken}

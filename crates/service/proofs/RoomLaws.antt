@@ -2,12 +2,12 @@
 use Prim.Native.Nat.{_≤_, _<_, _^_}
 use native.Mathlib.Omega.{arith}
 use Rattle.counters.specs.Counters.{counterMost, largestCounter}
-use Rattle.counters.specs.Counted.{Fits}
+use Rattle.counters.specs.code.Counted.{Fits}
 use Rattle.counters.specs.declared.Counters.{Counters}
 use Rattle.counters.specs.declared.Increments.{Increments}
 use Rattle.counters.proofs.CountedLaws.{low-enough}
-use Rattle.service.specs.Served.{Modest}
-use Rattle.service.specs.Called.{refusedWith}
+use Rattle.service.specs.code.Served.{Modest}
+use Rattle.service.specs.code.Called.{refusedWith}
 use Rattle.service.specs.declared.Code.{Code}
 
 -- counters of at most 2^62 have room for what a call counts

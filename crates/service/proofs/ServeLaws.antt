@@ -8,11 +8,11 @@ use native.Mathlib.Omega.{arith}
 use lib.ListN.{length}
 use lib.Dec.{ltb, lit<}
 use borrow.Author.Tests.{lt-ltb, le-ltb, ltb-true, ltb-false}
-use Rattle.wire.specs.Wrote.{over}
+use Rattle.wire.specs.Lists.{over}
 use Rattle.wire.specs.Request.{requestLength}
 use Rattle.stream.specs.Frame.{oversized}
 use Rattle.stream.specs.Rules.{Verdict, Connection, opened, skipping, closed, State, judge}
-use Rattle.stream.specs.Effects.{waiting, answering, dropping}
+use Rattle.stream.specs.code.Effects.{waiting, answering, dropping}
 use Rattle.stream.specs.Call.{Effect, callRule}
 use Rattle.stream.proofs.ChunkLaws.{call-closed}
 use Rattle.connection.specs.Connection.{laidOut, connectionBytes, connectionOf}
@@ -20,16 +20,16 @@ use Rattle.connection.proofs.ConnectionLaws.{WholeHeader}
 use Rattle.connection.proofs.StateLaws.{header-there, header-long, header-size}
 use Rattle.judgement.specs.Counts.{Counts, noCounts}
 use Rattle.judgement.specs.Judgement.{judgement, refusedEarly, verdictOf}
-use Rattle.judgement.specs.Decided.{AskerBelow}
-use Rattle.answer.specs.Answers.{AnsweredBy}
+use Rattle.judgement.specs.code.Decided.{AskerBelow}
+use Rattle.answer.specs.code.Answers.{AnsweredBy}
 use Rattle.answer.specs.declared.Answered.{Answered}
 use Rattle.counters.specs.Counters.{totalsOf, countersOf}
-use Rattle.counters.specs.Counted.{countEvent, counted}
+use Rattle.counters.specs.code.Counted.{countEvent, counted}
 use Rattle.counters.proofs.CountedLaws.{event-counts, event-below}
 use Rattle.counters.specs.declared.Counters.{Counters}
 use Rattle.service.specs.Call.{bufferLeast, chunkMost, stateIn}
-use Rattle.service.specs.Called.{lentMemory}
-use Rattle.service.specs.Served.{Modest, waited, finished, droppedAll, Carried, SkipReady, effectOf, skipEffect}
+use Rattle.service.specs.Contract.{lentMemory}
+use Rattle.service.specs.code.Served.{Modest, waited, finished, droppedAll, Carried, SkipReady, effectOf, skipEffect}
 use Rattle.service.specs.declared.Handled.{Handled}
 
 abbrev pub stateWith : Connection → (registry : List ℕ) → Counters → State (List ℕ) Counts

@@ -1,4 +1,4 @@
 pub mod Refusals
 pub mod Call
-pub mod Called
-pub mod Served
+pub mod Contract
+pub mod code

@@ -11,9 +11,10 @@ use counters::Increments;
 use counters::counting::count;
 use counters::counting::with_increments;
 ghost use mathlib.Core.Path.{_≡_};
-ghost use Rattle.counters.specs.Counted.{counted, Fits};
+ghost use Rattle.counters.specs.code.Counted.{counted, Fits};
 ghost use Rattle.service.specs.Call.{callOutcome};
-ghost use Rattle.service.specs.Called.{lentMemory, callWith, codeNumber, outcomeWith, outcomeOf, answerOf, refusedWith, CallContract};
+ghost use Rattle.service.specs.Contract.{lentMemory, callWith, codeNumber, outcomeWith, CallContract};
+ghost use Rattle.service.specs.code.Called.{outcomeOf, answerOf, refusedWith};
 
 // A refused call takes nothing, writes nothing and alters nothing.
 fn refuse(code: Code) -> Handled

@@ -6,7 +6,8 @@ use counters::limit::is_too_high;
 ghost use mathlib.Core.Path.{_≡_};
 ghost use Rattle.wire.specs.Choice.{firstOf};
 ghost use Rattle.service.specs.Call.{refusalTests};
-ghost use Rattle.service.specs.Called.{lentMemory, callWith, codeFor};
+ghost use Rattle.service.specs.Contract.{lentMemory, callWith};
+ghost use Rattle.service.specs.code.Called.{codeFor};
 
 // The shortest response buffer, and the longest chunk.
 pub const BUFFER_LEAST: usize = 1024;

@@ -24,10 +24,10 @@ ghost use mathlib.Core.List.{List, []};
 ghost use Prim.Native.Nat.{ℕ};
 ghost use Rattle.counters.specs.declared.Counters.{Counters};
 ghost use Rattle.connection.specs.Connection.{connectionOf};
-ghost use Rattle.connection.specs.State.{stateOf};
+ghost use Rattle.connection.specs.code.State.{stateOf};
 ghost use Rattle.stream.specs.Rules.{opened};
-ghost use Rattle.service.specs.Called.{lentMemory};
-ghost use Rattle.service.specs.Served.{Ready, Carried, effectOf, skipEffect, SkipReady, headerAt, waited, finished, droppedAll};
+ghost use Rattle.service.specs.Contract.{lentMemory};
+ghost use Rattle.service.specs.code.Served.{Ready, Carried, effectOf, skipEffect, SkipReady, headerAt, waited, finished, droppedAll};
 
 // `n` bytes are taken and bring no response.
 fn wait(n: usize) -> Handled

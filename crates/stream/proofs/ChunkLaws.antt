@@ -13,7 +13,7 @@ use Rattle.wire.specs.Request.{contentLength, authLength, headerLength, request
 use Rattle.wire.proofs.TestLaws.{and-left, and-right}
 use Rattle.stream.specs.Frame.{legalStart, oversized, Next, unfinished, badStart, skipped, whole, next}
 use Rattle.stream.specs.Rules.{Verdict, Judgement, Connection, opened, skipping, closed, State, judge}
-use Rattle.stream.specs.Effects.{waiting, answering, dropping}
+use Rattle.stream.specs.code.Effects.{waiting, answering, dropping}
 use Rattle.stream.specs.Call.{isBeginning, wellFormed, Step, keep, respond, dropByte, openRule, skipRule, byteRule, Effect, callRule}
 use Rattle.stream.proofs.FrameLaws.{Unfinished, Skipped, Shape, isUnfinished, isBad, isSkipped, isWhole, shape, next-unfinished, next-bad, next-skipped, next-whole, legal-size, whole-append, bad-append, bad-behind, whole-behind, length-snoc, whole-last, bad-last, header-length, skipped-stays, skipped-ends, judge-large}
 use Rattle.stream.proofs.CallLaws.{call-responds, call-goes-on}

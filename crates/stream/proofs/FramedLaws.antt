@@ -8,7 +8,7 @@ use lib.ListN.{length, take, drop, take-append-drop}
 use lib.Seq.{length-take-le}
 use Rattle.wire.specs.Request.{headerLength, requestLength}
 use Rattle.stream.specs.Frame.{legalStart, Next, unfinished, badStart, skipped, whole, next}
-use Rattle.stream.specs.Framed.{frameOf}
+use Rattle.stream.specs.code.Framed.{frameOf}
 use Rattle.stream.specs.declared.frame.Frame.the-variants.{Unfinished, BadStart, Skipped, Whole}
 use Rattle.stream.proofs.ChunkLaws.{skip-found, whole-found}
 use Rattle.stream.proofs.FrameLaws.{legal-size, legalStart-append, requestLength-append}

@@ -8,7 +8,7 @@ use lib.Seq.{take-all, take-append-seam, take-append-add, length-take-le}
 use Rattle.wire.specs.Request.{requestLength}
 use Rattle.stream.specs.Frame.{unfinished, badStart, skipped, whole, next}
 use Rattle.stream.specs.Rules.{Verdict, Judgement, opened, skipping, closed, State, judge}
-use Rattle.stream.specs.Effects.{waiting, answering}
+use Rattle.stream.specs.code.Effects.{waiting, answering}
 use Rattle.stream.specs.Call.{callRule}
 use Rattle.stream.proofs.FrameLaws.{whole-append, bad-append, header-length, skipped-stays, skipped-ends, judge-large}
 use Rattle.stream.proofs.ChunkLaws.{bad-found, whole-found, Skip, skip-found, call-unfinished, call-bad, call-large, call-whole}

@@ -2,5 +2,4 @@ pub mod Frame
 pub mod Rules
 pub mod Call
 pub mod Calls
-pub mod Framed
-pub mod Effects
+pub mod code

@@ -7,7 +7,7 @@ ghost use Prim.Native.Nat.{_≤_, _<_, _^_};
 ghost use lib.ListN.{length};
 ghost use Rattle.wire.specs.Request.{requestLeast, requestLength};
 ghost use Rattle.stream.specs.Frame.{legalStart, oversized, next};
-ghost use Rattle.stream.specs.Framed.{frameOf};
+ghost use Rattle.stream.specs.code.Framed.{frameOf};
 
 pub const MAGIC: u32 = 0x5EC0A710;
 

@@ -1,5 +1,5 @@
 -- `abi::code_number` meets its contract.
-use Rattle.service.specs.Called.{codeNumber}
+use Rattle.service.specs.Contract.{codeNumber}
 use borrow.Author.Needs.{needs}
 use Rattle.abi.proofs.code_number.Statement.{statement}
 use Rattle.abi.proofs.code_number.Tie as tie

@@ -40,7 +40,7 @@ use denote.Triple.Statement.{Contract, Triple}
 use denote.Triple.Table.{entered, cited}
 use denote.Triple.Walked.{says, Stays, stay-dropped, gave-slice, walkOf, AllGo, goes-dropped, goes-gave-slice, Walks, ends-at, walked, walk-meets}
 use denote.Exit.{yes}
-use Rattle.service.specs.Called.{lentMemory}
+use Rattle.service.specs.Contract.{lentMemory}
 use Rattle.counters.specs.declared.Counters.{Counters}
 use Rattle.counters.proofs.Counters as T
 use Rattle.counters.proofs.Counters.Laws as T′

@@ -39,7 +39,7 @@ use denote.Triple.Walked.{says, Stays, stay-dropped, gave-ref, gave-slice, walkO
 use denote.Exit.{yes}
 use Rattle.stream.specs.Calls.{Call as LentCall}
 use Rattle.service.specs.Call.{Memory as CallMemory, callOutcome}
-use Rattle.service.specs.Called.{lentMemory, callWith, outcomeWith, CallContract}
+use Rattle.service.specs.Contract.{lentMemory, callWith, outcomeWith, CallContract}
 use Rattle.counters.specs.declared.Counters.{Counters}
 use Rattle.service.specs.declared.CallAnswer.{CallAnswer}
 use Rattle.counters.proofs.Counters as T

@@ -2,9 +2,9 @@
 use borrow.Author.Needs.{needs}
 use Rattle.registry.proofs.WellFormedLaws.{good-of}
 use Rattle.judgement.specs.Operations.{Result}
-use Rattle.judgement.specs.Decided.{resultIn}
+use Rattle.judgement.specs.code.Decided.{resultIn}
 use Rattle.judgement.specs.declared.Asker.the-variants.{Named}
-use Rattle.answer.specs.Answers.{resultForNamed}
+use Rattle.answer.specs.code.Answers.{resultForNamed}
 use Rattle.answer.proofs.AnswerLaws.{decided-answered}
 use Rattle.answer.proofs.request.answer_named.Statement.{statement}
 use Rattle.answer.proofs.request.answer_named.Tie as tie

@@ -5,9 +5,9 @@ use borrow.Author.Tests.{eq-eqb, ne-eqb}
 use borrow.Author.Needs.{needs}
 use Rattle.registry.specs.Registry.{slotsOf}
 use Rattle.judgement.specs.Operations.{refuse}
-use Rattle.judgement.specs.Decided.{oneOfCore}
+use Rattle.judgement.specs.code.Decided.{oneOfCore}
 use Rattle.judgement.specs.declared.Asker.the-variants.{Nobody}
-use Rattle.answer.specs.Answers.{resultForNobody}
+use Rattle.answer.specs.code.Answers.{resultForNobody}
 use Rattle.answer.proofs.AnswerLaws.{core-opcode, provider-small, core-anywhere, decided-answered}
 use Rattle.answer.proofs.request.answer_nobody.Statement.{statement}
 use Rattle.answer.proofs.request.answer_nobody.Tie as tie

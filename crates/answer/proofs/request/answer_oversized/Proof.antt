@@ -3,7 +3,7 @@ use Prim.Native.Nat.{_≤_, _<_}
 use native.Mathlib.Omega.{arith}
 use borrow.Author.Needs.{needs}
 use Rattle.wire.specs.Request.{contentLength}
-use Rattle.wire.specs.Header.{headerOf}
+use Rattle.wire.specs.code.Header.{headerOf}
 use Rattle.stream.specs.Frame.{contentMost}
 use Rattle.judgement.specs.Status.{statusNumber}
 use Rattle.answer.proofs.AnswerLaws.{oversized-content, oversized-auth, answered-oversized}

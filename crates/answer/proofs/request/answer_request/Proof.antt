@@ -6,17 +6,17 @@ use native.Mathlib.Omega.{arith}
 use borrow.Author.Needs.{needs}
 use lib.ListN.{length}
 use Rattle.wire.specs.Request.{requestOf}
-use Rattle.wire.specs.Header.{headerOf}
+use Rattle.wire.specs.code.Header.{headerOf}
 use Rattle.stream.proofs.FrameLaws.{legal-size}
 use Rattle.registry.proofs.WellFormedLaws.{good-of}
 use Rattle.judgement.specs.Status.{statusNumber}
 use Rattle.judgement.specs.Judgement.{changedBy}
-use Rattle.judgement.specs.Decided.{askersLine}
+use Rattle.judgement.specs.code.Decided.{askersLine}
 use Rattle.judgement.specs.declared.Asker.the-variants.{Nobody, Named}
 use Rattle.judgement.specs.declared.Auth.the-variants.{Accepted}
 use Rattle.judgement.proofs.JudgementLaws.{asks}
 use Rattle.judgement.proofs.OrderLaws.{passed-none, refused-some}
-use Rattle.answer.specs.Answers.{PassedHeader}
+use Rattle.answer.specs.code.Answers.{PassedHeader}
 use Rattle.answer.proofs.AnswerLaws.{header-status, authFound, header-refused, auth-refused, by-nobody, by-application, body-there, auth-there, answered-refused, answered}
 use Rattle.answer.proofs.request.answer_request.Statement.{statement}
 use Rattle.answer.proofs.request.answer_request.Tie as tie

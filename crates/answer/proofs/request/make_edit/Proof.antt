@@ -5,7 +5,7 @@ use native.Mathlib.Omega.{arith}
 use borrow.Author.Needs.{needs}
 use lib.ListN.{length, length-take}
 use Rattle.registry.specs.Registry.{slotCount, changed}
-use Rattle.judgement.specs.Decided.{KeyParts, changeOf}
+use Rattle.judgement.specs.code.Decided.{KeyParts, changeOf}
 use Rattle.answer.proofs.request.make_edit.Statement.{statement}
 use Rattle.answer.proofs.request.make_edit.Tie as tie
 

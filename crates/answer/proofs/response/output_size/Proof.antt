@@ -5,7 +5,7 @@ use native.Mathlib.Omega.{arith}
 use borrow.Author.Needs.{needs}
 use lib.ListN.{length}
 use Rattle.registry.specs.Slots.{dataMost}
-use Rattle.judgement.specs.Decided.{outputBytes}
+use Rattle.judgement.specs.code.Decided.{outputBytes}
 use Rattle.judgement.proofs.OutputLaws.{version-length, providers-length, opcodes-length}
 use Rattle.answer.proofs.WrittenLaws.{data-short}
 use Rattle.answer.proofs.response.output_size.Statement.{statement}

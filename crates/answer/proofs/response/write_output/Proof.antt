@@ -5,7 +5,7 @@ use borrow.Author.Needs.{needs}
 use lib.ListN.{length}
 use Rattle.wire.proofs.BufferLaws.{wrote-none}
 use Rattle.registry.specs.Slots.{dataMost}
-use Rattle.judgement.specs.Decided.{outputBytes}
+use Rattle.judgement.specs.code.Decided.{outputBytes}
 use Rattle.judgement.proofs.OutputLaws.{version-field, providers-field, core-field, keystore-field}
 use Rattle.answer.proofs.WrittenLaws.{data-short}
 use Rattle.answer.proofs.response.write_output.Statement.{statement}

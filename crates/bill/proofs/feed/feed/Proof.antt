@@ -7,9 +7,9 @@ use lib.ListN.{length, take, drop}
 use Rattle.wire.proofs.BufferLaws.{lent}
 use Rattle.stream.specs.Calls.{CallOutcome}
 use Rattle.service.specs.Call.{Memory, callOutcome}
-use Rattle.service.specs.Called.{lentMemory, callWith, codeNumber, outcomeWith}
+use Rattle.service.specs.Contract.{lentMemory, callWith, codeNumber, outcomeWith}
 use Rattle.counters.specs.declared.Counters.{Counters}
-use Rattle.bill.specs.Stream.{Takes}
+use Rattle.bill.specs.code.Stream.{Takes}
 use Rattle.bill.proofs.FeedLaws.{takes-none, takes-all, takes-more, takes-fits}
 use Rattle.bill.proofs.feed.feed.Statement.{statement}
 use Rattle.bill.proofs.feed.feed.Tie as tie

@@ -8,8 +8,8 @@ use lib.ListN.{length, take}
 use lib.Seq.{length-take-le}
 use Rattle.counters.specs.Counters.{counterMost}
 use Rattle.service.specs.Call.{chunkMost}
-use Rattle.service.specs.Called.{lentMemory}
-use Rattle.bill.specs.Stream.{turnsMost, After}
+use Rattle.service.specs.Contract.{lentMemory}
+use Rattle.bill.specs.code.Stream.{turnsMost, After}
 use Rattle.bill.proofs.FeedLaws.{read-bytes, starts, follows, after-more, after-most}
 use Rattle.bill.proofs.feed.take_stream.Statement.{statement}
 use Rattle.bill.proofs.feed.take_stream.Tie as tie

@@ -7,7 +7,7 @@ use lib.ListN.{length, length-drop}
 use borrow.Rule.Slice.PartMut.{putMid, same-len-mid}
 use Rattle.wire.proofs.BufferLaws.{lent}
 use Rattle.bill.proofs.FeedLaws.{read-bytes}
-use Rattle.bill.specs.Stream.{KeptWithin}
+use Rattle.bill.specs.code.Stream.{KeptWithin}
 use Rattle.bill.proofs.files.read_front.Statement.{statement}
 use Rattle.bill.proofs.files.read_front.Tie as tie
 

@@ -1,7 +1,7 @@
 -- `bill::files::read_some` meets its contract.
 use native.Mathlib.Omega.{arith}
 use borrow.Author.Needs.{needs}
-use Rattle.bill.specs.Stream.{ReadWithin}
+use Rattle.bill.specs.code.Stream.{ReadWithin}
 use Rattle.bill.proofs.files.read_some.Statement.{statement}
 use Rattle.bill.proofs.files.read_some.Tie as tie
 

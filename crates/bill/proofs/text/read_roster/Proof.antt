@@ -3,7 +3,7 @@ use mathlib.Core.Path.{sym, subst}
 use native.Mathlib.Omega.{arith}
 use lib.Seq.{length-take-le}
 use Rattle.roster.specs.declared.Loaded.{Loaded}
-use Rattle.bill.specs.Printed.{SourceOf}
+use Rattle.bill.specs.code.Printed.{SourceOf}
 use Rattle.bill.proofs.FeedLaws.{kept-bytes}
 use Rattle.bill.proofs.PrintLaws.{sourceFor, source-of}
 use borrow.Author.Needs.{needs}

@@ -3,7 +3,7 @@ use borrow.Author.Tests.{not-true, not-false}
 use Rattle.billing.specs.Ascii.{ascii}
 use Rattle.billing.specs.Bill.{textLine, refusedRoster}
 use Rattle.billing.proofs.PlacedLaws.{placed-on, placed-front}
-use Rattle.bill.specs.Printed.{faultyText}
+use Rattle.bill.specs.code.Printed.{faultyText}
 use borrow.Author.Needs.{needs}
 use Rattle.bill.proofs.text.write_faulty.Statement.{statement}
 use Rattle.bill.proofs.text.write_faulty.Tie as tie

@@ -1,6 +1,6 @@
 -- `bill::text::write_taken` meets its contract.
 use borrow.Author.Tests.{not-true, not-false}
-use Rattle.bill.specs.Printed.{takenText}
+use Rattle.bill.specs.code.Printed.{takenText}
 use Rattle.bill.proofs.PrintLaws.{bill-wrote, always-written}
 use borrow.Author.Needs.{needs}
 use Rattle.bill.proofs.text.write_taken.Statement.{statement}

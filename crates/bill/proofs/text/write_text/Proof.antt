@@ -1,7 +1,7 @@
 -- `bill::text::write_text` meets its contract.
 use mathlib.Core.Path.{subst}
 use native.Mathlib.Omega.{arith}
-use Rattle.bill.specs.Printed.{SourceOf}
+use Rattle.bill.specs.code.Printed.{SourceOf}
 use Rattle.bill.proofs.PrintLaws.{no-file-prints, faulty-prints}
 use borrow.Author.Needs.{needs}
 use Rattle.bill.proofs.text.write_text.Statement.{statement}

@@ -8,7 +8,7 @@ use Rattle.counters.specs.Counters.{totalsOf}
 use Rattle.service.specs.Call.{stateIn}
 use Rattle.billing.specs.Ascii.{ascii}
 use Rattle.billing.specs.Bill.{billOf}
-use Rattle.billing.specs.Text.{countLineMost, applicationLineMost, refusedLineMost}
+use Rattle.billing.specs.code.Text.{countLineMost, applicationLineMost, refusedLineMost}
 use Rattle.billing.specs.Outcome.{billIn}
 use Rattle.billing.proofs.PlacedLaws.{placed-on, placed-front}
 use Rattle.billing.proofs.whole.write_lines.Statement.{statement}

@@ -3,7 +3,7 @@ use mathlib.Core.Path.{ap, _∙_}
 use mathlib.Core.List.{List}
 use Prim.Native.Nat.{ℕ}
 use lib.ListN.{take, drop}
-use Rattle.wire.specs.Wrote.{over}
+use Rattle.wire.specs.Lists.{over}
 use Rattle.connection.proofs.ChangeLaws.{number-put}
 use borrow.Author.Needs.{needs}
 use Rattle.connection.proofs.change.write_number.Statement.{statement}

@@ -4,7 +4,7 @@ use mathlib.Core.Bool.{Bool, true, false}
 use mathlib.Core.List.{List}
 use Prim.Native.Nat.{ℕ}
 use Rattle.stream.specs.Frame.{Next, unfinished, badStart, skipped, whole, next}
-use Rattle.stream.specs.Framed.{frameOf}
+use Rattle.stream.specs.code.Framed.{frameOf}
 use Rattle.stream.specs.Call.{isBeginning}
 use Rattle.stream.specs.declared.frame.Frame.{Frame}
 use Rattle.stream.specs.declared.frame.Frame.the-variants.{Unfinished, BadStart, Skipped, Whole}

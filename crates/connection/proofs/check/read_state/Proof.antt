@@ -3,7 +3,7 @@ use mathlib.Core.Path.{_≡_, sym, ap, _∙_}
 use native.Mathlib.Omega.{arith}
 use lib.ListN.{length}
 use Rattle.connection.specs.Connection.{connectionSize}
-use Rattle.connection.specs.State.{stateOf}
+use Rattle.connection.specs.code.State.{stateOf}
 use Rattle.connection.specs.declared.check.State.the-variants.{Open, Skipping}
 use Rattle.connection.proofs.CheckLaws.{well-size, open-number, of-open, of-skipping, of-closed}
 use Rattle.connection.proofs.check.read_state.Statement.{statement}

@@ -8,7 +8,7 @@ use lib.Seq.{length-take-le}
 use Rattle.stream.specs.Frame.{next}
 use Rattle.stream.specs.Rules.{opened}
 use Rattle.connection.specs.Connection.{connectionBytes}
-use Rattle.connection.specs.Gather.{wantedOf, heldIn, Holding}
+use Rattle.connection.specs.code.Gather.{wantedOf, heldIn, Holding}
 use Rattle.connection.proofs.GatherLaws.{wanted-more, wanted-few, holding-few, holding-size}
 use borrow.Author.Needs.{needs}
 use Rattle.connection.proofs.gather.fill.Statement.{statement}

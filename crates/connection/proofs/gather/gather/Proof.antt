@@ -12,9 +12,9 @@ use borrow.Author.Needs.{needs}
 use Rattle.stream.specs.Frame.{unfinished, next}
 use Rattle.stream.specs.declared.frame.Frame.{Frame}
 use Rattle.stream.specs.declared.frame.Frame.the-variants.{Unfinished}
-use Rattle.stream.specs.Framed.{frameOf}
+use Rattle.stream.specs.code.Framed.{frameOf}
 use Rattle.stream.proofs.FramedLaws.{frame-unfinished}
-use Rattle.connection.specs.Gather.{heldIn}
+use Rattle.connection.specs.code.Gather.{heldIn}
 use Rattle.connection.proofs.GatherLaws.{Part, part-none, part-holds, part-again, holding-few, holding-size, after-few, after-size, after-in, after-some, gathers}
 use Rattle.connection.proofs.gather.gather.Statement.{statement}
 use Rattle.connection.proofs.gather.gather.Tie as tie

@@ -1,7 +1,7 @@
 -- `counters::add::add_answered` meets its contract.
 use mathlib.Core.Path.{refl}
 use borrow.Author.Needs.{needs}
-use Rattle.counters.specs.Counted.{answeredAfter}
+use Rattle.counters.specs.code.Counted.{answeredAfter}
 use Rattle.counters.proofs.add.add_answered.Statement.{statement}
 use Rattle.counters.proofs.add.add_answered.Tie as tie
 

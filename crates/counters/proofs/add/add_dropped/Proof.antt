@@ -1,7 +1,7 @@
 -- `counters::add::add_dropped` meets its contract.
 use mathlib.Core.Path.{refl}
 use borrow.Author.Needs.{needs}
-use Rattle.counters.specs.Counted.{droppedAfter}
+use Rattle.counters.specs.code.Counted.{droppedAfter}
 use Rattle.counters.proofs.add.add_dropped.Statement.{statement}
 use Rattle.counters.proofs.add.add_dropped.Tie as tie
 

@@ -7,7 +7,7 @@ use borrow.Author.Needs.{needs}
 use Rattle.registry.specs.Registry.{lineCount}
 use Rattle.judgement.specs.Counts.{increment, countServed, countRefused}
 use Rattle.counters.specs.Counters.{counterMost, maximum}
-use Rattle.counters.specs.Counted.{countEvent, servedAfter, EventBelow, LowFor}
+use Rattle.counters.specs.code.Counted.{countEvent, servedAfter, EventBelow, LowFor}
 use Rattle.counters.proofs.CountersLaws.{at-most-maximum}
 use Rattle.counters.proofs.add.add_served.Statement.{statement}
 use Rattle.counters.proofs.add.add_served.Tie as tie

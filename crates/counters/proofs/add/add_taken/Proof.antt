@@ -1,7 +1,7 @@
 -- `counters::add::add_taken` meets its contract.
 use mathlib.Core.Path.{refl}
 use borrow.Author.Needs.{needs}
-use Rattle.counters.specs.Counted.{takenAfter}
+use Rattle.counters.specs.code.Counted.{takenAfter}
 use Rattle.counters.proofs.add.add_taken.Statement.{statement}
 use Rattle.counters.proofs.add.add_taken.Tie as tie
 

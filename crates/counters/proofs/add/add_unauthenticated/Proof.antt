@@ -6,7 +6,7 @@ use native.Mathlib.Omega.{arith}
 use borrow.Author.Needs.{needs}
 use Rattle.judgement.specs.Counts.{countServed, countRefused}
 use Rattle.counters.specs.Counters.{counterMost}
-use Rattle.counters.specs.Counted.{countEvent, unauthenticatedAfter, LowFor}
+use Rattle.counters.specs.code.Counted.{countEvent, unauthenticatedAfter, LowFor}
 use Rattle.counters.proofs.add.add_unauthenticated.Statement.{statement}
 use Rattle.counters.proofs.add.add_unauthenticated.Tie as tie
 

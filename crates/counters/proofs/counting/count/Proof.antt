@@ -35,7 +35,7 @@ use denote.Triple.Walked.{says, needs, Stays, stay-ref, stay-none, walkOf, AllGo
 use denote.Exit.{yes}
 use Rattle.registry.specs.Registry.{lineCount}
 use Rattle.judgement.specs.Status.{refusedCount}
-use Rattle.counters.specs.Counted.{takenAfter, answeredAfter, droppedAfter, servedAfter, unauthenticatedAfter, refusedAfter, TakenFits, AnsweredFits, DroppedFits, CountFits, RowFits, Fits}
+use Rattle.counters.specs.code.Counted.{takenAfter, answeredAfter, droppedAfter, servedAfter, unauthenticatedAfter, refusedAfter, TakenFits, AnsweredFits, DroppedFits, CountFits, RowFits, Fits}
 use Rattle.counters.specs.declared.Counters.{Counters}
 use Rattle.counters.specs.declared.Increments.{Increments}
 use Rattle.counters.proofs.CountedLaws.{counted-apart, served-fits, unauthenticated-fits, refused-fits}

@@ -1,7 +1,7 @@
 -- `counters::events::event_of` meets its contract.
 use borrow.Author.Tests.{eq-eqb, ne-eqb}
 use borrow.Author.Needs.{needs}
-use Rattle.counters.specs.Counted.{servedFor, eventOf}
+use Rattle.counters.specs.code.Counted.{servedFor, eventOf}
 use Rattle.counters.proofs.events.event_of.Statement.{statement}
 use Rattle.counters.proofs.events.event_of.Tie as tie
 

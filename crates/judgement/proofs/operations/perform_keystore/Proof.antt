@@ -13,7 +13,7 @@ use Rattle.protobuf.specs.declared.body.Body.the-variants.{Message}
 use Rattle.registry.specs.Registry.{slotsOf}
 use Rattle.registry.proofs.WellFormedLaws.{good-of}
 use Rattle.judgement.specs.Operations.{importFields, nameFields, bytesOf, keyOf, importKey, destroyKey, exportPublicKey, operationOf, perform}
-use Rattle.judgement.specs.Decided.{ValuesIn}
+use Rattle.judgement.specs.code.Decided.{ValuesIn}
 use Rattle.judgement.proofs.DecidedLaws.{values-in, readable, unreadable}
 use Rattle.judgement.proofs.operations.perform_keystore.Statement.{statement}
 use Rattle.judgement.proofs.operations.perform_keystore.Tie as tie

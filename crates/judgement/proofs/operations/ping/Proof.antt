@@ -4,7 +4,7 @@ use borrow.Author.Needs.{needs}
 use Rattle.protobuf.specs.Body.{bodyOf}
 use Rattle.protobuf.specs.declared.message.Schema.{Schema}
 use Rattle.judgement.specs.Operations.{noFields, ping, operationOf, perform}
-use Rattle.judgement.specs.Decided.{outputBytes}
+use Rattle.judgement.specs.code.Decided.{outputBytes}
 use Rattle.judgement.specs.declared.Output.the-variants.{Version}
 use Rattle.judgement.proofs.DecidedLaws.{listing, readable, unreadable}
 use Rattle.judgement.proofs.operations.ping.Statement.{statement}

@@ -4,7 +4,7 @@ use borrow.Author.Needs.{needs}
 use borrow.Author.Tests.{eq-eqb, ne-eqb, lt-ltb, le-ltb}
 use native.Mathlib.Omega.{arith}
 use lib.ListN.{length}
-use Rattle.judgement.specs.Decided.{namedOr, authOf}
+use Rattle.judgement.specs.code.Decided.{namedOr, authOf}
 use Rattle.judgement.proofs.OrderLaws.{found-line, found-none}
 use Rattle.judgement.proofs.order.authenticate.Statement.{statement}
 use Rattle.judgement.proofs.order.authenticate.Tie as tie

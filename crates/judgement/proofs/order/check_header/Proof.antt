@@ -7,7 +7,7 @@ use borrow.Author.Tests.{eq-eqb, ne-eqb, lt-ltb, le-ltb}
 use lib.ListN.{drop}
 use Rattle.wire.specs.Choice.{firstOf}
 use Rattle.wire.specs.declared.header.Header.{Header}
-use Rattle.judgement.specs.Decided.{headerTests, checkedOf}
+use Rattle.judgement.specs.code.Decided.{headerTests, checkedOf}
 use Rattle.judgement.specs.declared.Checked.{Checked}
 use Rattle.judgement.proofs.OrderLaws.{stops, passes}
 use Rattle.judgement.proofs.order.check_header.Statement.{statement}

@@ -1,7 +1,7 @@
 -- `probe::connections::probe_open_connection` meets its contract.
 use mathlib.Core.Path.{sym, ap, _∙_}
 use Rattle.connection.specs.Connection.{Opening}
-use Rattle.probe.specs.Answers.{isFresh}
+use Rattle.probe.specs.code.Answers.{isFresh}
 use borrow.Author.Needs.{needs}
 use Rattle.probe.proofs.connections.probe_open_connection.Statement.{statement}
 use Rattle.probe.proofs.connections.probe_open_connection.Tie as tie

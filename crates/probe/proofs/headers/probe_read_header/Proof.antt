@@ -1,6 +1,6 @@
 -- `probe::headers::probe_read_header` meets its contract.
 use mathlib.Core.Path.{ap}
-use Rattle.probe.specs.Numbers.{fieldNumbers}
+use Rattle.probe.specs.code.Numbers.{fieldNumbers}
 use native.Mathlib.Omega.{arith}
 use borrow.Author.Tests.{lt-ltb, le-ltb}
 use borrow.Author.Needs.{needs}

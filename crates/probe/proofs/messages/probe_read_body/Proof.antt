@@ -1,7 +1,7 @@
 -- `probe::messages::probe_read_body` meets its contract.
 use Rattle.protobuf.specs.Body.{bodyOf}
 use Rattle.protobuf.specs.declared.message.Schema.{Schema}
-use Rattle.probe.specs.Numbers.{schemaOf, bodyNumbers}
+use Rattle.probe.specs.code.Numbers.{schemaOf, bodyNumbers}
 use mathlib.Core.Path.{_≡_, sym, ap, _∙_}
 use native.Mathlib.Omega.{arith}
 use borrow.Author.Needs.{needs}

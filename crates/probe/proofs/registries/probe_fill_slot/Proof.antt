@@ -3,7 +3,7 @@ use borrow.Author.Tests.{eq-eqb, ne-eqb, lt-ltb, le-ltb, le-leb, lt-leb}
 use Rattle.probe.proofs.AnswerLaws.{changed-not, changed-so}
 use mathlib.Core.Path.{_≡_}
 use mathlib.Core.Bool.{true}
-use Rattle.probe.specs.Answers.{isClearable}
+use Rattle.probe.specs.code.Answers.{isClearable}
 use borrow.Author.Needs.{needs}
 use Rattle.probe.proofs.registries.probe_fill_slot.Statement.{statement}
 use Rattle.probe.proofs.registries.probe_fill_slot.Tie as tie

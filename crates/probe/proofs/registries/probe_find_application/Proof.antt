@@ -1,7 +1,7 @@
 -- `probe::registries::probe_find_application` meets its contract.
 use mathlib.Core.Path.{sym, ap, _∙_}
 use borrow.Author.Tests.{eq-eqb, ne-eqb}
-use Rattle.probe.specs.Answers.{lineNumber}
+use Rattle.probe.specs.code.Answers.{lineNumber}
 use borrow.Author.Needs.{needs}
 use Rattle.probe.proofs.registries.probe_find_application.Statement.{statement}
 use Rattle.probe.proofs.registries.probe_find_application.Tie as tie

@@ -1,7 +1,7 @@
 -- `probe::registries::probe_find_slot` meets its contract.
 use mathlib.Core.Path.{sym, ap, _∙_}
 use borrow.Author.Tests.{eq-eqb, ne-eqb, lt-ltb, le-ltb}
-use Rattle.probe.specs.Answers.{slotNumber}
+use Rattle.probe.specs.code.Answers.{slotNumber}
 use borrow.Author.Needs.{needs}
 use Rattle.probe.proofs.registries.probe_find_slot.Statement.{statement}
 use Rattle.probe.proofs.registries.probe_find_slot.Tie as tie

@@ -1,7 +1,7 @@
 -- `probe::registries::probe_load_roster` meets its contract.
 use mathlib.Core.Path.{sym, ap, _∙_}
 use Rattle.roster.specs.Roster.{RosterOutcome}
-use Rattle.probe.specs.Answers.{loadedNumber}
+use Rattle.probe.specs.code.Answers.{loadedNumber}
 use borrow.Author.Needs.{needs}
 use Rattle.probe.proofs.registries.probe_load_roster.Statement.{statement}
 use Rattle.probe.proofs.registries.probe_load_roster.Tie as tie

@@ -6,7 +6,7 @@ use lib.ListN.{length}
 use Rattle.wire.specs.Lists.{put}
 use Rattle.wire.proofs.BufferLaws.{put-part}
 use Rattle.registry.specs.Slots.{keyBytes, slotSize}
-use Rattle.registry.specs.Check.{keyFrom}
+use Rattle.registry.specs.code.Check.{keyFrom}
 use Rattle.registry.proofs.SlotLaws.{length-key}
 use Rattle.registry.specs.Registry.{changed}
 use borrow.Author.Needs.{needs}

@@ -2,7 +2,7 @@
 use Rattle.wire.specs.Lists.{all, blocks}
 use Rattle.wire.proofs.BlockLaws.{blocks-pass, blocks-fail, blocks-end}
 use Rattle.registry.specs.Registry.{lineSize}
-use Rattle.registry.specs.Check.{wellFormedLine}
+use Rattle.registry.specs.code.Check.{wellFormedLine}
 use mathlib.Core.Path.{_≡_, refl, sym, ap, _∙_}
 use Prim.Native.Nat.{ℕ, _+_, _*_, _-_, _≤_}
 use native.Mathlib.Omega.{arith}

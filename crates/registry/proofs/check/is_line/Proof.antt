@@ -10,7 +10,7 @@ use Rattle.wire.specs.Lists.{all, every, isZero}
 use Rattle.registry.specs.Names.{legalName, nameIn}
 use Rattle.registry.specs.Registry.{applicationNameMost, lineHead}
 use Rattle.registry.specs.WellFormed.{zerosBehindName}
-use Rattle.registry.specs.Check.{blockNames, lineTests, wellFormedLine}
+use Rattle.registry.specs.code.Check.{blockNames, lineTests, wellFormedLine}
 use Rattle.registry.proofs.NameLaws.{legal-short}
 use borrow.Author.Needs.{needs}
 use Rattle.registry.proofs.check.is_line.Statement.{statement}

@@ -11,7 +11,7 @@ use mathlib.Core.Bool.{and-true}
 use Rattle.wire.specs.Lists.{all, every, isZero, blocks}
 use Rattle.registry.specs.Registry.{lineSize, registrySize}
 use Rattle.registry.specs.WellFormed.{wellFormedRegistry}
-use Rattle.registry.specs.Check.{blockNames, wellFormedLine, usedLines}
+use Rattle.registry.specs.code.Check.{blockNames, wellFormedLine, usedLines}
 use Rattle.registry.proofs.CheckLaws.{registryChecks, used-few, same-test}
 use Rattle.registry.proofs.check.is_well_formed.Statement.{statement}
 use Rattle.registry.proofs.check.is_well_formed.Tie as tie

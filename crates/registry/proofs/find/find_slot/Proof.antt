@@ -6,7 +6,7 @@ use lib.ListN.{take, drop}
 use Rattle.registry.specs.Names.{indexFrom}
 use Rattle.registry.specs.Slots.{slotSize}
 use Rattle.registry.specs.Registry.{slotCount, lineHead, lineSize, lineAt}
-use Rattle.registry.specs.Check.{blockNames}
+use Rattle.registry.specs.code.Check.{blockNames}
 use Rattle.registry.proofs.FindLaws.{slot-found, slot-missing}
 use borrow.Author.Needs.{needs}
 use Rattle.registry.proofs.find.find_slot.Statement.{statement}

@@ -2,7 +2,7 @@
 use Rattle.wire.specs.Lists.{same}
 use Rattle.wire.proofs.ListLaws.{same-lengths}
 use Rattle.registry.specs.Names.{nameIn, indexFrom}
-use Rattle.registry.specs.Check.{blockNames}
+use Rattle.registry.specs.code.Check.{blockNames}
 use Rattle.registry.proofs.BlockNameLaws.{fits, blockAt, scan-skip, scan-hit, scan-end, name-at, name-length, same-cons, same-end}
 use lib.Dec.{eqb}
 use mathlib.Core.Path.{_≡_, refl, sym, _∙_}

@@ -11,7 +11,7 @@ use Rattle.wire.specs.Choice.{firstOf}
 use Rattle.wire.proofs.BufferLaws.{lent}
 use Rattle.registry.specs.Registry.{lineCount}
 use Rattle.roster.specs.Roster.{recordLength, recordFaults, rosterOf}
-use Rattle.roster.specs.Check.{isWhole, namesAt, Within, rosterIn}
+use Rattle.roster.specs.code.Check.{isWhole, namesAt, Within, rosterIn}
 use Rattle.roster.proofs.LoadLaws.{whole-room, passed-whole, passed-room, loaded-good, loaded-faulty, rosterFrom, roster-end, roster-fault, roster-on, names-many, names-more, within-more}
 use Rattle.roster.proofs.load.check_roster.Statement.{statement}
 use Rattle.roster.proofs.load.check_roster.Tie as tie

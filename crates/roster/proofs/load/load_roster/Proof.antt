@@ -5,7 +5,7 @@ use Prim.Native.Nat.{ℕ}
 use borrow.Author.Needs.{needs}
 use borrow.Author.Tests.{eq-eqb, ne-eqb}
 use Rattle.roster.specs.Roster.{applications, rosterInto, rosterOf, loadRoster}
-use Rattle.roster.specs.Check.{namesAt}
+use Rattle.roster.specs.code.Check.{namesAt}
 use Rattle.roster.proofs.RosterLaws.{roster-legal}
 use Rattle.roster.proofs.LoadLaws.{known-good, known-faulty}
 use Rattle.roster.proofs.load.load_roster.Statement.{statement}

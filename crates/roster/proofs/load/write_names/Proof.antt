@@ -9,14 +9,13 @@ use borrow.Author.Needs.{needs}
 use borrow.Rule.Slice.PartMut.{same-len-mid}
 use lib.ListN.{length, drop, getD, length-drop}
 use lib.Seq.{length-take-le, take-all}
-use Rattle.wire.specs.Lists.{padded}
-use Rattle.wire.specs.Wrote.{over}
+use Rattle.wire.specs.Lists.{padded, over}
 use Rattle.wire.proofs.ListLaws.{all-at}
 use Rattle.wire.proofs.BufferLaws.{put-mid, put-on, zeros-on}
 use Rattle.registry.specs.Registry.{applicationNameMost, lineSize, registrySize, lineOf, registryOf}
 use Rattle.registry.proofs.NameLaws.{legal-short}
 use Rattle.registry.proofs.KeylessLaws.{isLegal, line-length}
-use Rattle.roster.specs.Check.{namesAt}
+use Rattle.roster.specs.code.Check.{namesAt}
 use Rattle.roster.proofs.LoadLaws.{names-many, linesOf, lines-more, lines-long}
 use Rattle.roster.proofs.load.write_names.Statement.{statement}
 use Rattle.roster.proofs.load.write_names.Tie as tie

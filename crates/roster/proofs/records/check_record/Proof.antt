@@ -15,7 +15,7 @@ use Rattle.wire.proofs.BufferLaws.{lent}
 use Rattle.registry.specs.Names.{legalName, isNew}
 use Rattle.registry.specs.Registry.{applicationNameMost, lineCount}
 use Rattle.roster.specs.Roster.{valueIn}
-use Rattle.roster.specs.Check.{loadedOf, isWhole, namesAt}
+use Rattle.roster.specs.code.Check.{loadedOf, isWhole, namesAt}
 use Rattle.roster.proofs.LoadLaws.{whole-room, fault-cut, fault-tag, fault-name, fault-ninth, fault-repeated, fault-none, names-many}
 use Rattle.roster.proofs.records.check_record.Statement.{statement}
 use Rattle.roster.proofs.records.check_record.Tie as tie

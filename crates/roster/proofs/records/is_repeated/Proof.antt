@@ -9,7 +9,7 @@ use lib.ListN.{length, drop, getD}
 use Rattle.wire.specs.Lists.{same}
 use Rattle.wire.proofs.ListLaws.{all-pass, all-fail, all-end}
 use Rattle.registry.specs.Names.{isNew}
-use Rattle.roster.specs.Check.{namesAt}
+use Rattle.roster.specs.code.Check.{namesAt}
 use Rattle.roster.proofs.LoadLaws.{names-many}
 use Rattle.roster.proofs.records.is_repeated.Statement.{statement}
 use Rattle.roster.proofs.records.is_repeated.Tie as tie

@@ -7,7 +7,7 @@ use borrow.Author.Needs.{needs}
 use lib.ListN.{length, drop, getD, length-drop}
 use Rattle.wire.proofs.BufferLaws.{lent}
 use Rattle.roster.specs.Roster.{valueIn}
-use Rattle.roster.specs.Check.{isWhole}
+use Rattle.roster.specs.code.Check.{isWhole}
 use Rattle.roster.proofs.LoadLaws.{whole-room, place-whole, name-there}
 use Rattle.roster.proofs.records.name_at.Statement.{statement}
 use Rattle.roster.proofs.records.name_at.Tie as tie

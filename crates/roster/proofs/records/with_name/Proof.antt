@@ -1,7 +1,7 @@
 -- `roster::records::with_name` meets its contract.
 use mathlib.Core.Path.{refl}
 use borrow.Author.Needs.{needs}
-use Rattle.roster.specs.Check.{withName}
+use Rattle.roster.specs.code.Check.{withName}
 use Rattle.roster.proofs.records.with_name.Statement.{statement}
 use Rattle.roster.proofs.records.with_name.Tie as tie
 

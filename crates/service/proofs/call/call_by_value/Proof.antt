@@ -1,10 +1,11 @@
 -- `service::call::call_by_value` meets its contract.
 use mathlib.Core.Path.{sym, ap, subst, _∙_}
 use borrow.Author.Needs.{needs}
-use Rattle.counters.specs.Counted.{counted, Fits}
+use Rattle.counters.specs.code.Counted.{counted, Fits}
 use Rattle.counters.specs.declared.Counters.{Counters}
 use Rattle.counters.specs.declared.Increments.{Increments}
-use Rattle.service.specs.Called.{lentMemory, codeNumber, outcomeOf, answerOf, outcomeWith}
+use Rattle.service.specs.Contract.{lentMemory, codeNumber, outcomeWith}
+use Rattle.service.specs.code.Called.{outcomeOf, answerOf}
 use Rattle.service.specs.declared.Outcome.{Outcome}
 use Rattle.service.proofs.call.call_by_value.Statement.{statement}
 use Rattle.service.proofs.call.call_by_value.Tie as tie

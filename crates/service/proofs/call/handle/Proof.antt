@@ -1,6 +1,6 @@
 -- `service::call::handle` meets its contract.
 use mathlib.Core.Path.{sym, subst}
-use Rattle.counters.specs.Counted.{Fits}
+use Rattle.counters.specs.code.Counted.{Fits}
 use Rattle.service.specs.declared.Handled.{Handled}
 use Rattle.service.proofs.CallLaws.{passed}
 use Rattle.service.proofs.CalledLaws.{taken-passes, refused-call, taken-call}

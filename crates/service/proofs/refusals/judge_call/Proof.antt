@@ -3,7 +3,7 @@ use borrow.Author.Tests.{lt-ltb, le-ltb}
 use borrow.Author.Needs.{needs}
 use Rattle.wire.specs.Choice.{firstOf}
 use Rattle.service.specs.Call.{refusalTests}
-use Rattle.service.specs.Called.{codeFor}
+use Rattle.service.specs.code.Called.{codeFor}
 use Rattle.service.proofs.refusals.judge_call.Statement.{statement}
 use Rattle.service.proofs.refusals.judge_call.Tie as tie
 

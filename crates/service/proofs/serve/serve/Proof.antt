@@ -7,11 +7,11 @@ use native.Mathlib.Omega.{arith}
 use lib.ListN.{length, drop-of-length-le}
 use Rattle.wire.specs.Request.{requestLength}
 use Rattle.stream.specs.Rules.{Connection, State, opened, skipping, closed}
-use Rattle.stream.specs.Effects.{waiting, answering}
+use Rattle.stream.specs.code.Effects.{waiting, answering}
 use Rattle.stream.specs.Call.{wellFormed}
 use Rattle.stream.proofs.ChunkLaws.{call-skips, call-skipped, well-skipping}
 use Rattle.connection.specs.Connection.{laidOut, connectionBytes, connectionOf}
-use Rattle.connection.specs.State.{stateOf}
+use Rattle.connection.specs.code.State.{stateOf}
 use Rattle.connection.specs.declared.check.State.the-variants.{Open, Skipping}
 use Rattle.connection.proofs.ConnectionLaws.{skipping-whole, memory-good}
 use Rattle.connection.proofs.StateLaws.{state-open, state-skipping, state-closed, memory-is, header-there}
@@ -20,8 +20,8 @@ use Rattle.judgement.specs.Judgement.{judgement}
 use Rattle.counters.specs.Counters.{totalsOf}
 use Rattle.counters.specs.declared.Counters.{Counters}
 use Rattle.service.specs.Call.{chunkMost}
-use Rattle.service.specs.Called.{lentMemory}
-use Rattle.service.specs.Served.{Ready, SkipReady, Carried, headerAt, skipEffect, effectOf}
+use Rattle.service.specs.Contract.{lentMemory}
+use Rattle.service.specs.code.Served.{Ready, SkipReady, Carried, headerAt, skipEffect, effectOf}
 use Rattle.service.specs.declared.Handled.{Handled}
 use Rattle.service.proofs.ServeLaws.{stateWith, skip-ready, serves-skip, serves-drop}
 use borrow.Author.Needs.{needs}

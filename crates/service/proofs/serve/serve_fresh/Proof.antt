@@ -8,7 +8,7 @@ use lib.Seq.{length-take-le}
 use lib.Dec.{lit<}
 use Rattle.stream.specs.Frame.{unfinished, whole, next}
 use Rattle.stream.specs.Rules.{State, opened, skipping, closed, judge}
-use Rattle.stream.specs.Effects.{answering}
+use Rattle.stream.specs.code.Effects.{answering}
 use Rattle.stream.specs.Call.{callRule}
 use Rattle.stream.proofs.FrameLaws.{next-unfinished, short}
 use Rattle.stream.proofs.FramedLaws.{frame-unfinished, frame-bad, frame-skipped, frame-whole, header-part, whole-part}

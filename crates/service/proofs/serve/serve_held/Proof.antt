@@ -9,13 +9,13 @@ use lib.Dec.{lit<}
 use Rattle.wire.specs.Request.{requestLength}
 use Rattle.stream.specs.Frame.{legalStart, skipped, whole, next}
 use Rattle.stream.specs.Rules.{State, opened, skipping, closed, judge}
-use Rattle.stream.specs.Effects.{waiting}
+use Rattle.stream.specs.code.Effects.{waiting}
 use Rattle.stream.proofs.FramedLaws.{frame-unfinished, frame-bad, frame-skipped, frame-whole}
 use Rattle.stream.proofs.ChunkLaws.{whole-found}
 use Rattle.stream.proofs.GatheredLaws.{length-gathered, after-unfinished, after-bad, after-whole, after-skips, after-skipped}
 use Rattle.connection.specs.Connection.{heldMost, connectionSize, laidOut, connectionBytes, connectionOf}
-use Rattle.connection.specs.State.{stateOf}
-use Rattle.connection.specs.Gather.{heldIn, Holding, Gathers}
+use Rattle.connection.specs.code.State.{stateOf}
+use Rattle.connection.specs.code.Gather.{heldIn, Holding, Gathers}
 use Rattle.connection.specs.declared.check.State.the-variants.{Open}
 use Rattle.connection.specs.declared.gather.Gathered.{Gathered}
 use Rattle.connection.proofs.ConnectionLaws.{WholeHeader}
@@ -24,12 +24,12 @@ use Rattle.connection.proofs.GatherLaws.{held-back}
 use Rattle.connection.proofs.StateLaws.{state-open, open-holds, open-held, header-whole, header-there, held-fits}
 use Rattle.judgement.specs.Counts.{Counts}
 use Rattle.judgement.specs.Judgement.{judgement}
-use Rattle.answer.specs.Answers.{AnsweredBy}
+use Rattle.answer.specs.code.Answers.{AnsweredBy}
 use Rattle.answer.specs.declared.Answered.{Answered}
 use Rattle.counters.specs.declared.Counters.{Counters}
 use Rattle.service.specs.Call.{chunkMost}
-use Rattle.service.specs.Called.{lentMemory}
-use Rattle.service.specs.Served.{Ready, SkipReady, Carried, finished, headerAt, skipEffect, effectOf}
+use Rattle.service.specs.Contract.{lentMemory}
+use Rattle.service.specs.code.Served.{Ready, SkipReady, Carried, finished, headerAt, skipEffect, effectOf}
 use Rattle.service.specs.declared.Handled.{Handled}
 use Rattle.service.proofs.ServeLaws.{stateWith, bad-steady, judge-steady, skip-ready, serves-wait, serves-answer, serves-skip}
 use borrow.Author.Needs.{needs}

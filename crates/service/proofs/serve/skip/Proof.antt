@@ -7,15 +7,15 @@ use lib.ListN.{length, take, drop, length-take, take-append-drop}
 use Rattle.wire.specs.Request.{headerLength, requestLength}
 use Rattle.wire.proofs.BufferLaws.{lent}
 use Rattle.stream.specs.Rules.{opened, skipping, closed}
-use Rattle.stream.specs.Effects.{answering}
+use Rattle.stream.specs.code.Effects.{answering}
 use Rattle.stream.proofs.FrameLaws.{requestLength-append}
 use Rattle.stream.specs.Call.{Effect}
 use Rattle.judgement.specs.Counts.{Counts}
 use Rattle.judgement.specs.Judgement.{judgement, refusedEarly}
-use Rattle.answer.specs.Answers.{AnsweredBy}
+use Rattle.answer.specs.code.Answers.{AnsweredBy}
 use Rattle.answer.specs.declared.Answered.{Answered}
 use Rattle.counters.specs.Counters.{totalsOf}
-use Rattle.service.specs.Served.{headerAt, Carried}
+use Rattle.service.specs.code.Served.{headerAt, Carried}
 use Rattle.service.proofs.ServeLaws.{stateWith, carried-wait, carried-answer, skip-waits, skip-answers}
 use Rattle.service.specs.Call.{chunkMost}
 use borrow.Author.Needs.{needs}

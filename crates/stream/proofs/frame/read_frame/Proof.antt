@@ -10,7 +10,7 @@ use lib.ListN.{length, take}
 use lib.Seq.{length-take-le}
 use Rattle.wire.specs.Request.{headerSize, headerLength, requestLength}
 use Rattle.stream.specs.Frame.{legalStart, oversized}
-use Rattle.stream.specs.Framed.{frameOf}
+use Rattle.stream.specs.code.Framed.{frameOf}
 use Rattle.stream.specs.declared.frame.Frame.the-variants.{Skipped, Whole}
 use Rattle.stream.proofs.FrameLaws.{next-short, next-bad, next-header, next-body, next-skipped, next-whole, legal-size}
 use Rattle.stream.proofs.frame.read_frame.Statement.{statement}

@@ -1,5 +1,5 @@
 -- What the exported functions answer, by the leaves' definitions; where a leaf's `requires` does not hold, `refused` or
--- false, and nothing is written. No part of the reading copy.
+-- false, and nothing is written.
 use Prim.Native.Nat.{ℕ}
 use mathlib.Core.Path.{_≡_}
 use mathlib.Core.Bool.{Bool, true, false, _&&_}
@@ -7,11 +7,11 @@ use mathlib.Core.List.{List}
 use lib.ListN.{length, getD}
 use lib.Dec.{ltb, leb, eqb}
 use Rattle.wire.specs.Choice.{if_then_else_}
-use Rattle.wire.specs.Wrote.{over}
+use Rattle.wire.specs.Lists.{over}
 use Rattle.registry.specs.Slots.{Key, Entry, free, keyNameMost, dataMost, flag}
 use Rattle.registry.specs.Registry.{lineCount, slotCount, registrySize, applicationNamed, slotNamed, slotsOf, changed, fill, clear}
 use Rattle.registry.specs.WellFormed.{wellFormedRegistry}
-use Rattle.registry.specs.Check.{applicationFound, bytesIn, exportIn}
+use Rattle.registry.specs.code.Check.{applicationFound, bytesIn, exportIn}
 use Rattle.registry.specs.declared.Application.{Application}
 use Rattle.registry.specs.declared.Application.the-variants.{Named, Unknown}
 use Rattle.registry.specs.declared.Found.{Found}

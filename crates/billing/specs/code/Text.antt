@@ -1,4 +1,4 @@
--- What the writers of the bill's text do with a lent buffer. No part of the reading copy.
+-- What the writers of the bill's text do with a lent buffer.
 use Prim.Native.Nat.{ℕ, _+_, _≤_}
 use mathlib.Core.Path.{_≡_}
 use mathlib.Core.List.{List, [], _∷_}
@@ -39,12 +39,6 @@ pub record Placed (text d e : List ℕ) (at r : ℕ) : Type 0 where
   pub ends : r ≡ at + length text
   pub fits : r ≤ length d
   pub bytes : e ≡ put d at text
-
--- the names of the used lines, which come first
-unfoldable pub usedNames : (names : List (List ℕ)) → List (List ℕ)
-usedNames [] = []
-usedNames ([] ∷ names) = []
-usedNames ((b ∷ name) ∷ names) = (b ∷ name) ∷ usedNames names
 
 -- the line of a status with this number, where its count isn't 0
 unfoldable pub refusedLine : (number n : ℕ) → List ℕ

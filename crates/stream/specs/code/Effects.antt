@@ -1,4 +1,4 @@
--- The three kinds of effect that a call has. No part of the reading copy.
+-- The three kinds of effect that a call has.
 use Prim.Native.Nat.{ℕ, _+_}
 use mathlib.Core.Option.{none, some}
 use Rattle.stream.specs.Rules.{Verdict, Connection, closed, State}

@@ -1,4 +1,4 @@
--- What bytes begin with, as the code says it: a header by its length. No part of the reading copy.
+-- What bytes begin with, as the code says it: a header by its length.
 use lib.ListN.{length}
 use Rattle.stream.specs.Frame.{Next, unfinished, badStart, skipped, whole}
 use Rattle.stream.specs.declared.frame.Frame.{Frame}

@@ -1,4 +1,4 @@
--- What gathering the bytes of a request does. No part of the reading copy.
+-- What gathering the bytes of a request does.
 use Prim.Native.Nat.{ℕ, _+_, _≤_, _<_}
 use mathlib.Core.Path.{_≡_}
 use mathlib.Core.List.{List, _++_}
@@ -7,7 +7,7 @@ use lib.Dec.{ltb}
 use Rattle.wire.specs.Choice.{if_then_else_}
 use Rattle.wire.specs.Request.{headerLength, requestLength}
 use Rattle.stream.specs.Frame.{unfinished, badStart, skipped, whole as isWhole, next}
-use Rattle.stream.specs.Framed.{frameOf}
+use Rattle.stream.specs.code.Framed.{frameOf}
 use Rattle.stream.specs.Rules.{opened}
 use Rattle.connection.specs.Connection.{bytesAt, connectionBytes}
 use Rattle.connection.specs.declared.gather.Gathered.{Gathered}

@@ -1,4 +1,4 @@
--- A connection as the code reads it off memory: the bytes themselves stay there. No part of the reading copy.
+-- A connection as the code reads it off memory: the bytes themselves stay there.
 use lib.ListN.{length}
 use Rattle.stream.specs.Rules.{Connection, opened, skipping, closed}
 use Rattle.connection.specs.declared.check.State.{State}

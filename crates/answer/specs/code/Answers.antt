@@ -1,4 +1,4 @@
--- What an answered request leaves, in the reading copy's terms. No part of the reading copy.
+-- What an answered request leaves, in the reading copy's terms.
 use Prim.Native.Nat.{ℕ}
 use mathlib.Core.Path.{_≡_}
 use mathlib.Core.Option.{none}
@@ -6,7 +6,7 @@ use mathlib.Core.List.{List, []}
 use lib.Dec.{eqb}
 use Rattle.wire.specs.Choice.{if_then_else_, firstOf}
 use Rattle.wire.specs.Response.{responseBytes}
-use Rattle.wire.specs.Wrote.{Wrote}
+use Rattle.wire.specs.code.Wrote.{Wrote}
 use Rattle.wire.specs.declared.header.Header.{Header}
 use Rattle.stream.specs.Rules.{Verdict}
 use Rattle.registry.specs.Registry.{slotsOf}
@@ -14,7 +14,7 @@ use Rattle.registry.specs.declared.Line.{Line}
 use Rattle.judgement.specs.Status.{statusNumber}
 use Rattle.judgement.specs.Operations.{Result, refuse, operated}
 use Rattle.judgement.specs.Counts.{Counts, noCounts, count}
-use Rattle.judgement.specs.Decided.{headerTests, askersLine, AskerBelow}
+use Rattle.judgement.specs.code.Decided.{headerTests, askersLine, AskerBelow}
 use Rattle.judgement.specs.declared.Status.{Status}
 use Rattle.judgement.specs.declared.Status.the-variants.{NotAuthenticated}
 use Rattle.judgement.specs.declared.Asker.{Asker}

@@ -1,17 +1,12 @@
--- What the code says of a call, in the reading copy's terms. No part of the reading copy.
+-- THE CONTRACT OF A CALL, which the code's `ensures` cites and which demand 3 of the code has as its single step.
 use Prim.Native.Nat.{ℕ}
 use mathlib.Core.Path.{_≡_}
-use mathlib.Core.Option.{Option, none, some}
 use mathlib.Core.List.{List}
 use Rattle.stream.specs.Calls.{Call, CallOutcome}
 use Rattle.counters.specs.declared.Counters.{Counters}
-use Rattle.counters.specs.declared.Event.the-variants.{NoRequest}
 use Rattle.service.specs.Refusals.{refusalNumber}
 use Rattle.service.specs.Call.{Memory, callOutcome}
-use Rattle.service.specs.declared.Refusal.{Refusal}
 use Rattle.service.specs.declared.Code.{Code}
-use Rattle.service.specs.declared.Handled.{Handled}
-use Rattle.service.specs.declared.Outcome.{Outcome}
 use Rattle.service.specs.declared.CallAnswer.{CallAnswer}
 use Rattle.service.specs.declared.Code.the-variants.{Taken, Refused}
 
@@ -21,10 +16,6 @@ lentMemory connection registry counters = record { connection = connection; regi
 
 abbrev pub callWith : (chunk buffer : List ℕ) → Call
 callWith chunk buffer = record { chunk = chunk; buffer = buffer }
-
-unfoldable pub codeFor : Option Refusal → Code
-codeFor none = Taken
-codeFor (some refusal) = Refused refusal
 
 -- what a call says: 0 if it is taken, else the refusal's number
 unfoldable pub codeNumber : Code → ℕ
@@ -38,20 +29,7 @@ outcomeWith code taken written after buffer = record {
   memory = after;
 }
 
--- what a call that is handled says
-abbrev pub answerOf : Handled → CallAnswer
-answerOf h = record { code = h .code; taken = h .added .taken; written = h .written }
-
--- a call that is refused takes, writes and counts nothing
-abbrev pub refusedWith : Code → Handled
-refusedWith code = record { code = code; written = 0; added = record { taken = 0; answered = 0; dropped = 0; event = NoRequest } }
-
--- an outcome is an answer and the counters
-abbrev pub outcomeOf : CallAnswer → Counters → Outcome
-outcomeOf a counters = record { code = a .code; taken = a .taken; written = a .written; counters = counters }
-
--- THE CONTRACT OF A CALL, which demand 3 of the code has as its single step: all that the call says and leaves is the
--- definition's outcome
+-- all that the call says and leaves is the definition's outcome
 abbrev pub CallContract : (before : Memory) → Call → CallAnswer → (after : Memory) (buffer : List ℕ) → Type 0
 CallContract before call says after buffer =
     outcomeWith (codeNumber (says .code)) (says .taken) (says .written) after buffer ≡ callOutcome before call

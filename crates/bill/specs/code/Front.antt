@@ -1,4 +1,4 @@
--- How much of a roster file decides whether it is good, and how. No part of the reading copy.
+-- How much of a roster file decides whether it is good, and how.
 use Prim.Native.Nat.{ℕ, _+_, _*_}
 use Rattle.registry.specs.Registry.{lineCount, applicationNameMost}
 

@@ -1,4 +1,4 @@
--- What a taken call leaves in the memory that it was lent, in the reading copy's terms. No part of the reading copy.
+-- What a taken call leaves in the memory that it was lent, in the reading copy's terms.
 use Prim.Native.Nat.{ℕ, _+_, _-_, _≤_, _<_, _^_}
 use mathlib.Core.Bool.{true}
 use mathlib.Core.Path.{_≡_}
@@ -8,9 +8,9 @@ use lib.ListN.{length, take, drop}
 use lib.Dec.{ltb}
 use Rattle.wire.specs.Choice.{if_then_else_}
 use Rattle.wire.specs.Request.{requestLeast, headerLength, requestLength}
-use Rattle.wire.specs.Wrote.{Wrote}
+use Rattle.wire.specs.code.Wrote.{Wrote}
 use Rattle.stream.specs.Rules.{opened, skipping, closed, State}
-use Rattle.stream.specs.Effects.{waiting, answering}
+use Rattle.stream.specs.code.Effects.{waiting, answering}
 use Rattle.stream.specs.Call.{Effect, callRule}
 use Rattle.connection.specs.Connection.{bytesAt, connectionSize, laidOut, connectionBytes, wellFormedConnection}
 use Rattle.registry.specs.WellFormed.{wellFormedRegistry}
@@ -18,7 +18,7 @@ use Rattle.judgement.specs.Counts.{Counts}
 use Rattle.judgement.specs.Judgement.{judgement}
 use Rattle.answer.specs.declared.Answered.{Answered}
 use Rattle.counters.specs.Counters.{totalsOf, countersOf}
-use Rattle.counters.specs.Counted.{eventOf, counted, EventBelow}
+use Rattle.counters.specs.code.Counted.{eventOf, counted, EventBelow}
 use Rattle.counters.specs.declared.Counters.{Counters}
 use Rattle.counters.specs.declared.Event.the-variants.{NoRequest}
 use Rattle.counters.specs.declared.Increments.{Increments}

@@ -1,4 +1,4 @@
--- What the program keeps while it reads a stream. No part of the reading copy.
+-- What the program keeps while it reads a stream.
 use Prim.Native.Nat.{ℕ, _+_, _/_, _≤_}
 use mathlib.Core.Path.{_≡_}
 use mathlib.Core.Bool.{true}

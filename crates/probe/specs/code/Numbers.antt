@@ -1,11 +1,11 @@
--- What the exported functions give back, as numbers. No part of the reading copy.
+-- What the exported functions give back, as numbers.
 use Prim.Native.Nat.{ℕ}
 use mathlib.Core.List.{List, [], _∷_}
 use lib.ListN.{length, replicate}
 use lib.Dec.{ltb, eqb}
 use Rattle.wire.specs.Choice.{if_then_else_}
 use Rattle.wire.specs.Request.{requestLeast}
-use Rattle.wire.specs.Header.{headerOf}
+use Rattle.wire.specs.code.Header.{headerOf}
 use Rattle.wire.specs.declared.header.Header.{Header}
 use Rattle.protobuf.specs.declared.varint.Varint.{Varint}
 use Rattle.protobuf.specs.declared.varint.Varint.the-variants.{Read, Unreadable as noVarint}

@@ -1,4 +1,4 @@
--- What the code decides of a request, in the reading copy's terms. No part of the reading copy.
+-- What the code decides of a request, in the reading copy's terms.
 use Prim.Native.Nat.{ℕ, _+_, _≤_, _<_}
 use mathlib.Core.Path.{_≡_}
 use mathlib.Core.Logic.{_⊎_}
@@ -16,7 +16,7 @@ use Rattle.protobuf.specs.declared.message.Value.{Value}
 use Rattle.protobuf.specs.declared.message.Values.{Values}
 use Rattle.registry.specs.Slots.{Entry, free, keyNameMost, dataMost, bitsMost}
 use Rattle.registry.specs.Registry.{lineCount, slotCount, Change, unchanged, fill, clear}
-use Rattle.registry.specs.Check.{bytesIn}
+use Rattle.registry.specs.code.Check.{bytesIn}
 use Rattle.registry.specs.declared.Line.{Line}
 use Rattle.judgement.specs.Operations.{coreOpcodes, keystoreOpcodes, opcodesOf, keyOf, Result, versionOutput, providersOutput}
 use Rattle.judgement.specs.declared.Status.{Status}

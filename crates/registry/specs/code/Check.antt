@@ -1,4 +1,4 @@
--- What the code says of a registry, in the reading copy's terms. No part of the reading copy.
+-- What the code says of a registry, in the reading copy's terms.
 use Prim.Native.Nat.{ℕ}
 use mathlib.Core.Bool.{Bool, false}
 use mathlib.Core.Option.{Option, none, some}

@@ -1,4 +1,4 @@
--- The counters after a call, in the reading copy's terms. No part of the reading copy.
+-- The counters after a call, in the reading copy's terms.
 use Prim.Native.Nat.{ℕ, _+_, _≤_, _<_, _^_}
 use mathlib.Core.Option.{none, some}
 use mathlib.Core.List.{List, []}

@@ -1,4 +1,4 @@
--- A roster file, as the code reads it, in the reading copy's terms. No part of the reading copy.
+-- A roster file, as the code reads it, in the reading copy's terms.
 use Prim.Native.Nat.{ℕ, _+_, _≤_}
 use mathlib.Core.Path.{_≡_}
 use mathlib.Core.Bool.{Bool, true, not, _||_}
