@@ -5,4 +5,5 @@ pub mod PlacedLaws
 pub mod DecimalLaws
 pub mod LineLaws
 pub mod HeldLaws
+pub mod RequestLaws
 pub mod RulesLaws

@@ -2,13 +2,14 @@
 -- bill for the roster and the joined stream of taken bytes.
 use mathlib.Core.Path.{_≡_, refl, ap, ap₂, _∙_}
 use mathlib.Core.Bool.{true}
-use mathlib.Core.List.{List, [], _∷_, _++_}
-use Prim.Native.Nat.{ℕ, zero, suc, _-_}
+use mathlib.Core.List.{List, [], _∷_, _++_, flatten}
+use Prim.Native.Nat.{ℕ, zero, suc, _+_, _-_}
 use native.Mathlib.Omega.{arith}
 use lib.ListN.{length, replicate}
 use Rattle.wire.specs.Lists.{all}
 use Rattle.wire.proofs.TestLaws.{and-left, and-right}
-use Rattle.stream.specs.Rules.{rules}
+use Rattle.stream.specs.Rules.{heldBytes, rules}
+use Rattle.stream.specs.Parts.{partsOf}
 use Rattle.stream.specs.Calls.{Call, takenStream}
 use Rattle.stream.proofs.KeptLaws.{rules-connection}
 use Rattle.stream.proofs.CallsLaws.{Lawful}
@@ -19,11 +20,13 @@ use Rattle.roster.specs.Roster.{applications, rosterOf}
 use Rattle.roster.proofs.RosterLaws.{roster-legal}
 use Rattle.judgement.specs.Judgement.{judgement}
 use Rattle.judgement.proofs.NamesLaws.{rules-names}
-use Rattle.service.specs.Call.{memoryOf, layout, fresh}
+use Rattle.counters.specs.Counters.{totalsOf}
+use Rattle.service.specs.Call.{Memory, stateIn, memoryOf, layout, fresh}
 use Rattle.service.proofs.Demand3.{lawful}
 use Rattle.service.proofs.CodeDemand3.{Ran, Runs, answersIn, leftAfter, code-demand3}
-use Rattle.billing.specs.Bill.{billOf, billFor}
+use Rattle.billing.specs.Bill.{billOf, requestsOn, billFor}
 use Rattle.billing.specs.Outcome.{usedNames, billIn}
+use Rattle.billing.proofs.RequestLaws.{bill-requests}
 
 used-first : (names : List (List ℕ)) (k : ℕ) → all isLegal names ≡ true → usedNames (names ++ replicate k []) ≡ names
 unfolding usedNames
@@ -45,12 +48,31 @@ module _ (names : List (List ℕ)) (legal : LegalNames names) where
       (ap usedNames (rules-names (registryOf names) (registry-good names legal) stream) ∙ registry-used)
       (lawful (rules judgement (registryOf names) stream .state) (rules-connection judgement (registryOf names) stream))
 
+-- the bill of what calls left in memory, for a roster file with these names and the joined stream of taken bytes
+pub record BillOfCalls (file : List ℕ) (names : List (List ℕ)) (stream : List ℕ) (m : Memory) : Type 0 where
+  -- its text is document 01's
+  pub text : billIn m ≡ billFor (rosterOf file) stream
+  -- the bytes on it are those of answered requests, those dropped and those held: every byte of the stream, once
+  pub bytes : stateIn m .totals .taken ≡ length (flatten (partsOf stream .answered)) + stateIn m .totals .dropped + heldBytes (stateIn m .connection)
+  -- the requests on it are the answered ones, each once
+  pub requests : requestsOn names (stateIn m) ≡ length (partsOf stream .answered)
+
 -- any calls of the code, from a fresh connection, zero counters and the registry of a good roster file
 pub bill-of-calls : (file : List ℕ) (names : List (List ℕ)) → rosterOf file ≡ applications names
     → (calls : List Call) (runs : List Ran) → Runs (fresh (registryOf names)) calls runs
-    → billIn (leftAfter (fresh (registryOf names)) runs) ≡ billFor (rosterOf file) (takenStream calls (answersIn runs))
+    → BillOfCalls file names (takenStream calls (answersIn runs)) (leftAfter (fresh (registryOf names)) runs)
+unfolding stateIn totalsOf Lawful layout
 bill-of-calls file names good calls runs p =
     let legal = roster-legal file names good in
     let stream : List ℕ = takenStream calls (answersIn runs) in
     let follows = code-demand3 (registryOf names) .follows calls runs p in
-    rw good (ap billIn (follows .memory) ∙ bill-by-rules names legal stream)
+    let accounted = follows .accounted in
+    let answered = follows .answered in
+    let state : stateIn (leftAfter (fresh (registryOf names)) runs) ≡ rules judgement (registryOf names) stream .state
+    = ap stateIn (follows .memory)
+    ∙ lawful (rules judgement (registryOf names) stream .state) (rules-connection judgement (registryOf names) stream) in
+    record {
+      text = rw good (ap billIn (follows .memory) ∙ bill-by-rules names legal stream);
+      bytes = omega arith;
+      requests = ap (requestsOn names) state ∙ bill-requests names legal stream;
+    }

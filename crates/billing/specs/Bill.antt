@@ -2,7 +2,7 @@
 use Prim.Native.Nat.{ℕ, zero, suc, _+_, _/_, _%_}
 use mathlib.Core.Option.{Option, none, some}
 use mathlib.Core.List.{List, [], _∷_, _++_}
-use lib.ListN.{getD}
+use lib.ListN.{length, take, getD}
 use lib.Dec.{ltb, eqb}
 use Rattle.wire.specs.Choice.{if_then_else_}
 use Rattle.stream.specs.Rules.{heldBytes, State, rules}
@@ -10,7 +10,7 @@ use Rattle.registry.specs.Registry.{registryOf}
 use Rattle.roster.specs.Roster.{faultNumber, Roster, applications, faulty, rosterOf}
 use Rattle.roster.specs.declared.RosterFault.{RosterFault}
 use Rattle.judgement.specs.Status.{statusNumber, refusedStatuses}
-use Rattle.judgement.specs.Counts.{Counts}
+use Rattle.judgement.specs.Counts.{Counts, sum}
 use Rattle.judgement.specs.Judgement.{judgement}
 use Rattle.judgement.specs.declared.Status.{Status}
 use Rattle.billing.specs.Ascii.{ascii}
@@ -55,6 +55,11 @@ billOf names s =
     ++ (refusedLines refusedStatuses (s .totals .counts .refused)
     ++ (textLine (ascii "dropped") (decimal (s .totals .dropped) ∷ [])
     ++ textLine (ascii "held") (decimal (heldBytes (s .connection)) ∷ [])))))
+
+-- all requests on the bill: on the roster's lines, the one of auth type 0, and those of statuses
+unfoldable pub requestsOn : (names : List (List ℕ)) → State (List ℕ) Counts → ℕ
+requestsOn names s =
+    sum (take (length names) (s .totals .counts .served)) + s .totals .counts .unauthenticated + sum (s .totals .counts .refused)
 
 -- what is printed for a refused roster, as `roster R3`, and where a file can't be read
 unfoldable pub refusedRoster : RosterFault → List ℕ

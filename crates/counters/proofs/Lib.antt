@@ -1,3 +1,4 @@
 pub mod CountersLaws
 pub mod CountedLaws
 pub mod Lent
+pub mod RequestLaws

@@ -40,6 +40,10 @@ response-length : (provider session opcode status : ℕ) (body : List ℕ) → l
 unfolding responseBytes responseHeader littleEndianOf
 response-length provider session opcode status body = omega arith
 
+-- no response is empty
+pub response-some : (provider session opcode status : ℕ) (body : List ℕ) → 0 < length (responseBytes provider session opcode status body)
+response-some provider session opcode status body = omega (arith, response-length provider session opcode status body)
+
 -- ---- the output of an operation
 
 slots-of-asker : (r : List ℕ) → wellFormedRegistry r ≡ true → (q : Request) (i : ℕ) → ShortEntry (getD (askersSlots r (applicationOf r q)) i free)

@@ -1,5 +1,5 @@
 -- Document 01's tally: what an answered request counts ("A whole stream under the rules").
-use Prim.Native.Nat.{ℕ, suc}
+use Prim.Native.Nat.{ℕ, suc, _+_}
 use mathlib.Core.Option.{Option, none, some}
 use mathlib.Core.List.{List, [], _∷_}
 use lib.ListN.{getD, set, replicate}
@@ -17,6 +17,14 @@ pub record Counts : Type 0 where
 
 unfoldable pub noCounts : Counts
 noCounts = record { served = replicate lineCount 0; unauthenticated = 0; refused = replicate refusedCount 0 }
+
+unfoldable pub sum : List ℕ → ℕ
+sum [] = 0
+sum (n ∷ ns) = n + sum ns
+
+-- all requests that are counted: served for all lines, served with auth type 0, refused for all statuses
+unfoldable pub requestsIn : Counts → ℕ
+requestsIn c = sum (c .served) + c .unauthenticated + sum (c .refused)
 
 -- one more in the counter number i
 unfoldable pub increment : List ℕ → (i : ℕ) → List ℕ

@@ -1,7 +1,11 @@
 // The six operations ("Operations and their fields"): what each comes to. Nothing is changed or written here.
 use crate::Decision;
 use crate::Edit;
+use crate::LIST_PROVIDERS;
 use crate::Output;
+use crate::PING;
+use crate::PSA_DESTROY_KEY;
+use crate::PSA_IMPORT_KEY;
 use crate::Status;
 use protobuf::body::Body;
 use protobuf::body::read_body;
@@ -134,15 +138,15 @@ fn list_opcodes(body: &[u8]) -> Decision
     }
 }
 
-// The core operations: opcodes 1, 8 and 9.
+// The core operations.
 pub fn perform_core(opcode: u16, body: &[u8]) -> Decision
     requires { ⌜ oneOfCore opcode ⌝ }
     ensures { λ r. ⌜ DecidedAnywhere (now (body .entry)) (operated opcode (now (body .entry))) r ⌝ }
 {
-    if opcode == 1 {
+    if opcode == PING {
         return ping(body);
     }
-    if opcode == 8 {
+    if opcode == LIST_PROVIDERS {
         return list_providers(body);
     }
     list_opcodes(body)
@@ -235,12 +239,12 @@ fn export(registry: &[u8], line: Line, name: &[u8]) -> Decision
     listed(Output::Data(slot))
 }
 
-// The keystore operations: opcodes 3, 6 and 7, for the application of a line.
+// The keystore operations, for the application of a line.
 pub fn perform_keystore(opcode: u16, body: &[u8], registry: &[u8], line: Line) -> Decision
     requires { ⌜ oneOfKeystore opcode × (wellFormedRegistry (now registry) ≡ true) × (line .0 < lineCount) ⌝ }
     ensures { λ r. ⌜ Decided (slotsOf (now (registry .entry)) line) (now (body .entry)) (operated opcode (now (body .entry)) (slotsOf (now (registry .entry)) line)) r ⌝ }
 {
-    if opcode == 6 {
+    if opcode == PSA_IMPORT_KEY {
         return match read_body(body, import_fields()) {
             Body::Message(v) => import(registry, line, body, v),
             Body::Unreadable(_) => refused(Status::DeserializingBodyFailed),
@@ -251,7 +255,7 @@ pub fn perform_keystore(opcode: u16, body: &[u8], registry: &[u8], line: Line) -
             let name = v.f1;
             let start = name.start;
             let end = start + name.len;
-            if opcode == 3 {
+            if opcode == PSA_DESTROY_KEY {
                 return destroy(registry, line, &body[start..end]);
             }
             export(registry, line, &body[start..end])

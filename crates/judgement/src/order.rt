@@ -2,6 +2,12 @@
 use crate::Asker;
 use crate::Auth;
 use crate::Checked;
+use crate::LIST_OPCODES;
+use crate::LIST_PROVIDERS;
+use crate::PING;
+use crate::PSA_DESTROY_KEY;
+use crate::PSA_EXPORT_PUBLIC_KEY;
+use crate::PSA_IMPORT_KEY;
 use crate::Status;
 use registry::Application;
 use registry::find::find_application;
@@ -19,7 +25,12 @@ fn is_listed(opcode: u16) -> bool
     ensures { λ r. ⌜ r ≡ oneOf (coreOpcodes ++ keystoreOpcodes) opcode ⌝ }
 {
     match opcode {
-        1 | 3 | 6 | 7 | 8 | 9 => true,
+        PING
+        | PSA_DESTROY_KEY
+        | PSA_IMPORT_KEY
+        | PSA_EXPORT_PUBLIC_KEY
+        | LIST_PROVIDERS
+        | LIST_OPCODES => true,
         _ => false,
     }
 }
@@ -29,12 +40,12 @@ fn is_opcode_of(provider: u8, opcode: u16) -> bool
 {
     if provider == 0 {
         return match opcode {
-            1 | 8 | 9 => true,
+            PING | LIST_PROVIDERS | LIST_OPCODES => true,
             _ => false,
         };
     }
     match opcode {
-        3 | 6 | 7 => true,
+        PSA_DESTROY_KEY | PSA_IMPORT_KEY | PSA_EXPORT_PUBLIC_KEY => true,
         _ => false,
     }
 }

@@ -1,22 +1,20 @@
 -- What every call keeps to, whatever it is lent: it is refused exactly in the five cases, a refused one alters nothing, an
 -- empty chunk alters nothing, at most 629 bytes are written, and the response buffer keeps its length.
-use mathlib.Core.Path.{_≡_, refl, _∙_, subst}
+use mathlib.Core.Path.{_≡_, refl, _∙_}
 use mathlib.Core.Bool.{true}
 use mathlib.Core.Option.{Option, none, some}
-use mathlib.Core.List.{List, [], _∷_, _++_}
+use mathlib.Core.List.{List, []}
 use Prim.Native.Nat.{ℕ, _+_, _≤_}
 use native.Mathlib.Omega.{arith}
 use borrow.Author.Tests.{ltb-false, not-false}
 use lib.ListN.{length, drop, length-append, length-drop}
-use lib.Dec.{leb}
 use Rattle.wire.specs.Choice.{firstOf}
-use Rattle.wire.proofs.TestLaws.{either, some≢none, none-at}
-use Rattle.stream.specs.Frame.{Next, unfinished, badStart, skipped, whole, next}
-use Rattle.stream.specs.Rules.{Connection, opened, skipping, closed, State}
-use Rattle.stream.specs.Call.{Step, keep, respond, dropByte, openRule, skipRule, byteRule, callRule}
+use Rattle.wire.proofs.TestLaws.{some≢none, none-at}
+use Rattle.stream.specs.Rules.{State}
+use Rattle.stream.specs.Call.{callRule}
 use Rattle.stream.specs.Call as stream
 use Rattle.stream.specs.Calls.{Call, refused, took, CallOutcome, callOn}
-use Rattle.stream.proofs.CallLaws.{call-responds, call-goes-on}
+use Rattle.stream.proofs.ResponseLaws.{IfSome, Every, call-every}
 use Rattle.stream.proofs.CallsLaws.{took-code}
 use Rattle.connection.specs.Connection.{wellFormedConnection}
 use Rattle.connection.proofs.ConnectionLaws.{store-load}
@@ -36,54 +34,22 @@ Kept = State (List ℕ) Counts
 
 -- ---- what a taken call writes
 
-abbrev ShortOr : Option (List ℕ) → Type 0
-ShortOr none = Unit {0}
-ShortOr (some r) = length r ≤ responseMost
+abbrev Good : (registry : List ℕ) → Type 0
+Good registry = wellFormedRegistry registry ≡ true
 
--- a byte on a well-formed registry: a short response or none, and the registry stays well formed
-record Fine (t : Step (List ℕ) Counts (List ℕ)) : Type 0 where
-  short : ShortOr (t .response)
-  good : wellFormedRegistry (t .state .registry) ≡ true
+abbrev Short : (response : List ℕ) → Type 0
+Short response = length response ≤ responseMost
 
-module _ (s : Kept) (w : wellFormedRegistry (s .registry) ≡ true) where
-  open-fine : (bytes : List ℕ) → Fine (openRule judgement s bytes)
-  unfolding openRule keep respond
-  open-fine bytes = go (next bytes) refl
-    where
-      go : (n : Next) → next bytes ≡ n → Fine (openRule judgement s bytes)
-      go unfinished e = rw (e, openRule) (record { short = tt; good = w })
-      go badStart e = rw (e, openRule) (record { short = bad-short (s .registry) (s .totals .counts); good = keeps .badGood (s .registry) (s .totals .counts) w })
-      go (skipped header missing) e = rw (e, openRule) (record { short = tt; good = w })
-      go (whole n) e = rw (e, openRule) (record { short = judge-short (s .registry) (s .totals .counts) bytes w; good = keeps .judgeGood (s .registry) (s .totals .counts) bytes w })
+every-short : Every judgement Good Short
+unfolding judgement refusedEarly
+every-short = record {
+  bad = λ r c w. record { response = bad-short r c; registry = keeps .badGood r c w };
+  large = λ r c header w. record { response = oversized-short r c header; registry = w };
+  judged = λ r c request w. record { response = judge-short r c request w; registry = keeps .judgeGood r c request w };
+}
 
-  skip-fine : (header : List ℕ) (toGo : ℕ) → Fine (skipRule judgement s header toGo)
-  unfolding skipRule keep respond judgement refusedEarly
-  skip-fine header toGo =
-      either Fine (leb toGo 1)
-      (λ _. record { short = oversized-short (s .registry) (s .totals .counts) header; good = w })
-      (λ _. record { short = tt; good = w })
-
-  byte-fine : (byte : ℕ) → Fine (byteRule judgement s byte)
-  unfolding byteRule dropByte
-  byte-fine byte = go (s .connection) refl
-    where
-      go : (c : Connection) → s .connection ≡ c → Fine (byteRule judgement s byte)
-      go (opened held) e = rw (e, byteRule) (open-fine (held ++ (byte ∷ [])))
-      go (skipping header toGo) e = rw (e, byteRule) (skip-fine header toGo)
-      go closed e = rw (e, byteRule) (record { short = tt; good = w })
-
-call-short : (s : Kept) → wellFormedRegistry (s .registry) ≡ true → (chunk : List ℕ) → ShortOr (callRule judgement s chunk .response)
-unfolding callRule
-call-short s w [] = tt
-call-short s w (b ∷ chunk) = go (λ t v. call-short t v chunk) (byteRule judgement s b .response) refl
-  where
-    fine : Fine (byteRule judgement s b)
-    fine = byte-fine s w b
-
-    go : ((t : Kept) → wellFormedRegistry (t .registry) ≡ true → ShortOr (callRule judgement t chunk .response))
-        → (o : Option (List ℕ)) → byteRule judgement s b .response ≡ o → ShortOr (callRule judgement s (b ∷ chunk) .response)
-    go ih (some r) e = rw (call-responds judgement s b chunk r e) (subst ShortOr e (fine .short))
-    go ih none e = rw (call-goes-on judgement s b chunk e) (ih (byteRule judgement s b .state) (fine .good))
+call-short : (s : Kept) → Good (s .registry) → (chunk : List ℕ) → IfSome Short (callRule judgement s chunk .response)
+call-short = call-every judgement Good Short every-short
 
 -- ---- a call that is not refused has passed the five tests
 
@@ -135,7 +101,7 @@ module _ (m : Memory) (call : Call) where
     pub written : o .answer .written ≤ responseMost
     pub buffer-length : length (o .answer .buffer) ≡ length (call .buffer)
 
-  took-fits : (n : ℕ) (o : Option (List ℕ)) (l : Memory) → ShortOr o → bufferLeast ≤ length (call .buffer) → Fits (record { answer = took n o call; memory = l })
+  took-fits : (n : ℕ) (o : Option (List ℕ)) (l : Memory) → IfSome Short o → bufferLeast ≤ length (call .buffer) → Fits (record { answer = took n o call; memory = l })
   unfolding took
   took-fits n none l s h = record { written = omega arith; buffer-length = refl }
   took-fits n (some r) l s h =

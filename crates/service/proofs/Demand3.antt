@@ -1,5 +1,5 @@
 -- DEMAND 3, as one claim, at document 01's judgement and on memory as the code has it.
-use mathlib.Core.Path.{_≡_}
+use mathlib.Core.Path.{_≡_, ap, _∙_}
 use mathlib.Core.Bool.{true}
 use mathlib.Core.Option.{none}
 use mathlib.Core.List.{List, [], flatten}
@@ -8,17 +8,24 @@ use native.Mathlib.Omega.{arith}
 use borrow.Author.Tests.{le-ltb}
 use lib.ListN.{length}
 use Rattle.wire.specs.Choice.{firstOf}
-use Rattle.stream.specs.Rules.{heldBytes, State, rules}
-use Rattle.stream.specs.Calls.{Call, CallsOutcome, joinedResponses, takenStream, handOver, answersByRules}
+use Rattle.wire.proofs.TestLaws.{either}
+use Rattle.stream.specs.Frame.{oversized}
+use Rattle.stream.specs.Rules.{heldBytes, State, judge, rules}
+use Rattle.stream.specs.Parts.{joined, partsOf, responsesTo}
+use Rattle.stream.specs.Calls.{Call, CallsOutcome, joinedResponses, responsesIn, takenStream, handOver, answersByRules}
+use Rattle.stream.proofs.PartsLaws.{one-each}
+use Rattle.stream.proofs.ResponseLaws.{Answers, Every, Anything, NotEmpty, responses-each}
 use Rattle.stream.proofs.KeptLaws.{rules-connection, rules-kept}
 use Rattle.stream.proofs.CallsLaws.{Lawful, follows-rules}
 use Rattle.stream.proofs.DeliveryLaws.{within, TakenWhole, delivered}
 use Rattle.connection.specs.Connection.{connectionOf}
 use Rattle.connection.proofs.ConnectionLaws.{load-store, stored-good}
 use Rattle.registry.specs.WellFormed.{wellFormedRegistry}
-use Rattle.judgement.specs.Counts.{Counts}
-use Rattle.judgement.specs.Judgement.{judgement}
+use Rattle.judgement.specs.Counts.{Counts, requestsIn}
+use Rattle.judgement.specs.Judgement.{refusedEarly, verdictOf, judgement}
+use Rattle.judgement.proofs.ResponseLaws.{response-some}
 use Rattle.counters.specs.Counters.{totalsOf, countersOf, counterMost, largestCount, largestCounter}
+use Rattle.counters.proofs.RequestLaws.{rules-requests}
 use Rattle.service.specs.Call.{Memory, stateIn, memoryOf, layout, fresh, bufferLeast, chunkMost, refusalTests, codeOf, refusalOf, callsOutcome}
 use Rattle.service.proofs.KeptLaws.{keeps}
 
@@ -50,6 +57,25 @@ accepts registry w seen call h short room =
       le-ltb counterMost (largestCounter (countersOf (s .totals))) small,
     )
 
+-- ---- requests
+
+never-empty : Every judgement Anything NotEmpty
+unfolding judge judgement refusedEarly verdictOf
+never-empty = record {
+  bad = λ r c g. record { response = response-some 0 0 0 _ []; registry = tt };
+  large = λ r c header g. record { response = response-some _ _ _ _ []; registry = tt };
+  judged = λ r c request g.
+      either (Answers judgement Anything NotEmpty) (oversized request)
+      (λ _. record { response = response-some _ _ _ _ []; registry = tt })
+      (λ _. record { response = response-some _ _ _ _ _; registry = tt });
+}
+
+-- the counters that the rules leave have as many requests as they answered
+requests-stored : (registry stream : List ℕ)
+    → requestsIn (totalsOf (memoryOf (rules judgement registry stream .state) .counters) .counts) ≡ length (partsOf stream .answered)
+unfolding memoryOf totalsOf countersOf
+requests-stored registry stream = rules-requests registry stream
+
 -- ---- the claim
 
 -- what a list of calls did, against the rules on the joined stream of taken bytes, uncut
@@ -64,6 +90,16 @@ pub record FollowsRules (registry : List ℕ) (calls : List Call) (o : CallsOutc
   pub taken : o .memory .counters .taken ≡ length (takenStream calls (o .answers))
   pub accounted : o .memory .counters .taken
       ≡ o .memory .counters .answered + heldBytes (connectionOf (o .memory .connection)) + o .memory .counters .dropped
+  -- each counted from the stream itself: it is its parts joined, which framing alone tells, and these are their lengths
+  pub parts : takenStream calls (o .answers) ≡ joined (partsOf (takenStream calls (o .answers)))
+  pub answered : o .memory .counters .answered ≡ length (flatten (partsOf (takenStream calls (o .answers)) .answered))
+  pub held : heldBytes (connectionOf (o .memory .connection)) ≡ length (partsOf (takenStream calls (o .answers)) .held)
+  pub dropped : o .memory .counters .dropped ≡ length (partsOf (takenStream calls (o .answers)) .dropped)
+  -- the responses that the calls wrote: one for each answered request, in their order
+  pub each : responsesIn (o .answers) ≡ responsesTo judgement registry (partsOf (takenStream calls (o .answers)) .answered)
+  pub oneEach : length (responsesIn (o .answers)) ≡ length (partsOf (takenStream calls (o .answers)) .answered)
+  -- served for all lines, served with auth type 0 and refused for all statuses: each answered request is counted once
+  pub requests : requestsIn (totalsOf (o .memory .counters) .counts) ≡ length (partsOf (takenStream calls (o .answers)) .answered)
 
 -- from a fresh connection, zero counters and this registry
 pub record Demand3 (registry : List ℕ) : Type 0 where
@@ -81,8 +117,25 @@ pub demand3 : (registry : List ℕ) → Demand3 registry
 unfolding callsOutcome fresh layout stateIn totalsOf
 demand3 registry = record {
   follows = λ calls.
+      let o : CallsOutcome Memory = callsOutcome (fresh registry) calls in
+      let stream : List ℕ = takenStream calls (o .answers) in
       let f = follows-rules judgement layout lawful refusalOf registry calls in
-      record { answers = f .answers; responses = f .responses; memory = f .memory; taken = f .taken; accounted = f .accounted };
+      let each : responsesIn (o .answers) ≡ responsesTo judgement registry (partsOf stream .answered)
+      = responses-each judgement layout lawful refusalOf registry never-empty calls ∙ f .each in
+      record {
+        answers = f .answers;
+        responses = f .responses;
+        memory = f .memory;
+        taken = f .taken;
+        accounted = f .accounted;
+        parts = f .parts;
+        answered = f .answered;
+        held = f .held;
+        dropped = f .dropped;
+        each = each;
+        oneEach = ap length each ∙ one-each judgement registry (partsOf stream .answered);
+        requests = ap (λ (m : Memory). requestsIn (totalsOf (m .counters) .counts)) (f .memory) ∙ requests-stored registry stream;
+      };
   taken = λ w chunks buffers most short small room enough.
       delivered judgement layout lawful refusalOf registry counterMost chunkMost bufferLeast (accepts registry w) buffers room most chunks enough small short;
 }

@@ -9,10 +9,12 @@ use lib.ListN.{length, take, drop}
 use lib.Seq.{take-append-seam}
 use Rattle.stream.specs.Rules.{Judgement, heldBytes, State, Outcome, rules}
 use Rattle.stream.specs.Call.{wellFormed, Effect, callRule, fresh}
+use Rattle.stream.specs.Parts.{joined, partsOf, responsesTo}
 use Rattle.stream.specs.Calls.{Call, Answer, refused, took, Layout, CallsOutcome, callOn, callsOn, joinedResponses, takenStream, responseTo, answersByRules}
 use Rattle.stream.proofs.RulesLaws.{withResponse, rules-fresh}
 use Rattle.stream.proofs.CallLaws.{CallFacts, call-facts, call-response}
 use Rattle.stream.proofs.AccountingLaws.{rules-accounted}
+use Rattle.stream.proofs.PartsLaws.{parts-joined, rules-from-stream}
 use Rattle.stream.proofs.KeptLaws.{rules-connection}
 
 -- a state with a well-formed connection that is stored is loaded as itself
@@ -62,7 +64,7 @@ module _ {Memory Reg Count : Type 0} (J : Judgement Reg Count (List ℕ)) (L : L
     abbrev pub seenThen : List ℕ
     seenThen = seen ++ take (effect .taken) (call .chunk)
 
-    call-refused : (code : ℕ) → refusal (after seen) call ≡ some code
+    pub call-refused : (code : ℕ) → refusal (after seen) call ≡ some code
         → callOn J L refusal (after seen) call ≡ record { answer = refused code call; memory = after seen }
     unfolding callOn
     call-refused code e = rw (e, callOn)
@@ -152,6 +154,13 @@ module _ {Memory Reg Count : Type 0} (J : Judgement Reg Count (List ℕ)) (L : L
     pub taken : L .load (o .memory) .totals .taken ≡ length (takenStream calls (o .answers))
     pub accounted : L .load (o .memory) .totals .taken
         ≡ L .load (o .memory) .totals .answered + heldBytes (L .load (o .memory) .connection) + L .load (o .memory) .totals .dropped
+    -- each counted from the stream itself: it is its parts joined, which framing alone tells, and these are their lengths
+    pub parts : takenStream calls (o .answers) ≡ joined (partsOf (takenStream calls (o .answers)))
+    pub answered : L .load (o .memory) .totals .answered ≡ length (flatten (partsOf (takenStream calls (o .answers)) .answered))
+    pub held : heldBytes (L .load (o .memory) .connection) ≡ length (partsOf (takenStream calls (o .answers)) .held)
+    pub dropped : L .load (o .memory) .totals .dropped ≡ length (partsOf (takenStream calls (o .answers)) .dropped)
+    -- the rules have one response for each answered request, in their order
+    pub each : rules J registry (takenStream calls (o .answers)) .responses ≡ responsesTo J registry (partsOf (takenStream calls (o .answers)) .answered)
 
   pub fresh-memory : after [] ≡ L .store (fresh J registry)
   fresh-memory = ap (λ (o : Outcome Reg Count (List ℕ)). L .store (o .state)) (rules-fresh J registry)
@@ -164,6 +173,7 @@ module _ {Memory Reg Count : Type 0} (J : Judgement Reg Count (List ℕ)) (L : L
       let f = follows [] calls in
       let stream : List ℕ = takenStream calls (o .answers) in
       let a = rules-accounted J registry stream in
+      let s = rules-from-stream J registry stream in
       let state : L .load (o .memory) ≡ rules J registry stream .state
       = ap (L .load) (f .memory) ∙ lawful (rules J registry stream .state) (rules-connection J registry stream) in
       record {
@@ -175,4 +185,9 @@ module _ {Memory Reg Count : Type 0} (J : Judgement Reg Count (List ℕ)) (L : L
         accounted =
             ap (λ (s : State Reg Count). s .totals .taken) state ∙ a .parts
             ∙ ap (λ (s : State Reg Count). s .totals .answered + heldBytes (s .connection) + s .totals .dropped) (sym state);
+        parts = parts-joined stream;
+        answered = ap (λ (s : State Reg Count). s .totals .answered) state ∙ s .answered;
+        held = ap (λ (s : State Reg Count). heldBytes (s .connection)) state ∙ s .held;
+        dropped = ap (λ (s : State Reg Count). s .totals .dropped) state ∙ s .dropped;
+        each = s .responses;
       })

@@ -3,8 +3,10 @@ pub mod FramedLaws
 pub mod RulesLaws
 pub mod CallLaws
 pub mod AccountingLaws
+pub mod PartsLaws
 pub mod KeptLaws
 pub mod CallsLaws
+pub mod ResponseLaws
 pub mod DeliveryLaws
 pub mod ChunkLaws
 pub mod GatheredLaws

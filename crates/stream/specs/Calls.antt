@@ -4,7 +4,7 @@ use Prim.Native.Nat.{ℕ, zero, suc}
 use mathlib.Core.Option.{Option, none, some}
 use mathlib.Core.List.{List, [], _∷_, _++_}
 use lib.ListN.{length, take, drop, getElem?}
-use lib.Dec.{ltb}
+use lib.Dec.{ltb, eqb}
 use Rattle.wire.specs.Choice.{if_then_else_}
 use Rattle.stream.specs.Rules.{Judgement, State, rules}
 use Rattle.stream.specs.Call.{callRule}
@@ -82,6 +82,12 @@ module _ {Memory Reg Count : Type 0} (J : Judgement Reg Count (List ℕ)) (L : L
 unfoldable pub joinedResponses : List Answer → List ℕ
 joinedResponses [] = []
 joinedResponses (a ∷ answers) = take (a .written) (a .buffer) ++ joinedResponses answers
+
+-- the responses one by one: of each call that wrote one
+unfoldable pub responsesIn : List Answer → List (List ℕ)
+responsesIn [] = []
+responsesIn (a ∷ answers) =
+    if eqb (a .written) 0 then responsesIn answers else take (a .written) (a .buffer) ∷ responsesIn answers
 
 -- the joined stream of taken bytes: call by call, as many first bytes of the chunk as the call says it took
 unfoldable pub takenStream : List Call → List Answer → List ℕ
