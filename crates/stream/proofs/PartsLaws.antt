@@ -10,7 +10,7 @@ use lib.Seq.{length-take-le}
 use Rattle.wire.specs.Request.{headerLength, requestLength}
 use Rattle.stream.specs.Frame.{legalStart, unfinished, badStart, skipped, whole, next}
 use Rattle.stream.specs.Rules.{Verdict, Judgement, opened, skipping, closed, heldBytes, Outcome, Progress, answer, finish, judge, rulesFrom, start, rules}
-use Rattle.stream.specs.Parts.{Parts, joined, andBefore, partsWithin, partsOf, verdictOn, responsesFrom, responsesTo}
+use Rattle.stream.specs.Parts.{Parts, joined, andBefore, heldParts, closingParts, partsWithin, partsOf, verdictOn, responsesFrom, responsesTo}
 use Rattle.stream.proofs.FrameLaws.{Unfinished, Skipped, Shape, isUnfinished, isBad, isSkipped, isWhole, shape, next-unfinished, next-bad, next-skipped, next-whole, legalStart-append, header-length}
 use Rattle.stream.proofs.RulesLaws.{rules-unfinished, rules-bad, rules-skipped, rules-whole}
 
@@ -39,16 +39,16 @@ by-frames P atUnfinished atBad atSkipped atWhole s = go (suc (length s)) s (le-r
 -- ---- the equations of `partsOf`
 
 module _ (f : ℕ) (s : List ℕ) where
-  within-unfinished : next s ≡ unfinished → partsWithin (suc f) s ≡ record { answered = []; held = s; dropped = [] }
+  within-unfinished : next s ≡ unfinished → partsWithin (suc f) s ≡ heldParts s
   unfolding partsWithin
   within-unfinished e = rw (e, partsWithin)
 
-  within-bad : next s ≡ badStart → partsWithin (suc f) s ≡ record { answered = take 6 s ∷ []; held = []; dropped = drop 6 s }
+  within-bad : next s ≡ badStart → partsWithin (suc f) s ≡ closingParts s
   unfolding partsWithin
   within-bad e = rw (e, partsWithin)
 
   within-skipped : (header : List ℕ) (missing : ℕ) → next s ≡ skipped header missing
-      → partsWithin (suc f) s ≡ record { answered = []; held = s; dropped = [] }
+      → partsWithin (suc f) s ≡ heldParts s
   unfolding partsWithin
   within-skipped header missing e = rw (e, partsWithin)
 
@@ -82,15 +82,15 @@ within = by-frames (λ s. (f g : ℕ) → length s < f → length s < g → part
         within-whole f s _ e ∙ ap (andBefore (take (requestLength s) s)) (ih f g (omega arith) (omega arith)) ∙ sym (within-whole g s _ e)
 
 module _ (s : List ℕ) where
-  pub parts-unfinished : Unfinished s → partsOf s ≡ record { answered = []; held = s; dropped = [] }
+  pub parts-unfinished : Unfinished s → partsOf s ≡ heldParts s
   unfolding partsOf
   parts-unfinished u = within-unfinished (length s) s (next-unfinished s u)
 
-  pub parts-bad : 6 ≤ length s → legalStart s ≡ false → partsOf s ≡ record { answered = take 6 s ∷ []; held = []; dropped = drop 6 s }
+  pub parts-bad : 6 ≤ length s → legalStart s ≡ false → partsOf s ≡ closingParts s
   unfolding partsOf
   parts-bad h l = within-bad (length s) s (next-bad s h l)
 
-  pub parts-skipped : Skipped s → partsOf s ≡ record { answered = []; held = s; dropped = [] }
+  pub parts-skipped : Skipped s → partsOf s ≡ heldParts s
   unfolding partsOf
   parts-skipped k = within-skipped (length s) s _ _ (next-skipped s (k .legal) (k .header) (k .more) (k .large))
 
@@ -112,7 +112,7 @@ joined-more s n ih =
     ∙ sym (append-assoc (take n s) (flatten (p .answered)) (p .held ++ p .dropped))
 
 pub parts-joined : (s : List ℕ) → s ≡ joined (partsOf s)
-unfolding joined flatten
+unfolding joined flatten heldParts closingParts
 parts-joined = by-frames (λ s. s ≡ joined (partsOf s))
     (λ s u. rw (parts-unfinished s u) (sym (append-nil s)))
     (λ s h l. rw (parts-bad s h l) (sym (ap (λ (x : List ℕ). x ++ drop 6 s) (append-nil (take 6 s)) ∙ take-append-drop 6 s)))
@@ -153,22 +153,22 @@ module _ {Reg Count Out : Type 0} (J : Judgement Reg Count Out) where
     pub counts : o .state .totals .counts ≡ countsFrom (p .registry) (p .counts) (parts .answered)
 
   module _ (taken : ℕ) (p : Progress Reg Count Out) (s : List ℕ) where
-    told-unfinished : Told p (record { answered = []; held = s; dropped = [] }) (finish p taken 0 (opened s))
-    unfolding finish heldBytes responsesFrom countsFrom flatten
+    told-unfinished : Told p (heldParts s) (finish p taken 0 (opened s))
+    unfolding heldParts finish heldBytes responsesFrom countsFrom flatten
     told-unfinished = record { responses = sym (append-nil (p .responses)); answered = omega arith; held = refl; dropped = refl; counts = refl }
 
     told-skipped : Skipped s
-        → Told p (record { answered = []; held = s; dropped = [] }) (finish p taken 0 (skipping (take (headerLength s) s) (requestLength s - length s)))
-    unfolding finish heldBytes responsesFrom countsFrom flatten
+        → Told p (heldParts s) (finish p taken 0 (skipping (take (headerLength s) s) (requestLength s - length s)))
+    unfolding heldParts finish heldBytes responsesFrom countsFrom flatten
     told-skipped k =
         let h = header-length s k in
         let m : length s < requestLength s = k .more in
         record { responses = sym (append-nil (p .responses)); answered = omega arith; held = omega arith; dropped = refl; counts = refl }
 
     told-bad : 6 ≤ length s → legalStart s ≡ false
-        → Told p (record { answered = take 6 s ∷ []; held = []; dropped = drop 6 s })
+        → Told p (closingParts s)
         (finish (answer p 6 (J .onBadStart (p .registry) (p .counts))) taken (length s - 6) closed)
-    unfolding finish answer heldBytes responsesFrom countsFrom flatten
+    unfolding closingParts finish answer heldBytes responsesFrom countsFrom flatten
     told-bad h l =
         let n : length (take 6 s) ≡ 6 = length-take-le 6 s h in
         let d : length (drop 6 s) ≡ length s - 6 = length-drop 6 s in

@@ -20,13 +20,21 @@ joined p = flatten (p .answered) ++ (p .held ++ p .dropped)
 unfoldable pub andBefore : (request : List ℕ) → Parts → Parts
 andBefore request p = record { answered = request ∷ p .answered; held = p .held; dropped = p .dropped }
 
+-- all bytes are an unfinished request
+unfoldable pub heldParts : List ℕ → Parts
+heldParts bytes = record { answered = []; held = bytes; dropped = [] }
+
+-- six bytes close the connection, and the rest is dropped
+unfoldable pub closingParts : List ℕ → Parts
+closingParts bytes = record { answered = take 6 bytes ∷ []; held = []; dropped = drop 6 bytes }
+
 -- `fuel` is more than the requests left
 unfoldable pub partsWithin : (fuel : ℕ) → List ℕ → Parts
-partsWithin zero bytes = record { answered = []; held = bytes; dropped = [] }
+partsWithin zero bytes = heldParts bytes
 partsWithin (suc fuel) bytes = elim (next bytes) [
-  | unfinished ↦ record { answered = []; held = bytes; dropped = [] }
-  | badStart ↦ record { answered = take 6 bytes ∷ []; held = []; dropped = drop 6 bytes }
-  | skipped header missing ↦ record { answered = []; held = bytes; dropped = [] }
+  | unfinished ↦ heldParts bytes
+  | badStart ↦ closingParts bytes
+  | skipped header missing ↦ heldParts bytes
   | whole n ↦ andBefore (take n bytes) (partsWithin fuel (drop n bytes))
 ]
 
