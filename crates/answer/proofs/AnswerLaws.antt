@@ -28,7 +28,12 @@ use Rattle.registry.specs.Slots.{Entry}
 use Rattle.registry.specs.Registry.{applicationNamed, slotsOf, changed}
 use Rattle.registry.specs.declared.Line.{Line}
 use Rattle.judgement.specs.Status.{statusNumber}
-use Rattle.judgement.specs.Operations.{opcodesOf, noFields, opcodesFields, Operation, ping, listProviders, listOpcodes, readBody, operationOf, Result, refuse, perform, operated}
+use Rattle.messages.specs.Opcodes.{opcodesOf}
+use Rattle.messages.specs.Operations.{Operation, ping, listProviders, listOpcodes}
+use Rattle.judgement.specs.Operations.{Result, refuse, perform, operated}
+use Rattle.messages.proofs.OperationLaws.{nothing-bytes}
+use Rattle.judgement.proofs.PlacedLaws.{operation-placed}
+use Rattle.judgement.specs.code.Placed.{noFields, opcodesFields, readBody, placedOperation}
 use Rattle.judgement.specs.Counts.{Counts, countRefused, count}
 use Rattle.judgement.specs.Judgement.{applicationOf, refusals, askersSlots, resultOf, changedBy, verdictOf, refusedEarly, oversizedStatus, judgement}
 use Rattle.judgement.specs.code.Decided.{headerTests, namedOr, authOf, askersLine, outputBytes, resultIn, Decided, oneOfCore, oneOfKeystore, AskerBelow}
@@ -93,18 +98,18 @@ module _ (h : Header) (passed : PassedHeader h) where
 module _ (opcode : ℕ) (body : List ℕ) (a b : List Entry) where
   by-body :
       (fields : Schema) (f : Values → Operation) →
-      operationOf opcode body ≡ readBody fields body f →
+      placedOperation opcode body ≡ readBody fields body f →
       ((v : Values) → perform (f v) a ≡ perform (f v) b) →
       operated opcode body a ≡ operated opcode body b
   unfolding operated readBody
   by-body fields f e s = go (bodyOf fields body) refl
     where
       go : (r : Body) → bodyOf fields body ≡ r → operated opcode body a ≡ operated opcode body b
-      go (Message v) p = rw (e, p, operated) (s v)
-      go (Unreadable at) p = rw (e, p, operated)
+      go (Message v) p = rw (operation-placed opcode body ∙ e, p, operated) (s v)
+      go (Unreadable at) p = rw (operation-placed opcode body ∙ e, p, operated)
 
   pub core-anywhere : oneOfCore opcode → operated opcode body a ≡ operated opcode body b
-  unfolding operationOf perform
+  unfolding placedOperation perform
   core-anywhere (inl e) = by-body noFields (λ v. ping) (rw e) (λ v. refl)
   core-anywhere (inr (inl e)) = by-body noFields (λ v. listProviders) (rw e) (λ v. refl)
   core-anywhere (inr (inr e)) = by-body opcodesFields (λ v. listOpcodes (v .f1 .number)) (rw e) (λ v. refl)
@@ -276,7 +281,7 @@ module _ {before after : List ℕ} {r : Answered} where
         → AnsweredBy (λ c. judgement .onRequest registry c request) registry before after r
     unfolding judgement verdictOf headerOf refuse
     answered-refused status e h w = record {
-      response = rw e (w .2);
+      response = rw (e, nothing-bytes) (w .2);
       kept = rw e (sym (refused-kept registry (applicationOf registry (requestOf request)) status));
       counts = λ c. rw (e, w .0) (refused-count c _ status h ∙ sym (refused-count c _ status h));
       asker = rw (w .1) tt;

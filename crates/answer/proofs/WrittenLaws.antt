@@ -10,7 +10,8 @@ use Rattle.wire.specs.Numbers.{littleEndianOf}
 use Rattle.wire.specs.Response.{responseHeader, responseBytes}
 use Rattle.wire.specs.code.Wrote.{Wrote}
 use Rattle.wire.proofs.BufferLaws.{wrote-on}
-use Rattle.registry.specs.Slots.{Entry, free, held, dataMost}
+use Rattle.keys.specs.Key.{dataMost}
+use Rattle.registry.specs.Slots.{Entry, free, held}
 use Rattle.registry.specs.Registry.{lineCount, slotsOf}
 use Rattle.registry.specs.WellFormed.{wellFormedRegistry}
 use Rattle.registry.specs.code.Check.{bytesIn}

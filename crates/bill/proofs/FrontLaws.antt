@@ -15,9 +15,10 @@ use Rattle.wire.specs.Numbers.{littleEndian, field}
 use Rattle.wire.proofs.TestLaws.{and-left, and-right, none-at}
 use Rattle.wire.proofs.ListLaws.{part-of-part, all-take, all-drop}
 use Rattle.wire.proofs.NumberLaws.{isByte, field-append}
-use Rattle.registry.specs.Names.{legalName, isNew}
-use Rattle.registry.specs.Registry.{applicationNameMost, lineCount}
-use Rattle.registry.proofs.NameLaws.{legal-short}
+use Rattle.keys.specs.Names.{legalName, applicationNameMost}
+use Rattle.registry.specs.Names.{isNew}
+use Rattle.registry.specs.Registry.{lineCount}
+use Rattle.keys.proofs.NameLaws.{legal-short}
 use Rattle.roster.specs.Roster.{recordLength, valueIn, recordFaults, rosterOf}
 use Rattle.roster.specs.declared.RosterFault.{RosterFault}
 use Rattle.roster.specs.declared.RosterFault.the-variants.{CutRecord, UnknownTag, BadName, NinthName, RepeatedName}

@@ -1,7 +1,7 @@
 // The program's memory, all zero. Each contract gives the length alone, which lending an array as a slice needs.
 use billing::BILL_MOST;
 use connection::CONNECTION_SIZE;
-use registry::APPLICATION_NAME_MOST;
+use keys::APPLICATION_NAME_MOST;
 use registry::LINES;
 use registry::REGISTRY_SIZE;
 ghost use mathlib.Core.Path.{_≡_};

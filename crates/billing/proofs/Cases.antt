@@ -2,7 +2,7 @@
 use mathlib.Core.Path.{_≡_}
 use Prim.Native.Nat.{ℕ, _+_, _-_}
 use mathlib.Core.Bool.{true, false}
-use mathlib.Core.Option.{some}
+use mathlib.Core.Option.{bind, some}
 use mathlib.Core.List.{List, [], _∷_, _++_, flatMap, flatten}
 use lib.ListN.{length, replicate}
 use Rattle.wire.specs.Choice.{firstOf, isSome}
@@ -15,14 +15,20 @@ use Rattle.protobuf.specs.Varint.{varintOf}
 use Rattle.protobuf.specs.Field.{numberAt, fixedAt, spanAt, contentAt, fieldAt}
 use Rattle.protobuf.specs.Message.{withValue, itemOf, stepAt}
 use Rattle.protobuf.specs.Written.{varintWithin, varint, numberField, bytesField, packedField}
-use Rattle.registry.specs.Names.{legalName, indexFrom}
-use Rattle.registry.specs.Slots.{Entry, free, held, legalData, legalBits, keyBytes, slotBytes, slotOf}
+use Rattle.keys.specs.Names.{legalName}
+use Rattle.registry.specs.Names.{indexFrom}
+use Rattle.keys.specs.Key.{legalData, legalBits, importBits}
+use Rattle.registry.specs.Slots.{Entry, free, held, keyBytes, slotBytes, slotOf}
 use Rattle.registry.specs.Registry.{slotCount, applicationNamed, slotsOf, slotNamed, changed, lineOf, registryOf}
 use Rattle.roster.specs.Roster.{faultNumber, recordFaults, Roster, applications, faulty, recordTurn, rosterOf}
 use Rattle.stream.specs.Frame.{legalStart, oversized, next}
 use Rattle.stream.specs.Rules.{Outcome, heldBytes, answer, finish, judge, rulesWithin, rulesFrom, start, rules}
 use Rattle.judgement.specs.Status.{statusNumber}
-use Rattle.judgement.specs.Operations.{opcodesOf, readBody, operationOf, success, refuse, importBits, importable, performImport, performDestroy, exportOf, performExport, performListOpcodes, perform, operated}
+use Rattle.messages.specs.Opcodes.{opcodesOf}
+use Rattle.messages.specs.Format.{listed, messageBytes, readMessage}
+use Rattle.messages.specs.Protobuf.{packedOf}
+use Rattle.messages.specs.Operations.{readBody, operationOf, outputBytes}
+use Rattle.judgement.specs.Operations.{success, refuse, importable, performImport, performDestroy, exportOf, performExport, performListOpcodes, perform, operated}
 use Rattle.judgement.specs.Counts.{Counts, noCounts, increment, indexOf, countRefused, countServed, count}
 use Rattle.judgement.specs.Judgement.{applicationOf, refusals, askersSlots, resultOf, changedBy, verdictOf, refusedEarly, oversizedStatus, judgement}
 use Rattle.billing.specs.Ascii.{ascii}
@@ -48,7 +54,7 @@ startOf (faulty fault) = []
 
 -- all that a case computes with
 unfoldable pub showing : (roster stream : List ℕ) → Shown
-unfolding rosterOf recordTurn recordFaults firstOf legalName field littleEndian registryOf lineOf flatten rules rulesFrom rulesWithin start answer finish judge next legalStart oversized judgement noCounts requestOf resultOf refusals oneOf opcodesOf isSome applicationOf applicationNamed indexFrom operated operationOf readBody scanAt scanFrom stepAt itemOf fieldAt contentAt numberAt spanAt fixedAt varintOf withValue perform performImport performDestroy performExport exportOf performListOpcodes success refuse numberField bytesField packedField flatMap varint varintWithin importable importBits legalData legalBits slotNamed keyBytes slotBytes askersSlots verdictOf refusedEarly oversizedStatus responseBytes responseHeader littleEndianOf statusNumber changedBy changed count countServed countRefused increment indexOf slotsOf slotOf billOf textLine decimal digitsBefore applicationLines refusedLines heldBytes ascii shownBy startOf bill billFor refusedRoster faultNumber
+unfolding rosterOf recordTurn recordFaults firstOf legalName field littleEndian registryOf lineOf flatten rules rulesFrom rulesWithin start answer finish judge next legalStart oversized judgement noCounts requestOf resultOf refusals oneOf opcodesOf isSome applicationOf applicationNamed indexFrom operated operationOf readBody scanAt scanFrom stepAt itemOf fieldAt contentAt numberAt spanAt fixedAt varintOf withValue perform performImport performDestroy performExport exportOf performListOpcodes success refuse numberField bytesField packedField flatMap varint varintWithin importable importBits legalData legalBits slotNamed keyBytes slotBytes askersSlots verdictOf refusedEarly oversizedStatus responseBytes responseHeader littleEndianOf statusNumber changedBy changed count countServed countRefused increment indexOf slotsOf slotOf billOf textLine decimal digitsBefore applicationLines refusedLines heldBytes ascii shownBy startOf bill billFor refusedRoster faultNumber listed messageBytes readMessage packedOf outputBytes bind
 showing roster stream = shownBy (rules judgement (startOf (rosterOf roster)) stream) (bill (some roster) (some stream))
 
 -- ---- a table holds

@@ -15,10 +15,11 @@ use Rattle.wire.specs.Lists.{all}
 use Rattle.wire.proofs.TestLaws.{and-left}
 use Rattle.wire.proofs.ListLaws.{all-drop}
 use Rattle.registry.specs.Names.{nameIn}
-use Rattle.registry.specs.Registry.{lineCount, applicationNameMost, lineSize, namesIn}
+use Rattle.keys.specs.Names.{applicationNameMost}
+use Rattle.registry.specs.Registry.{lineCount, lineSize, namesIn}
 use Rattle.registry.specs.WellFormed.{legalIfUsed, wellFormedRegistry}
 use Rattle.registry.specs.code.Check.{blockNames}
-use Rattle.registry.proofs.NameLaws.{legal-short}
+use Rattle.keys.proofs.NameLaws.{legal-short}
 use Rattle.registry.proofs.WellFormedLaws.{good-of}
 use Rattle.registry.proofs.BlockNameLaws.{blockAt, fits, length-names, names-cons, name-at, name-length}
 use Rattle.judgement.specs.Status.{statusNumber, refusedStatuses}

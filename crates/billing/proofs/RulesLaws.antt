@@ -13,8 +13,9 @@ use Rattle.stream.specs.Parts.{partsOf}
 use Rattle.stream.specs.Calls.{Call, takenStream}
 use Rattle.stream.proofs.KeptLaws.{rules-connection}
 use Rattle.stream.proofs.CallsLaws.{Lawful}
-use Rattle.registry.specs.Registry.{lineCount, applicationNameMost, namesIn, registryOf}
-use Rattle.registry.proofs.NameLaws.{legal-some}
+use Rattle.keys.specs.Names.{applicationNameMost}
+use Rattle.registry.specs.Registry.{lineCount, namesIn, registryOf}
+use Rattle.keys.proofs.NameLaws.{legal-some}
 use Rattle.registry.proofs.KeylessLaws.{isLegal, LegalNames, registry-names, registry-good}
 use Rattle.roster.specs.Roster.{applications, rosterOf}
 use Rattle.roster.proofs.RosterLaws.{roster-legal}

@@ -5,36 +5,40 @@ use mathlib.Core.Option.{none, some}
 use mathlib.Core.List.{List, [], _∷_}
 use Prim.Native.Nat.{ℕ, _%_, _≤_, _<_}
 use native.Mathlib.Omega.{arith}
-use borrow.Author.Tests.{leb-true, lt-ltb, le-ltb, lt-leb, le-leb}
+use borrow.Author.Tests.{lt-ltb, le-ltb, lt-leb, le-leb}
 use lib.ListN.{length, getD}
-use lib.Dec.{leb, eqb}
-use Rattle.wire.proofs.TestLaws.{every-at}
 use Rattle.wire.proofs.ListLaws.{length-part}
 use Rattle.protobuf.specs.Body.{bodyOf}
 use Rattle.protobuf.specs.Message.{allAbsent}
-use Rattle.protobuf.specs.Written.{bytesField}
 use Rattle.protobuf.specs.declared.message.Schema.{Schema}
 use Rattle.protobuf.specs.declared.message.Values.{Values}
 use Rattle.protobuf.specs.declared.body.Body.the-variants.{Message, Unreadable}
 use Rattle.protobuf.proofs.StepLaws.{ValuesIn as AllIn}
 use Rattle.protobuf.proofs.BodyLaws.{BodyIn, body-in}
-use Rattle.registry.specs.Names.{legalName}
-use Rattle.registry.specs.Slots.{Key, Entry, free, held, nameOf, keyNameMost, dataMost, legalData, bitsLeast, bitsMost, legalBits}
+use Rattle.keys.specs.Names.{legalName, keyNameMost}
+use Rattle.keys.specs.Key.{Key, dataMost, legalData, legalBits, importBits}
+use Rattle.registry.specs.Slots.{Entry, free, held, nameOf}
 use Rattle.registry.specs.Registry.{slotCount, slotNamed, unchanged, fill, clear}
 use Rattle.registry.specs.code.Check.{bytesIn, exportIn}
 use Rattle.registry.specs.declared.Slot.{Slot}
 use Rattle.registry.specs.declared.Found.the-variants.{At, Nothing as Missing}
-use Rattle.registry.proofs.NameLaws.{legal-some, legal-short}
-use Rattle.registry.proofs.SlotLaws.{Legal, legal-data}
+use Rattle.keys.proofs.NameLaws.{legal-some, legal-short}
+use Rattle.keys.proofs.KeyLaws.{legal-data, legal-bits}
+use Rattle.registry.proofs.SlotLaws.{Legal}
 use Rattle.registry.proofs.RegistryLaws.{found-name}
-use Rattle.judgement.specs.Operations.{readBody, keyOf, Operation, operationOf, Result, success, refuse, importBits, importable, performImport, performDestroy, exportOf, performExport, performListOpcodes, perform, operated}
-use Rattle.judgement.specs.code.Decided.{outputBytes, changeOf, resultIn, refusedWith, ValuesIn, KeyParts, SafeOutput, Decided}
+use Rattle.messages.specs.Protobuf.{protobuf}
+use Rattle.messages.specs.Operations.{Operation, operationOf, nothing}
+use Rattle.messages.specs.Operations as message
+use Rattle.judgement.specs.Operations.{Result, success, refuse, importable, performImport, performDestroy, exportOf, performExport, performListOpcodes, perform, operated}
+use Rattle.judgement.specs.code.Placed.{readBody, keyOf, placedOperation}
+use Rattle.judgement.specs.code.Decided.{outputIn, changeOf, resultIn, refusedWith, ValuesIn, KeyParts, SafeOutput, Decided}
 use Rattle.judgement.specs.declared.Status.{Status}
 use Rattle.judgement.specs.declared.Status.the-variants.{Success, ProviderDoesNotExist, DeserializingBodyFailed, PsaErrorNotPermitted, PsaErrorInvalidArgument, PsaErrorAlreadyExists, PsaErrorDoesNotExist, PsaErrorInsufficientStorage}
 use Rattle.judgement.specs.declared.Output.{Output}
 use Rattle.judgement.specs.declared.Output.the-variants.{Nothing, Opcodes, Data}
 use Rattle.judgement.specs.declared.Edit.the-variants.{Stays, Fills, Clears}
 use Rattle.judgement.specs.declared.Decision.{Decision}
+use Rattle.judgement.proofs.PlacedLaws.{operation-placed}
 use Rattle.judgement.proofs.JudgementLaws.{importable-legal}
 
 -- ---- what a decision comes to
@@ -45,22 +49,22 @@ servedWith output = record { status = Success; output = output; edit = Stays; va
 
 module _ (slots : List Entry) (body : List ℕ) {x : Result} where
   pub refusal : (status : Status) → x ≡ refuse status → Decided slots body x (refusedWith status)
-  unfolding refuse resultIn outputBytes changeOf
+  unfolding refuse resultIn outputIn changeOf
   refusal status e = record { result = sym e; output = tt; edit = tt }
 
-  pub listing : (output : Output) → SafeOutput output → x ≡ success (outputBytes slots output) unchanged
+  pub listing : (output : Output) → SafeOutput output → x ≡ success (outputIn slots output) unchanged
       → Decided slots body x (servedWith output)
   unfolding success resultIn changeOf
   listing output safe e = record { result = sym e; output = safe; edit = tt }
 
 module _ (slots : List Entry) (body : List ℕ) {x : Result} (v : Values) (slot : Slot) (below : slot .0 < slotCount) where
-  pub filling : KeyParts (length body) v → x ≡ success [] (fill slot (keyOf body v))
+  pub filling : KeyParts (length body) v → x ≡ success nothing (fill slot (keyOf body v))
       → Decided slots body x (record { status = Success; output = Nothing; edit = Fills slot; values = v })
-  unfolding success resultIn outputBytes changeOf
+  unfolding success resultIn outputIn changeOf
   filling parts e = record { result = sym e; output = tt; edit = (below, parts) }
 
-  pub clearing : x ≡ success [] (clear slot) → Decided slots body x (record { status = Success; output = Nothing; edit = Clears slot; values = v })
-  unfolding success resultIn outputBytes changeOf
+  pub clearing : x ≡ success nothing (clear slot) → Decided slots body x (record { status = Success; output = Nothing; edit = Clears slot; values = v })
+  unfolding success resultIn outputIn changeOf
   clearing e = record { result = sym e; output = tt; edit = below }
 
 -- ---- the body of a request
@@ -71,18 +75,18 @@ values-in k body v e =
     record { name = inside .in1; bytes = inside .in2 }
 
 module _ (slots : List Entry) (body : List ℕ) (opcode : ℕ) (fields : Schema) (f : Values → Operation)
-    (reads : operationOf opcode body ≡ readBody fields body f) where
+    (reads : placedOperation opcode body ≡ readBody fields body f) where
   pub unreadable : (at : ℕ) → bodyOf fields body ≡ Unreadable at
       → Decided slots body (operated opcode body slots) (refusedWith DeserializingBodyFailed)
   unfolding operated readBody
   unreadable at e =
-      let asks-none : operationOf opcode body ≡ none = reads ∙ (let r : readBody fields body f ≡ none = rw (e, readBody) in r) in
+      let asks-none : operationOf protobuf opcode body ≡ none = operation-placed opcode body ∙ reads ∙ (let r : readBody fields body f ≡ none = rw (e, readBody) in r) in
       refusal slots body DeserializingBodyFailed (rw (asks-none, operated))
 
   pub readable : (v : Values) → bodyOf fields body ≡ Message v → operated opcode body slots ≡ perform (f v) slots
   unfolding operated readBody
   readable v e =
-      let asks : operationOf opcode body ≡ some (f v) = reads ∙ (let r : readBody fields body f ≡ some (f v) = rw (e, readBody) in r) in
+      let asks : operationOf protobuf opcode body ≡ some (f v) = operation-placed opcode body ∙ reads ∙ (let r : readBody fields body f ≡ some (f v) = rw (e, readBody) in r) in
       rw (asks, operated)
 
 -- ---- the core operations
@@ -92,8 +96,8 @@ unfolding performListOpcodes
 opcodes-refused provider h = rw (lt-ltb 1 provider h)
 
 pub opcodes-listed : (slots : List Entry) (provider : ℕ) → provider ≤ 1
-    → performListOpcodes provider ≡ success (outputBytes slots (Opcodes provider)) unchanged
-unfolding performListOpcodes outputBytes
+    → performListOpcodes provider ≡ success (outputIn slots (Opcodes provider)) unchanged
+unfolding performListOpcodes outputIn
 opcodes-listed slots provider h = rw (le-ltb 1 provider h)
 
 -- ---- Import
@@ -132,13 +136,9 @@ module _ (slots : List Entry) (key : Key) where
       unfolding performImport
       no-slot e = rw (t, new, e)
 
-      pub imported : (slot : Slot) → slotNamed [] slots ≡ At slot → performImport key slots ≡ success [] (fill slot key)
+      pub imported : (slot : Slot) → slotNamed [] slots ≡ At slot → performImport key slots ≡ success nothing (fill slot key)
       unfolding performImport
       imported slot e = rw (t, new, e)
-
-legal-bits : (bits : ℕ) → legalBits bits ≡ true → bits ≤ bitsMost
-unfolding legalBits
-legal-bits bits e = leb-true _ _ (every-at (leb bitsLeast bits ∷ leb bits bitsMost ∷ eqb (bits % 8) 0 ∷ []) 1 e)
 
 -- the parts of a key that Import allows
 pub key-parts : (body : List ℕ) (v : Values) → ValuesIn (length body) v → importable (keyOf body v) ≡ true → KeyParts (length body) v
@@ -155,7 +155,7 @@ key-parts body v inside t =
 
 -- ---- Destroy and Export
 
-may-export : (entry : Entry) → exportIn entry ≡ true → exportOf entry ≡ success (bytesField 1 (bytesIn entry)) unchanged
+may-export : (entry : Entry) → exportIn entry ≡ true → exportOf entry ≡ success (message.exported (bytesIn entry)) unchanged
 unfolding exportIn exportOf bytesIn
 may-export free a = absurd (false≢true a)
 may-export (held key) a = rw a
@@ -184,7 +184,7 @@ module _ (slots : List Entry) (name : List ℕ) where
     none-exported e = rw (t, e)
 
     module _ (slot : Slot) (e : slotNamed name slots ≡ At slot) where
-      pub destroyed : performDestroy name slots ≡ success [] (clear slot)
+      pub destroyed : performDestroy name slots ≡ success nothing (clear slot)
       unfolding performDestroy
       destroyed = rw (t, e)
 
@@ -195,8 +195,8 @@ module _ (slots : List Entry) (name : List ℕ) where
       unfolding performExport
       exports = rw (t, e)
 
-      pub exported : exportIn entry ≡ true → performExport name slots ≡ success (outputBytes slots (Data slot)) unchanged
-      unfolding outputBytes
+      pub exported : exportIn entry ≡ true → performExport name slots ≡ success (outputIn slots (Data slot)) unchanged
+      unfolding outputIn
       exported a = exports ∙ may-export entry a
 
       -- the slot holds a key, since its name is not empty

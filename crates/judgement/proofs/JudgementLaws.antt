@@ -11,8 +11,8 @@ use Rattle.wire.specs.Request.{Request, requestOf}
 use Rattle.wire.proofs.TestLaws.{some≢none, every-at, either}
 use Rattle.stream.specs.Frame.{oversized}
 use Rattle.stream.specs.Rules.{Verdict, judge}
-use Rattle.registry.specs.Names.{legalName}
-use Rattle.registry.specs.Slots.{Key, keyNameMost, legalData, legalBits}
+use Rattle.keys.specs.Names.{legalName, keyNameMost}
+use Rattle.keys.specs.Key.{Key, legalData, legalBits, importBits}
 use Rattle.registry.specs.Registry.{namesIn, applicationNamed, unchanged, changed}
 use Rattle.registry.specs.WellFormed.{wellFormedRegistry}
 use Rattle.registry.specs.declared.Line.{Line}
@@ -20,7 +20,7 @@ use Rattle.registry.proofs.SlotLaws.{Legal}
 use Rattle.registry.proofs.RegistryLaws.{Used, named-used}
 use Rattle.registry.proofs.WellFormedLaws.{Allowed, stays, fills, clears, change-kept}
 use Rattle.judgement.specs.Status.{statusNumber}
-use Rattle.judgement.specs.Operations.{Result, success, refuse, importBits, importable}
+use Rattle.judgement.specs.Operations.{Result, success, refuse, importable}
 use Rattle.judgement.specs.Counts.{Counts}
 use Rattle.judgement.specs.Judgement.{applicationOf, askersSlots, resultOf, changedBy, verdictOf, refusedEarly, judgement}
 use Rattle.judgement.proofs.Results.{by-result}

@@ -1,3 +1,4 @@
+pub mod PlacedLaws
 pub mod OutputLaws
 pub mod Results
 pub mod JudgementLaws

@@ -1,47 +1,58 @@
 -- What a response's body is, as fields, and how long.
 use Prim.Native.Nat.{ℕ}
-use mathlib.Core.Path.{_≡_, refl, ap}
+use mathlib.Core.Path.{_≡_, refl, ap, _∙_}
 use mathlib.Core.Bool.{Bool, true, false}
 use mathlib.Core.List.{List, [], _∷_, flatMap}
-use borrow.Author.Tests.{eq-eqb, ne-eqb}
-use lib.ListN.{length}
+use borrow.Author.Tests.{eqb-true, eqb-false, eq-eqb, ne-eqb}
+use lib.ListN.{length, getD}
 use lib.Dec.{eqb}
 use Rattle.protobuf.specs.Written.{varintWithin, varint, numberField, bytesField, packedField}
-use Rattle.registry.specs.Slots.{Entry}
-use Rattle.judgement.specs.Operations.{coreOpcodes, keystoreOpcodes, opcodesOf}
-use Rattle.judgement.specs.code.Decided.{outputBytes}
-use Rattle.judgement.specs.declared.Output.the-variants.{Version, Providers, Opcodes}
+use Rattle.messages.proofs.OperationLaws.{nothing-bytes, version-bytes, providers-bytes, opcodes-bytes, exported-bytes}
+use Rattle.registry.specs.Slots.{Entry, free}
+use Rattle.registry.specs.code.Check.{bytesIn}
+use Rattle.registry.specs.declared.Slot.{Slot}
+use Rattle.messages.specs.Opcodes.{coreOpcodes, keystoreOpcodes, opcodesOf}
+use Rattle.judgement.specs.code.Decided.{outputIn, outputBytes}
+use Rattle.judgement.specs.declared.Output.the-variants.{Nothing, Version, Providers, Opcodes, Data}
 
 module _ (slots : List Entry) where
   pub version-field : outputBytes slots Version ≡ numberField 1 1
-  unfolding outputBytes numberField varint varintWithin
-  version-field = refl
+  unfolding outputIn numberField varint varintWithin
+  version-field = version-bytes 1 0
 
   -- each number is below 128, and so its own varint
   pub providers-field : outputBytes slots Providers ≡ bytesField 1 (0 ∷ 1 ∷ [])
-  unfolding outputBytes packedField flatMap varint varintWithin
-  providers-field = refl
+  unfolding outputIn packedField flatMap varint varintWithin
+  providers-field = providers-bytes (0 ∷ 1 ∷ [])
 
   pub core-field : (provider : ℕ) → provider ≡ 0 → outputBytes slots (Opcodes provider) ≡ bytesField 1 coreOpcodes
-  unfolding outputBytes packedField opcodesOf flatMap varint varintWithin
-  core-field provider e = rw (eq-eqb provider 0 e)
+  unfolding outputIn packedField opcodesOf flatMap varint varintWithin
+  core-field provider e = opcodes-bytes (opcodesOf provider) ∙ rw (eq-eqb provider 0 e)
 
   pub keystore-field : (provider : ℕ) → (provider ≡ 0 → ⊥) → outputBytes slots (Opcodes provider) ≡ bytesField 1 keystoreOpcodes
-  unfolding outputBytes packedField opcodesOf flatMap varint varintWithin
-  keystore-field provider e = rw (ne-eqb provider 0 e)
+  unfolding outputIn packedField opcodesOf flatMap varint varintWithin
+  keystore-field provider e = opcodes-bytes (opcodesOf provider) ∙ rw (ne-eqb provider 0 e)
 
   pub version-length : length (outputBytes slots Version) ≡ 2
-  unfolding outputBytes numberField varint varintWithin
-  version-length = refl
+  unfolding numberField varint varintWithin
+  version-length = ap length version-field
 
   pub providers-length : length (outputBytes slots Providers) ≡ 4
   unfolding bytesField varint varintWithin
   providers-length = ap length providers-field
 
   pub opcodes-length : (provider : ℕ) → length (outputBytes slots (Opcodes provider)) ≡ 5
-  unfolding outputBytes packedField opcodesOf flatMap bytesField varint varintWithin
+  unfolding bytesField varint varintWithin
   opcodes-length provider = go (eqb provider 0) refl
     where
       go : (t : Bool) → eqb provider 0 ≡ t → length (outputBytes slots (Opcodes provider)) ≡ 5
-      go true e = rw e
-      go false e = rw e
+      go true e = ap length (core-field provider (eqb-true _ _ e))
+      go false e = ap length (keystore-field provider (eqb-false _ _ e))
+
+  pub nothing-field : outputBytes slots Nothing ≡ []
+  unfolding outputIn
+  nothing-field = nothing-bytes
+
+  pub data-field : (slot : Slot) → outputBytes slots (Data slot) ≡ bytesField 1 (bytesIn (getD slots (slot .0) free))
+  unfolding outputIn
+  data-field slot = exported-bytes (bytesIn (getD slots (slot .0) free))

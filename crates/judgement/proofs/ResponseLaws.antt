@@ -1,5 +1,5 @@
 -- Every response has at most 629 bytes, where the registry is well formed.
-use mathlib.Core.Path.{_≡_, refl, subst}
+use mathlib.Core.Path.{_≡_, refl, ap, subst}
 use mathlib.Core.Bool.{true}
 use mathlib.Core.Option.{Option, none, some}
 use mathlib.Core.List.{List, [], _∷_, _++_}
@@ -16,7 +16,11 @@ use Rattle.stream.specs.Frame.{oversized}
 use Rattle.stream.specs.Rules.{Verdict, judge, Outcome, Progress, answer, finish, rulesFrom, start, rules}
 use Rattle.stream.proofs.AccountingLaws.{by-requests}
 use Rattle.protobuf.specs.Written.{varintWithin, varint, bytesField}
-use Rattle.registry.specs.Slots.{free, dataMost}
+use Rattle.keys.specs.Key.{dataMost}
+use Rattle.messages.specs.Protobuf.{protobuf}
+use Rattle.messages.specs.Operations.{outputBytes}
+use Rattle.messages.proofs.OperationLaws.{nothing-bytes, exported-bytes}
+use Rattle.registry.specs.Slots.{free}
 use Rattle.registry.specs.WellFormed.{wellFormedRegistry}
 use Rattle.registry.specs.declared.Line.{Line}
 use Rattle.registry.proofs.SlotLaws.{ShortEntry}
@@ -73,14 +77,14 @@ bytes-short (b ∷ bytes) h =
     tag : length (varint (8 * 1 + 2)) ≤ 1
     tag = unfold varint varintWithin in omega arith
 
-output-short : (r : List ℕ) → wellFormedRegistry r ≡ true → (q : Request) → length (resultOf r q .output) ≤ bodyMost
+output-short : (r : List ℕ) → wellFormedRegistry r ≡ true → (q : Request) → length (outputBytes protobuf (resultOf r q .output)) ≤ bodyMost
 unfolding refuse success
-output-short r w q = by-result r q (λ x. length (x .output) ≤ bodyMost) (record {
-  refused = λ status. omega arith;
+output-short r w q = by-result r q (λ x. length (outputBytes protobuf (x .output)) ≤ bodyMost) (record {
+  refused = λ status. omega (arith, ap length nothing-bytes);
   listed = λ output h. omega arith;
-  imported = λ slot key v n e. omega arith;
-  destroyed = λ slot name e. omega arith;
-  exported = λ slot key e. bytes-short (key .bytes) (subst ShortEntry e (slots-of-asker r w q (slot .0)));
+  imported = λ slot key v n e. omega (arith, ap length nothing-bytes);
+  destroyed = λ slot name e. omega (arith, ap length nothing-bytes);
+  exported = λ slot key e. omega (arith, ap length (exported-bytes (key .bytes)), bytes-short (key .bytes) (subst ShortEntry e (slots-of-asker r w q (slot .0))));
 })
 
 -- ---- one response
@@ -101,7 +105,7 @@ pub judge-short : (r : List ℕ) (c : Counts) (request : List ℕ) → wellForme
 unfolding judge judgement verdictOf
 judge-short r c request w =
     let q : Request = requestOf request in
-    let l = response-length (q .provider) (q .session) (q .opcode) (statusNumber (resultOf r q .status)) (resultOf r q .output) in
+    let l = response-length (q .provider) (q .session) (q .opcode) (statusNumber (resultOf r q .status)) (outputBytes protobuf (resultOf r q .output)) in
     let s = output-short r w q in
     either (λ (v : Verdict (List ℕ) Counts (List ℕ)). length (v .response) ≤ responseMost) (oversized request)
     (λ _. early-short r c _ _ _ _) (λ _. omega arith)

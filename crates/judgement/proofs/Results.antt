@@ -2,35 +2,38 @@
 use mathlib.Core.Path.{_≡_, refl}
 use mathlib.Core.Bool.{Bool, true, false}
 use mathlib.Core.Option.{Option, none, some}
-use mathlib.Core.List.{List, [], flatMap}
+use mathlib.Core.List.{List, []}
 use Prim.Native.Nat.{ℕ, _≤_}
 use native.Mathlib.Omega.{arith}
 use lib.ListN.{length, getD}
 use lib.Dec.{ltb}
 use Rattle.wire.specs.Choice.{firstOf}
 use Rattle.wire.specs.Request.{Request}
-use Rattle.protobuf.specs.Written.{varintWithin, varint, numberField, bytesField, packedField}
-use Rattle.registry.specs.Names.{legalName}
-use Rattle.registry.specs.Slots.{Key, Entry, free, held, keyNameMost}
+use Rattle.keys.specs.Names.{legalName, keyNameMost}
+use Rattle.keys.specs.Key.{Key}
+use Rattle.registry.specs.Slots.{Entry, free, held}
 use Rattle.registry.specs.Registry.{slotNamed, unchanged, fill, clear}
 use Rattle.registry.specs.declared.Slot.{Slot}
 use Rattle.registry.specs.declared.Found.{Found}
 use Rattle.registry.specs.declared.Found.the-variants.{At, Nothing}
-use Rattle.judgement.specs.Operations.{Operation, ping, listProviders, listOpcodes, importKey, destroyKey, exportPublicKey, operationOf, Result, success, refuse, importable, performImport, performDestroy, exportOf, performExport, performListOpcodes, perform, operated}
+use Rattle.messages.specs.Protobuf.{protobuf}
+use Rattle.messages.specs.Operations.{Operation, ping, listProviders, listOpcodes, importKey, destroyKey, exportPublicKey, operationOf, Output, nothing, exported}
+use Rattle.messages.specs.Operations as message
+use Rattle.judgement.specs.Operations.{Result, success, refuse, importable, performImport, performDestroy, exportOf, performExport, performListOpcodes, perform, operated}
 use Rattle.judgement.specs.Judgement.{applicationOf, refusals, askersSlots, resultOf}
-use Rattle.judgement.specs.code.Decided.{outputBytes}
+use Rattle.judgement.specs.code.Decided.{outputIn}
 use Rattle.judgement.specs.declared.Status.{Status}
 use Rattle.judgement.specs.declared.Output.the-variants.{Opcodes}
-use Rattle.judgement.proofs.OutputLaws.{opcodes-length}
+use Rattle.judgement.proofs.OutputLaws.{version-length, providers-length, opcodes-length}
 
 -- the ways to end, on these slots
 pub record Ends (slots : List Entry) (P : Result → Type 0) : Type 0 where
   pub refused : (status : Status) → P (refuse status)
-  pub listed : (output : List ℕ) → length output ≤ 5 → P (success output unchanged)
+  pub listed : (output : Output) → length (message.outputBytes protobuf output) ≤ 5 → P (success output unchanged)
   pub imported : (slot : Slot) (key : Key) → importable key ≡ true → slotNamed (key .name) slots ≡ Nothing → slotNamed [] slots ≡ At slot
-      → P (success [] (fill slot key))
-  pub destroyed : (slot : Slot) (name : List ℕ) → slotNamed name slots ≡ At slot → P (success [] (clear slot))
-  pub exported : (slot : Slot) (key : Key) → getD slots (slot .0) free ≡ held key → P (success (bytesField 1 (key .bytes)) unchanged)
+      → P (success nothing (fill slot key))
+  pub destroyed : (slot : Slot) (name : List ℕ) → slotNamed name slots ≡ At slot → P (success nothing (clear slot))
+  pub exported : (slot : Slot) (key : Key) → getD slots (slot .0) free ≡ held key → P (success (exported (key .bytes)) unchanged)
 
 module _ (slots : List Entry) (P : Result → Type 0) (ends : Ends slots P) where
   by-import : (key : Key) → P (performImport key slots)
@@ -83,17 +86,17 @@ module _ (slots : List Entry) (P : Result → Type 0) (ends : Ends slots P) wher
       go true e = second e (slotNamed name slots) refl
 
   by-opcodes : (provider : ℕ) → P (performListOpcodes provider)
-  unfolding performListOpcodes outputBytes
+  unfolding performListOpcodes outputIn
   by-opcodes provider = go (ltb 1 provider) refl
     where
       go : (t : Bool) → ltb 1 provider ≡ t → P (performListOpcodes provider)
       go true e = rw (e, performListOpcodes) (ends .refused _)
-      go false e = rw (e, performListOpcodes) (ends .listed (outputBytes slots (Opcodes provider)) (omega (arith, opcodes-length slots provider)))
+      go false e = rw (e, performListOpcodes) (ends .listed (outputIn slots (Opcodes provider)) (omega (arith, opcodes-length slots provider)))
 
   by-operation : (operation : Operation) → P (perform operation slots)
-  unfolding perform
-  by-operation ping = ends .listed _ (unfold numberField varint varintWithin in omega arith)
-  by-operation listProviders = ends .listed _ (unfold packedField flatMap varint varintWithin bytesField in omega arith)
+  unfolding perform outputIn
+  by-operation ping = ends .listed _ (omega (arith, version-length slots))
+  by-operation listProviders = ends .listed _ (omega (arith, providers-length slots))
   by-operation (listOpcodes provider) = by-opcodes provider
   by-operation (importKey key) = by-import key
   by-operation (destroyKey name) = by-destroy name
@@ -102,9 +105,9 @@ module _ (slots : List Entry) (P : Result → Type 0) (ends : Ends slots P) wher
 module _ (r : List ℕ) (q : Request) (P : Result → Type 0) (ends : Ends (askersSlots r (applicationOf r q)) P) where
   by-operate : P (operated (q .opcode) (q .body) (askersSlots r (applicationOf r q)))
   unfolding operated
-  by-operate = go (operationOf (q .opcode) (q .body)) refl
+  by-operate = go (operationOf protobuf (q .opcode) (q .body)) refl
     where
-      go : (o : Option Operation) → operationOf (q .opcode) (q .body) ≡ o → P (operated (q .opcode) (q .body) (askersSlots r (applicationOf r q)))
+      go : (o : Option Operation) → operationOf protobuf (q .opcode) (q .body) ≡ o → P (operated (q .opcode) (q .body) (askersSlots r (applicationOf r q)))
       go none e = rw (e, operated) (ends .refused _)
       go (some operation) e = rw (e, operated) (by-operation (askersSlots r (applicationOf r q)) P ends operation)
 

@@ -9,13 +9,16 @@ use Rattle.wire.specs.Choice.{if_then_else_, firstOf, isSome}
 use Rattle.wire.specs.Lists.{oneOf}
 use Rattle.wire.specs.Request.{contentLength, Request, requestOf}
 use Rattle.wire.specs.Response.{responseBytes}
+use Rattle.messages.specs.Protobuf.{protobuf}
+use Rattle.messages.specs.Operations.{outputBytes}
 use Rattle.stream.specs.Frame.{contentMost}
 use Rattle.stream.specs.Rules.{Verdict, Judgement}
 use Rattle.registry.specs.Slots.{Entry}
 use Rattle.registry.specs.Registry.{applicationNamed, slotsOf, changed}
 use Rattle.registry.specs.declared.Line.{Line}
 use Rattle.judgement.specs.Status.{statusNumber}
-use Rattle.judgement.specs.Operations.{coreOpcodes, keystoreOpcodes, opcodesOf, Result, refuse, operated}
+use Rattle.messages.specs.Opcodes.{coreOpcodes, keystoreOpcodes, opcodesOf}
+use Rattle.judgement.specs.Operations.{Result, refuse, operated}
 use Rattle.judgement.specs.Counts.{Counts, noCounts, countRefused, count}
 use Rattle.judgement.specs.declared.Status.{Status}
 use Rattle.judgement.specs.declared.Status.the-variants.{WrongProviderId, ContentTypeNotSupported, AcceptTypeNotSupported, WireProtocolVersionNotSupported, ProviderDoesNotExist, OpcodeDoesNotExist, AuthenticationError, AuthenticatorDoesNotExist, InvalidHeader, NotAuthenticated, BodySizeExceedsLimit}
@@ -73,7 +76,7 @@ changedBy registry (some line) r = changed registry line (r .change)
 
 unfoldable pub verdictOf : (registry : List ℕ) → Counts → Request → Result → Verdict (List ℕ) Counts (List ℕ)
 verdictOf registry counts q r = record {
-  response = responseBytes (q .provider) (q .session) (q .opcode) (statusNumber (r .status)) (r .output);
+  response = responseBytes (q .provider) (q .session) (q .opcode) (statusNumber (r .status)) (outputBytes protobuf (r .output));
   registry = changedBy registry (applicationOf registry q) r;
   counts = count counts (applicationOf registry q) (r .status);
 }

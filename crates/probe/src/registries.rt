@@ -1,9 +1,9 @@
 // The registry: its check, searches, changes, and what a slot holds.
 use crate::REFUSED;
+use keys::DATA_MOST;
+use keys::KEY_NAME_MOST;
 use registry::Application;
-use registry::DATA_MOST;
 use registry::Found;
-use registry::KEY_NAME_MOST;
 use registry::LINES;
 use registry::Line;
 use registry::REGISTRY_SIZE;

@@ -35,7 +35,7 @@ first s at b t e =
           absurd (omega (arith, ap length e))
     ]
 
-behind : (s : List ℕ) (at : ℕ) (a b : List ℕ) → drop at s ≡ a ++ b → drop (at + length a) s ≡ b
+pub behind : (s : List ℕ) (at : ℕ) (a b : List ℕ) → drop at s ≡ a ++ b → drop (at + length a) s ≡ b
 behind s at a b e = sym (drop-drop (length a) at s) ∙ ap (drop (length a)) e ∙ drop-append-seam a b
 
 -- ---- a varint
@@ -87,7 +87,7 @@ reads-within (suc more) s at n rest h e =
           (reads-within more s (at + 1) (n / 128) rest (omega (arith, pow-suc 128 more)) (first s at (n % 128 + 128) (w ++ rest) e′ .rest)))
     ]
 
-reads-varint :
+pub reads-varint :
     (s : List ℕ) (at n : ℕ) (rest : List ℕ) →
     n < 2 ^ 64 →
     drop at s ≡ varint n ++ rest →

@@ -32,7 +32,7 @@ short-within (suc more) n =
     let next : suc (length (varintWithin more (n / 128))) ≤ suc (suc more) = omega (arith, short-within more (n / 128)) in
     either (λ (l : List ℕ). length l ≤ suc (suc more)) (ltb n 128) (λ _. one) (λ _. next)
 
-varint-short : (n : ℕ) → length (varint n) ≤ 10
+pub varint-short : (n : ℕ) → length (varint n) ≤ 10
 unfolding varint
 varint-short n = short-within 9 n
 

@@ -8,12 +8,14 @@ use native.Mathlib.Omega.{arith}
 use lib.ListN.{length, take, drop, getD, length-replicate}
 use Rattle.wire.specs.Lists.{put}
 use Rattle.wire.proofs.PutLaws.{part-put, part-before, part-behind}
-use Rattle.registry.specs.Slots.{Key, free, held, keyNameMost, keyBytes, slotBytes, slotOf, slotSize}
+use Rattle.keys.specs.Key.{Key}
+use Rattle.keys.specs.Names.{keyNameMost}
+use Rattle.registry.specs.Slots.{free, held, keyBytes, slotBytes, slotOf, slotSize}
 use Rattle.registry.specs.Registry.{lineCount, slotCount, registrySize, slotsOf, fill, clear, place, changed}
 use Rattle.registry.specs.declared.Line.{Line}
 use Rattle.registry.specs.declared.Slot.{Slot}
 use Rattle.registry.proofs.SlotLaws.{Legal, key-length, short-name, short-data, slot-back}
-use Rattle.registry.proofs.NameLaws.{legal-some}
+use Rattle.keys.proofs.NameLaws.{legal-some}
 use Rattle.registry.proofs.RegistryLaws.{placeOf, slot-there}
 
 -- two slots do not overlap

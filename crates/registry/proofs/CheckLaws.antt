@@ -13,9 +13,10 @@ use Rattle.wire.specs.Lists.{all, every, isZero, same, blocks}
 use Rattle.wire.proofs.TestLaws.{and-left, and-right, every-at, both}
 use Rattle.wire.proofs.ListLaws.{all-append}
 use Rattle.wire.proofs.BlockLaws.{Sized, sized-blocks, flatten-blocks, take-blocks, drop-flatten, zero-flatten, flatten-zero}
-use Rattle.registry.specs.Names.{legalName, nameIn, indexFrom, distinct}
+use Rattle.keys.specs.Names.{legalName, applicationNameMost}
+use Rattle.registry.specs.Names.{nameIn, indexFrom, distinct}
 use Rattle.registry.specs.Slots.{slotSize}
-use Rattle.registry.specs.Registry.{lineCount, slotCount, applicationNameMost, lineHead, lineSize, registrySize, linesIn, namesIn, slotsIn}
+use Rattle.registry.specs.Registry.{lineCount, slotCount, lineHead, lineSize, registrySize, linesIn, namesIn, slotsIn}
 use Rattle.registry.specs.WellFormed.{isUsed, noneUsed, usedFirst, legalIfUsed, freeIfUnused, slotsWellFormed, zerosBehindName, keysDistinct, wellFormedRegistry}
 use Rattle.registry.specs.code.Check.{lineTests, wellFormedLine, usedLines}
 use Rattle.registry.proofs.RegistryLaws.{some-used}

@@ -14,12 +14,14 @@ use Rattle.wire.specs.Numbers.{field}
 use Rattle.wire.proofs.TestLaws.{every-at}
 use Rattle.wire.proofs.ListLaws.{length-part, part-of-part, zero-at}
 use Rattle.wire.proofs.NumberLaws.{zero-field, field-part}
-use Rattle.registry.specs.Slots.{free, held, dataMost, dataLengthAt, dataAt, exportAt, slotSize, dataIn, keyIn, slotOf, keyTests, wellFormedSlot}
+use Rattle.keys.specs.Key.{dataMost}
+use Rattle.registry.specs.Slots.{free, held, dataLengthAt, dataAt, exportAt, slotSize, dataIn, keyIn, slotOf, keyTests, wellFormedSlot}
 use Rattle.registry.specs.Registry.{lineCount, slotCount, slotsOf, place}
 use Rattle.registry.specs.WellFormed.{wellFormedRegistry}
 use Rattle.registry.specs.code.Check.{bytesIn, exportIn}
 use Rattle.registry.specs.declared.Line.{Line}
-use Rattle.registry.proofs.SlotLaws.{free-slot, key-slot, legal-data}
+use Rattle.keys.proofs.KeyLaws.{legal-data}
+use Rattle.registry.proofs.SlotLaws.{free-slot, key-slot}
 use Rattle.registry.proofs.RegistryLaws.{slot-there}
 use Rattle.registry.proofs.WellFormedLaws.{slot-good}
 

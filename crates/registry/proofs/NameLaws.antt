@@ -4,28 +4,14 @@ use mathlib.Core.Bool.{Bool, true, false, true≢false, not, _&&_}
 use mathlib.Core.List.{List, [], _∷_, _++_}
 use Prim.Native.Nat.{ℕ, zero, suc, _+_, _-_, _≤_, _<_}
 use native.Mathlib.Omega.{arith}
-use borrow.Author.Tests.{leb-true, ne-eqb, not-true}
+use borrow.Author.Tests.{ne-eqb, not-true}
 use lib.ListN.{length, getD, set}
-use lib.Dec.{leb, eqb}
+use lib.Dec.{eqb}
 use Rattle.wire.specs.Choice.{if_then_else_}
 use Rattle.wire.specs.Lists.{all, same}
-use Rattle.wire.proofs.TestLaws.{and-left, and-right, every-at}
+use Rattle.wire.proofs.TestLaws.{and-left, and-right}
 use Rattle.wire.proofs.ListLaws.{same-comm, all-append, all-set}
-use Rattle.registry.specs.Names.{isNameByte, legalName, indexFrom, isNew, distinct}
-
--- ---- a legal name
-
-module _ (most : ℕ) (name : List ℕ) (legal : legalName most name ≡ true) where
-  tests : List Bool
-  tests = leb 1 (length name) ∷ leb (length name) most ∷ all isNameByte name ∷ []
-
-  pub legal-some : 1 ≤ length name
-  unfolding legalName tests
-  legal-some = leb-true _ _ (every-at tests 0 legal)
-
-  pub legal-short : length name ≤ most
-  unfolding legalName tests
-  legal-short = leb-true _ _ (every-at tests 1 legal)
+use Rattle.registry.specs.Names.{indexFrom, isNew, distinct}
 
 -- ---- the index of a name
 

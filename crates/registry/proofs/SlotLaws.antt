@@ -4,19 +4,22 @@ use mathlib.Core.Bool.{Bool, true, false, or-true, or-false}
 use mathlib.Core.List.{List, [], _∷_, _++_, append-assoc}
 use Prim.Native.Nat.{ℕ, zero, suc, _+_, _-_, _≤_, _<_}
 use native.Mathlib.Omega.{arith}
-use borrow.Author.Tests.{ne-eqb, eqb-false, leb-true, le-leb, lt-leb}
+use borrow.Author.Tests.{ne-eqb, eqb-false, le-leb, lt-leb}
 use lib.ListN.{length, take, drop, getD, replicate, length-append, length-replicate, length-take, length-drop}
 use lib.Seq.{take-at, take-append-seam, drop-append-seam, drop-at, drop-drop, getD-drop}
 use lib.Dec.{leb, eqb}
 use Rattle.wire.specs.Choice.{if_then_else_}
 use Rattle.wire.specs.Lists.{all, every, isZero, padded}
 use Rattle.wire.specs.Numbers.{littleEndianOf, field}
+use Rattle.keys.proofs.KeyLaws.{legal-data}
 use Rattle.wire.proofs.TestLaws.{every-at}
 use Rattle.wire.proofs.ListLaws.{all-zeros, length-padded}
 use Rattle.wire.proofs.NumberLaws.{length-number, field-back}
-use Rattle.registry.specs.Names.{legalName, nameIn}
-use Rattle.registry.specs.Slots.{Key, Entry, free, held, nameOf, keyNameMost, dataMost, legalData, legalBits, dataLengthAt, dataAt, bitsAt, exportAt, verifyAt, slotSize, flag, keyBytes, slotBytes, dataIn, keyIn, slotOf, behindName, behindData, keyTests, wellFormedSlot}
-use Rattle.registry.proofs.NameLaws.{legal-short}
+use Rattle.keys.specs.Names.{legalName, keyNameMost}
+use Rattle.registry.specs.Names.{nameIn}
+use Rattle.keys.specs.Key.{Key, dataMost, legalData, legalBits}
+use Rattle.registry.specs.Slots.{Entry, free, held, nameOf, dataLengthAt, dataAt, bitsAt, exportAt, verifyAt, slotSize, flag, keyBytes, slotBytes, dataIn, keyIn, slotOf, behindName, behindData, keyTests, wellFormedSlot}
+use Rattle.keys.proofs.NameLaws.{legal-short}
 
 -- ---- what bytes stand for
 
@@ -43,10 +46,6 @@ key-slot (x ∷ slot) h = rw (ne-eqb x 0 h)
 abbrev pub ShortEntry : Entry → Type 0
 ShortEntry free = Unit {0}
 ShortEntry (held key) = length (key .bytes) ≤ dataMost
-
-pub legal-data : (bytes : List ℕ) → legalData bytes ≡ true → length bytes ≤ dataMost
-unfolding legalData
-legal-data bytes e = leb-true _ _ (every-at (leb 1 (length bytes) ∷ leb (length bytes) dataMost ∷ []) 1 e)
 
 pub entry-short : (slot : List ℕ) → wellFormedSlot slot ≡ true → ShortEntry (slotOf slot)
 unfolding slotOf

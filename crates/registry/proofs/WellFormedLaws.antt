@@ -13,14 +13,17 @@ use Rattle.wire.proofs.TestLaws.{and-left, and-right, every-at}
 use Rattle.wire.proofs.ListLaws.{length-part, part-of-part, all-at, all-set, all-take, all-drop, zero-at, map-set}
 use Rattle.wire.proofs.PutLaws.{length-put, take-put, drop-put}
 use Rattle.wire.proofs.BlockLaws.{length-blocks, block-at, all-block, zero-blocks, blocks-put, blocks-put-whole}
-use Rattle.registry.specs.Names.{legalName, nameIn, isNew, distinct}
-use Rattle.registry.specs.Slots.{Key, Entry, free, keyBytes, slotBytes, slotOf, slotSize, wellFormedSlot}
-use Rattle.registry.specs.Registry.{lineCount, slotCount, applicationNameMost, lineHead, lineSize, registrySize, linesIn, namesIn, slotsIn, lineAt, slotsOf, slotNamed, Change, unchanged, fill, clear, changed}
+use Rattle.keys.specs.Names.{legalName, applicationNameMost}
+use Rattle.registry.specs.Names.{nameIn, isNew, distinct}
+use Rattle.keys.specs.Key.{Key}
+use Rattle.registry.specs.Slots.{Entry, free, keyBytes, slotBytes, slotOf, slotSize, wellFormedSlot}
+use Rattle.registry.specs.Registry.{lineCount, slotCount, lineHead, lineSize, registrySize, linesIn, namesIn, slotsIn, lineAt, slotsOf, slotNamed, Change, unchanged, fill, clear, changed}
 use Rattle.registry.specs.WellFormed.{isUsed, noneUsed, usedFirst, legalIfUsed, freeIfUnused, slotsWellFormed, zerosBehindName, keysDistinct, registryTests, wellFormedRegistry}
 use Rattle.registry.specs.declared.Line.{Line}
 use Rattle.registry.specs.declared.Slot.{Slot}
 use Rattle.registry.specs.declared.Found.the-variants.{At, Nothing}
-use Rattle.registry.proofs.NameLaws.{legal-short, lone, lone-absent, Apart, apart-empty, apart-absent, distinct-set, distinct-empty}
+use Rattle.keys.proofs.NameLaws.{legal-short}
+use Rattle.registry.proofs.NameLaws.{lone, lone-absent, Apart, apart-empty, apart-absent, distinct-set, distinct-empty}
 use Rattle.registry.proofs.SlotLaws.{Legal, ShortEntry, entry-short, free-good, key-good, key-length, key-name}
 use Rattle.registry.proofs.RegistryLaws.{Used, found-none, slot-below, slot-names, placeOf, slot-place}
 

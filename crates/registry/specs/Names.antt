@@ -2,17 +2,9 @@
 use Prim.Native.Nat.{ℕ, _+_}
 use mathlib.Core.Bool.{Bool, true, not, _&&_}
 use mathlib.Core.List.{List, [], _∷_}
-use lib.ListN.{length, getD, take, drop}
-use lib.Dec.{leb}
+use lib.ListN.{getD, take, drop}
 use Rattle.wire.specs.Choice.{if_then_else_}
-use Rattle.wire.specs.Lists.{all, every, same}
-
-abbrev pub isNameByte : ℕ → Bool
-isNameByte x = leb 0x21 x && leb x 0x7E
-
--- 1 to `most` bytes, each 0x21 to 0x7E
-unfoldable pub legalName : (most : ℕ) → List ℕ → Bool
-legalName most name = every (leb 1 (length name) ∷ leb (length name) most ∷ all isNameByte name ∷ [])
+use Rattle.wire.specs.Lists.{all, same}
 
 -- the name at the beginning of a block of bytes: its length in one byte, then the name
 abbrev pub nameIn : List ℕ → List ℕ

@@ -8,8 +8,10 @@ use lib.ListN.{length, take, drop, replicate}
 use lib.Dec.{ltb}
 use Rattle.wire.specs.Choice.{if_then_else_}
 use Rattle.wire.specs.Lists.{padded, put, blocks}
+use Rattle.keys.specs.Names.{applicationNameMost}
+use Rattle.keys.specs.Key.{Key}
 use Rattle.registry.specs.Names.{nameIn, indexFrom}
-use Rattle.registry.specs.Slots.{Key, Entry, free, nameOf, keyBytes, slotBytes, slotOf, slotSize}
+use Rattle.registry.specs.Slots.{Entry, free, nameOf, keyBytes, slotBytes, slotOf, slotSize}
 use Rattle.registry.specs.declared.Line.{Line}
 use Rattle.registry.specs.declared.Slot.{Slot}
 use Rattle.registry.specs.declared.Found.{Found}
@@ -23,9 +25,6 @@ lineCount = 8
 
 abbrev pub slotCount : ℕ
 slotCount = 4
-
-abbrev pub applicationNameMost : ℕ
-applicationNameMost = 64
 
 -- a line: the name's length, the name and zeros, then the slots
 abbrev pub lineHead : ℕ

@@ -1,5 +1,5 @@
 -- A slot: the key that it holds, its bytes, and which bytes are a slot ("Roster, registry, connection, tally").
-use Prim.Native.Nat.{ℕ, _+_, _-_, _%_}
+use Prim.Native.Nat.{ℕ, _+_, _-_}
 use mathlib.Core.Bool.{Bool, true, false, _||_}
 use mathlib.Core.List.{List, [], _∷_, _++_}
 use lib.ListN.{length, getD, take, drop, replicate}
@@ -7,14 +7,9 @@ use lib.Dec.{leb, eqb}
 use Rattle.wire.specs.Choice.{if_then_else_}
 use Rattle.wire.specs.Lists.{all, every, isZero, padded}
 use Rattle.wire.specs.Numbers.{littleEndianOf, field}
-use Rattle.registry.specs.Names.{legalName, nameIn}
-
-pub record Key : Type 0 where
-  pub name : List ℕ
-  pub bytes : List ℕ  -- document 01's data
-  pub bits : ℕ
-  pub exportAllowed : Bool
-  pub verifyAllowed : Bool
+use Rattle.keys.specs.Key.{Key, dataMost, legalData, legalBits}
+use Rattle.keys.specs.Names.{keyNameMost, legalName}
+use Rattle.registry.specs.Names.{nameIn}
 
 pub data Entry : Type 0 where
   free : Entry
@@ -24,27 +19,6 @@ pub data Entry : Type 0 where
 abbrev pub nameOf : Entry → List ℕ
 nameOf free = []
 nameOf (held key) = key .name
-
--- ---- what a key may be
-
-abbrev pub keyNameMost : ℕ
-keyNameMost = 32
-
-abbrev pub dataMost : ℕ
-dataMost = 600
-
-unfoldable pub legalData : List ℕ → Bool
-legalData bytes = every (leb 1 (length bytes) ∷ leb (length bytes) dataMost ∷ [])
-
--- 1,024 to 4,096 in multiples of 8: the registry's rule; Import has its own
-abbrev pub bitsLeast : ℕ
-bitsLeast = 1024
-
-abbrev pub bitsMost : ℕ
-bitsMost = 4096
-
-unfoldable pub legalBits : ℕ → Bool
-legalBits bits = every (leb bitsLeast bits ∷ leb bits bitsMost ∷ eqb (bits % 8) 0 ∷ [])
 
 -- ---- its bytes, and where each part lies
 

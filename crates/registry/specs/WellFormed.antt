@@ -5,9 +5,10 @@ use mathlib.Core.List.{List, [], _∷_, map}
 use lib.ListN.{length}
 use lib.Dec.{eqb}
 use Rattle.wire.specs.Lists.{all, every, isZero}
-use Rattle.registry.specs.Names.{legalName, nameIn, distinct}
+use Rattle.keys.specs.Names.{legalName, applicationNameMost}
+use Rattle.registry.specs.Names.{nameIn, distinct}
 use Rattle.registry.specs.Slots.{behindName, wellFormedSlot}
-use Rattle.registry.specs.Registry.{applicationNameMost, registrySize, linesIn, namesIn, slotsIn}
+use Rattle.registry.specs.Registry.{registrySize, linesIn, namesIn, slotsIn}
 
 -- a line with a name is used
 abbrev pub isUsed : (name : List ℕ) → Bool

@@ -1,5 +1,4 @@
 // Whether bytes are a registry ("Roster, registry, connection, tally"): document 01's C4.
-use crate::APPLICATION_NAME_MOST;
 use crate::LINE_HEAD;
 use crate::LINE_SIZE;
 use crate::LINES;
@@ -7,10 +6,11 @@ use crate::REGISTRY_SIZE;
 use crate::SLOT_SIZE;
 use crate::SLOTS;
 use crate::names::are_distinct;
-use crate::names::is_legal;
 use crate::names::scan;
 use crate::names::wide;
 use crate::slots::is_slot;
+use keys::APPLICATION_NAME_MOST;
+use keys::names::is_legal;
 use wire::bytes::all_zero;
 ghost use mathlib.Core.Path.{_≡_};
 ghost use Prim.Native.Nat.{_≤_};

@@ -1,21 +1,14 @@
 // The registry of applications and their keys, in lent memory ("Roster, registry, connection, tally").
+use keys::APPLICATION_NAME_MOST;
+use keys::DATA_MOST;
+use keys::KEY_NAME_MOST;
+
 pub mod change;
 pub mod check;
 pub mod find;
 pub mod key;
 pub mod names;
 pub mod slots;
-
-pub const KEY_NAME_MOST: usize = 32;
-
-pub const DATA_MOST: usize = 600;
-
-// The bits of a key that a registry may hold: its rule; Import has its own.
-pub const BITS_LEAST: usize = 1024;
-
-pub const BITS_MOST: usize = 4096;
-
-pub const APPLICATION_NAME_MOST: usize = 64;
 
 // Where the parts of a slot lie: the name's length and the name come first.
 pub const DATA_LENGTH_AT: usize = 1 + KEY_NAME_MOST;

@@ -4,10 +4,8 @@ use wire::bytes::equal;
 ghost use mathlib.Core.Path.{_≡_};
 ghost use mathlib.Core.Bool.{not};
 ghost use Prim.Native.Nat.{_+_, _*_, _≤_, _<_};
-ghost use lib.Dec.{eqb};
 ghost use lib.ListN.{length, drop};
-ghost use Rattle.wire.specs.Lists.{all};
-ghost use Rattle.registry.specs.Names.{isNameByte, legalName, indexFrom, isNew, distinct};
+ghost use Rattle.registry.specs.Names.{indexFrom, isNew, distinct};
 ghost use Rattle.registry.specs.code.Check.{blockNames};
 
 // A byte as a size. The contract also says its bound, which proofs need of a name's length byte.
@@ -15,45 +13,6 @@ pub fn wide(x: u8) -> usize
     ensures { λ r. ⌜ (r ≡ x) × (r < 256) ⌝ }
 {
     x as usize
-}
-
-// 0 for a byte that may stand in a name, and 1 for any other.
-fn name_byte_fault(b: u8) -> u8
-    ensures { λ r. ⌜ eqb r 0 ≡ isNameByte b ⌝ }
-{
-    if b < 0x21 {
-        return 1;
-    }
-    if 0x7E < b {
-        return 1;
-    }
-    0
-}
-
-// Whether all bytes may stand in a name. The loop is not left early, so that it runs on vectors.
-fn are_name_bytes(s: &[u8]) -> bool
-    ensures { λ r. ⌜ r ≡ all isNameByte (now (s .entry)) ⌝ }
-{
-    let mut joined: u8 = 0;
-    let mut i = 0;
-    while i < s.len() {
-        joined = joined | name_byte_fault(s[i]);
-        i += 1;
-    }
-    joined == 0
-}
-
-// Whether the bytes are a name of at most `most`.
-pub fn is_legal(s: &[u8], most: usize) -> bool
-    ensures { λ r. ⌜ r ≡ legalName most (now (s .entry)) ⌝ }
-{
-    if s.len() == 0 {
-        return false;
-    }
-    if most < s.len() {
-        return false;
-    }
-    are_name_bytes(s)
 }
 
 // The number of the first block from `from` on whose name is `name`, or `count` where there is none: blocks of `size`

@@ -1,15 +1,14 @@
 // The bytes of a slot, checked and written ("Roster, registry, connection, tally").
 use crate::BITS_AT;
-use crate::BITS_LEAST;
-use crate::BITS_MOST;
 use crate::DATA_AT;
 use crate::DATA_LENGTH_AT;
-use crate::DATA_MOST;
 use crate::EXPORT_AT;
-use crate::KEY_NAME_MOST;
 use crate::VERIFY_AT;
-use crate::names::is_legal;
 use crate::names::wide;
+use keys::DATA_MOST;
+use keys::KEY_NAME_MOST;
+use keys::bits::are_legal_bits;
+use keys::names::is_legal;
 use wire::bytes::all_zero;
 use wire::bytes::clear;
 use wire::bytes::copy_into;
@@ -20,7 +19,9 @@ ghost use Prim.Native.Nat.{_+_, _≤_, _<_};
 ghost use lib.ListN.{length};
 ghost use Rattle.wire.specs.Lists.{padded};
 ghost use Rattle.wire.specs.Numbers.{littleEndianOf, field};
-ghost use Rattle.registry.specs.Slots.{keyNameMost, dataMost, legalBits, flag, slotSize, keyBytes, wellFormedSlot};
+ghost use Rattle.keys.specs.Key.{dataMost};
+ghost use Rattle.keys.specs.Names.{keyNameMost};
+ghost use Rattle.registry.specs.Slots.{flag, slotSize, keyBytes, wellFormedSlot};
 ghost use Rattle.registry.specs.code.Check.{keyFrom};
 
 // The number in the two bytes at `at`.
@@ -29,19 +30,6 @@ pub fn size_at(s: &[u8], at: usize) -> usize
     ensures { λ r. ⌜ (r ≡ field at 2 (now (s .entry))) × (r < 65536) ⌝ }
 {
     read_u16(s, at) as usize
-}
-
-// Whether a key in a registry may have this many bits.
-pub fn are_legal_bits(bits: usize) -> bool
-    ensures { λ r. ⌜ r ≡ legalBits bits ⌝ }
-{
-    if bits < BITS_LEAST {
-        return false;
-    }
-    if BITS_MOST < bits {
-        return false;
-    }
-    bits % 8 == 0
 }
 
 // Whether the bytes of a slot are well formed.

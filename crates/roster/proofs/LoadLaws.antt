@@ -21,9 +21,10 @@ use Rattle.wire.proofs.ListLaws.{all-at, all-append, all-take, map-at}
 use Rattle.wire.proofs.BufferLaws.{lent}
 use Rattle.wire.proofs.BlockLaws.{length-flatten, flatten-snoc}
 use Rattle.wire.proofs.ScanLaws.{TurnAhead, scan-end, scan-on}
-use Rattle.registry.specs.Names.{legalName, isNew}
+use Rattle.keys.specs.Names.{legalName, applicationNameMost}
+use Rattle.registry.specs.Names.{isNew}
 use Rattle.registry.specs.Slots.{slotSize}
-use Rattle.registry.specs.Registry.{applicationNameMost, lineCount, slotCount, lineSize, lineOf}
+use Rattle.registry.specs.Registry.{lineCount, slotCount, lineSize, lineOf}
 use Rattle.registry.proofs.KeylessLaws.{isLegal, sized-names}
 use Rattle.roster.specs.Roster.{recordLength, valueIn, recordFaults, Roster, applications, faulty, recordTurn, rosterOf}
 use Rattle.roster.specs.code.Check.{loadedOf, isWhole, namesAt, withName, Within, rosterIn, RosterKnown}

@@ -9,8 +9,9 @@ use lib.Dec.{leb, ltb, eqb}
 use Rattle.wire.specs.Choice.{if_then_else_, firstOf}
 use Rattle.wire.specs.Numbers.{field}
 use Rattle.wire.specs.Scan.{Turn, on, out, scanAt}
-use Rattle.registry.specs.Names.{legalName, isNew}
-use Rattle.registry.specs.Registry.{applicationNameMost, lineCount, registrySize, registryOf}
+use Rattle.keys.specs.Names.{legalName, applicationNameMost}
+use Rattle.registry.specs.Names.{isNew}
+use Rattle.registry.specs.Registry.{lineCount, registrySize, registryOf}
 use Rattle.roster.specs.declared.RosterFault.{RosterFault}
 use Rattle.roster.specs.declared.RosterFault.the-variants.{WrongMemorySize, CutRecord, UnknownTag, BadName, NinthName, RepeatedName}
 use Rattle.roster.specs.declared.Loaded.{Loaded}

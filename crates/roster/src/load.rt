@@ -16,8 +16,8 @@ ghost use mathlib.Core.Bool.{true};
 ghost use Prim.Native.Nat.{_≤_};
 ghost use lib.ListN.{length};
 ghost use Rattle.wire.specs.Lists.{all};
-ghost use Rattle.registry.specs.Names.{legalName};
-ghost use Rattle.registry.specs.Registry.{applicationNameMost, lineSize, registrySize, lineOf, registryOf};
+ghost use Rattle.keys.specs.Names.{legalName, applicationNameMost};
+ghost use Rattle.registry.specs.Registry.{lineSize, registrySize, lineOf, registryOf};
 ghost use Rattle.roster.specs.Roster.{faultNumber, loadRoster};
 ghost use Rattle.roster.specs.code.Check.{namesAt, Within, RosterKnown};
 

@@ -1,9 +1,9 @@
 // The records of a roster file: each has a name, and the first fault of one decides.
 use crate::Loaded;
 use crate::RosterFault;
-use registry::APPLICATION_NAME_MOST;
+use keys::APPLICATION_NAME_MOST;
+use keys::names::is_legal;
 use registry::LINES;
-use registry::names::is_legal;
 use registry::slots::size_at;
 use wire::bytes::equal;
 ghost use mathlib.Core.Path.{_≡_};

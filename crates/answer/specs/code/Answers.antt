@@ -8,6 +8,8 @@ use Rattle.wire.specs.Choice.{if_then_else_, firstOf}
 use Rattle.wire.specs.Response.{responseBytes}
 use Rattle.wire.specs.code.Wrote.{Wrote}
 use Rattle.wire.specs.declared.header.Header.{Header}
+use Rattle.messages.specs.Protobuf.{protobuf}
+use Rattle.messages.specs.Operations.{outputBytes}
 use Rattle.stream.specs.Rules.{Verdict}
 use Rattle.registry.specs.Registry.{slotsOf}
 use Rattle.registry.specs.declared.Line.{Line}
@@ -52,4 +54,4 @@ resultForNobody h body = if eqb (h .provider) 1 then refuse NotAuthenticated els
 pub record ResultAnswered (h : Header) (x : Result) (who : Asker) (before after : List ℕ) (r : Answered) : Type 0 where
   pub status : r .status ≡ x .status
   pub asker : r .asker ≡ who
-  pub response : Wrote (responseBytes (h .provider) (h .session) (h .opcode) (statusNumber (x .status)) (x .output)) before after (r .written)
+  pub response : Wrote (responseBytes (h .provider) (h .session) (h .opcode) (statusNumber (x .status)) (outputBytes protobuf (x .output))) before after (r .written)

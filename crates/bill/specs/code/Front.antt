@@ -1,6 +1,7 @@
 -- How much of a roster file decides whether it is good, and how.
 use Prim.Native.Nat.{ℕ, _+_, _*_}
-use Rattle.registry.specs.Registry.{lineCount, applicationNameMost}
+use Rattle.keys.specs.Names.{applicationNameMost}
+use Rattle.registry.specs.Registry.{lineCount}
 
 -- a record has 3 bytes of tag and length, and its value: in a good one a name, in any as many bytes as the 2 bytes of the
 -- length can say

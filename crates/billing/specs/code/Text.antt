@@ -6,7 +6,7 @@ use lib.ListN.{length}
 use lib.Dec.{eqb}
 use Rattle.wire.specs.Choice.{if_then_else_}
 use Rattle.wire.specs.Lists.{put}
-use Rattle.registry.specs.Registry.{applicationNameMost}
+use Rattle.keys.specs.Names.{applicationNameMost}
 use Rattle.billing.specs.Ascii.{ascii}
 use Rattle.billing.specs.Bill.{decimal, textLine}
 

@@ -11,14 +11,19 @@ use Rattle.wire.specs.Choice.{if_then_else_}
 use Rattle.wire.specs.Lists.{oneOf}
 use Rattle.wire.specs.declared.header.Header.{Header}
 use Rattle.protobuf.specs.Message.{allAbsent}
-use Rattle.protobuf.specs.Written.{bytesField, packedField}
 use Rattle.protobuf.specs.declared.message.Value.{Value}
 use Rattle.protobuf.specs.declared.message.Values.{Values}
-use Rattle.registry.specs.Slots.{Entry, free, keyNameMost, dataMost, bitsMost}
+use Rattle.keys.specs.Key.{dataMost, bitsMost}
+use Rattle.keys.specs.Names.{keyNameMost}
+use Rattle.messages.specs.Protobuf.{protobuf}
+use Rattle.messages.specs.Operations as message
+use Rattle.registry.specs.Slots.{Entry, free}
 use Rattle.registry.specs.Registry.{lineCount, slotCount, Change, unchanged, fill, clear}
 use Rattle.registry.specs.code.Check.{bytesIn}
 use Rattle.registry.specs.declared.Line.{Line}
-use Rattle.judgement.specs.Operations.{coreOpcodes, keystoreOpcodes, opcodesOf, keyOf, Result, versionOutput, providersOutput}
+use Rattle.messages.specs.Opcodes.{coreOpcodes, keystoreOpcodes, opcodesOf}
+use Rattle.judgement.specs.Operations.{Result}
+use Rattle.judgement.specs.code.Placed.{keyOf}
 use Rattle.judgement.specs.declared.Status.{Status}
 use Rattle.judgement.specs.declared.Status.the-variants.{WrongProviderId, ContentTypeNotSupported, AcceptTypeNotSupported, WireProtocolVersionNotSupported, ProviderDoesNotExist, OpcodeDoesNotExist, AuthenticatorDoesNotExist}
 use Rattle.judgement.specs.declared.Checked.{Checked}
@@ -70,12 +75,16 @@ AskerBelow (Named line) = line .0 < lineCount
 
 -- ---- what an operation comes to
 
-unfoldable pub outputBytes : (slots : List Entry) → Output → List ℕ
-outputBytes slots Nothing = []
-outputBytes slots Version = versionOutput
-outputBytes slots Providers = providersOutput
-outputBytes slots (Opcodes provider) = packedField 1 (opcodesOf provider)
-outputBytes slots (Data slot) = bytesField 1 (bytesIn (getD slots (slot .0) free))
+unfoldable pub outputIn : (slots : List Entry) → Output → message.Output
+outputIn slots Nothing = message.nothing
+outputIn slots Version = message.version 1 0
+outputIn slots Providers = message.providers (0 ∷ 1 ∷ [])
+outputIn slots (Opcodes provider) = message.opcodes (opcodesOf provider)
+outputIn slots (Data slot) = message.exported (bytesIn (getD slots (slot .0) free))
+
+-- the body of its response
+abbrev pub outputBytes : (slots : List Entry) → Output → List ℕ
+outputBytes slots output = message.outputBytes protobuf (outputIn slots output)
 
 unfoldable pub changeOf : (body : List ℕ) → Values → Edit → Change
 changeOf body v Stays = unchanged
@@ -83,7 +92,7 @@ changeOf body v (Fills slot) = fill slot (keyOf body v)
 changeOf body v (Clears slot) = clear slot
 
 unfoldable pub resultIn : (slots : List Entry) (body : List ℕ) → Decision → Result
-resultIn slots body d = record { status = d .status; output = outputBytes slots (d .output); change = changeOf body (d .values) (d .edit) }
+resultIn slots body d = record { status = d .status; output = outputIn slots (d .output); change = changeOf body (d .values) (d .edit) }
 
 abbrev pub refusedWith : Status → Decision
 refusedWith status = record { status = status; output = Nothing; edit = Stays; values = allAbsent }

@@ -8,7 +8,9 @@ use lib.ListN.{length, getD}
 use lib.Dec.{ltb, leb, eqb}
 use Rattle.wire.specs.Choice.{if_then_else_}
 use Rattle.wire.specs.Lists.{over}
-use Rattle.registry.specs.Slots.{Key, Entry, free, keyNameMost, dataMost, flag}
+use Rattle.keys.specs.Key.{Key, dataMost}
+use Rattle.keys.specs.Names.{keyNameMost}
+use Rattle.registry.specs.Slots.{Entry, free, flag}
 use Rattle.registry.specs.Registry.{lineCount, slotCount, registrySize, applicationNamed, slotNamed, slotsOf, changed, fill, clear}
 use Rattle.registry.specs.WellFormed.{wellFormedRegistry}
 use Rattle.registry.specs.code.Check.{applicationFound, bytesIn, exportIn}

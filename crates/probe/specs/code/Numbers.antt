@@ -12,7 +12,7 @@ use Rattle.protobuf.specs.declared.varint.Varint.the-variants.{Read, Unreadable
 use Rattle.protobuf.specs.declared.message.Schema.{Schema}
 use Rattle.protobuf.specs.declared.body.Body.{Body}
 use Rattle.protobuf.specs.declared.body.Body.the-variants.{Message, Unreadable}
-use Rattle.judgement.specs.Operations.{noFields, opcodesFields, importFields, nameFields}
+use Rattle.judgement.specs.code.Placed.{noFields, opcodesFields, importFields, nameFields}
 
 abbrev pub fieldNumbers : Header → List ℕ
 fieldNumbers h =

@@ -5,9 +5,11 @@ use mathlib.Core.Option.{Option, none, some}
 use mathlib.Core.List.{List, [], _∷_, map}
 use lib.ListN.{drop}
 use Rattle.wire.specs.Lists.{every, blocks}
-use Rattle.registry.specs.Names.{legalName, nameIn, indexFrom}
-use Rattle.registry.specs.Slots.{Key, Entry, free, held}
-use Rattle.registry.specs.Registry.{applicationNameMost, namesIn}
+use Rattle.keys.specs.Names.{legalName, applicationNameMost}
+use Rattle.registry.specs.Names.{nameIn, indexFrom}
+use Rattle.keys.specs.Key.{Key}
+use Rattle.registry.specs.Slots.{Entry, free, held}
+use Rattle.registry.specs.Registry.{namesIn}
 use Rattle.registry.specs.WellFormed.{slotsWellFormed, zerosBehindName, keysDistinct}
 use Rattle.registry.specs.declared.Line.{Line}
 use Rattle.registry.specs.declared.Application.{Application}

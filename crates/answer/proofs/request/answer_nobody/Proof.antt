@@ -3,6 +3,7 @@ use mathlib.Core.List.{[]}
 use native.Mathlib.Omega.{arith}
 use borrow.Author.Tests.{eq-eqb, ne-eqb}
 use borrow.Author.Needs.{needs}
+use Rattle.messages.proofs.OperationLaws.{nothing-bytes}
 use Rattle.registry.specs.Registry.{slotsOf}
 use Rattle.judgement.specs.Operations.{refuse}
 use Rattle.judgement.specs.code.Decided.{oneOfCore}
@@ -22,7 +23,7 @@ returns : tie.Need-returns
 unfolding resultForNobody refuse
 returns c =
     let e = c .before .before .refuse .ensures in
-    rw (eq-eqb _ _ (c .before .before .before .before .if1 .taken)) (record { status = e .0; asker = e .1; response = e .2 })
+    rw (eq-eqb _ _ (c .before .before .before .before .if1 .taken)) (record { status = e .0; asker = e .1; response = rw nothing-bytes (e .2) })
 
 core : (c : tie.Else1) → oneOfCore (c .before .before .before .before .before .args .h .opcode)
 core c =

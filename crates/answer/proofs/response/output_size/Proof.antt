@@ -1,12 +1,11 @@
 -- `answer::response::output_size` meets its contract.
 use Prim.Native.Nat.{_≤_}
-use mathlib.Core.Path.{refl, sym, ap}
+use mathlib.Core.Path.{sym, ap}
 use native.Mathlib.Omega.{arith}
 use borrow.Author.Needs.{needs}
 use lib.ListN.{length}
-use Rattle.registry.specs.Slots.{dataMost}
-use Rattle.judgement.specs.code.Decided.{outputBytes}
-use Rattle.judgement.proofs.OutputLaws.{version-length, providers-length, opcodes-length}
+use Rattle.keys.specs.Key.{dataMost}
+use Rattle.judgement.proofs.OutputLaws.{nothing-field, version-length, providers-length, opcodes-length, data-field}
 use Rattle.answer.proofs.WrittenLaws.{data-short}
 use Rattle.answer.proofs.response.output_size.Statement.{statement}
 use Rattle.answer.proofs.response.output_size.Tie as tie
@@ -40,8 +39,7 @@ bytes-field-size-requires : tie.Need-bytes-field-size-requires
 bytes-field-size-requires c κs = omega (arith, short c)
 
 returns : tie.Need-returns
-unfolding outputBytes
-returns c = rw (c .enum-told .given .1) (refl, omega arith)
+returns c = rw (c .enum-told .given .1) (sym (ap length (nothing-field _)), omega arith)
 
 returns-2 : tie.Need-returns-2
 returns-2 c = rw (c .enum-told2 .given .1) (sym (version-length _), omega arith)
@@ -53,10 +51,9 @@ returns-4 : tie.Need-returns-4
 returns-4 c = rw (c .enum-told4 .given .1) (sym (opcodes-length _ _), omega arith)
 
 returns-5 : tie.Need-returns-5
-unfolding outputBytes
 returns-5 c =
     let d = c .before in
-    rw (d .before .before .output .given .1)
+    rw (d .before .before .output .given .1, data-field)
     (c .bytes-field-size .ensures .0 _ (sym (ap length (d .key-data .ensures))), omega (arith, short d, c .bytes-field-size .ensures .1))
 
 pub output-size-spec : {M : Type 1} → statement M

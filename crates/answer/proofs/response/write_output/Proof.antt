@@ -4,9 +4,8 @@ use native.Mathlib.Omega.{arith}
 use borrow.Author.Needs.{needs}
 use lib.ListN.{length}
 use Rattle.wire.proofs.BufferLaws.{wrote-none}
-use Rattle.registry.specs.Slots.{dataMost}
-use Rattle.judgement.specs.code.Decided.{outputBytes}
-use Rattle.judgement.proofs.OutputLaws.{version-field, providers-field, core-field, keystore-field}
+use Rattle.keys.specs.Key.{dataMost}
+use Rattle.judgement.proofs.OutputLaws.{nothing-field, version-field, providers-field, core-field, keystore-field, data-field}
 use Rattle.answer.proofs.WrittenLaws.{data-short}
 use Rattle.answer.proofs.response.write_output.Statement.{statement}
 use Rattle.answer.proofs.response.write_output.Tie as tie
@@ -69,8 +68,7 @@ write-bytes-field-requires-4 : tie.Need-write-bytes-field-requires-4
 write-bytes-field-requires-4 c κs = omega (arith, short (c .before), c .before .before .before .before .before .before .before .pre .3)
 
 returns-2 : tie.Need-returns-2
-unfolding outputBytes
-returns-2 c = rw (c .enum-told .given .1) (wrote-none (c .before .before .before .before .args .out .now))
+returns-2 c = rw (c .enum-told .given .1, nothing-field) (wrote-none (c .before .before .before .before .args .out .now))
 
 same-length-2 : tie.Need-same-length-2
 same-length-2 c = search needs
@@ -96,10 +94,9 @@ same-length-5 : tie.Need-same-length-5
 same-length-5 c = search needs
 
 returns-6 : tie.Need-returns-6
-unfolding outputBytes
 returns-6 c =
     let d = c .before .before .before .before in
-    rw (d .before .before .output2 .given .1, ← d .key-data .ensures) (c .before .before .write-bytes-field4 .ensures)
+    rw (d .before .before .output2 .given .1, data-field, ← d .key-data .ensures) (c .before .before .write-bytes-field4 .ensures)
 
 pub write-output-spec : {M : Type 1} → statement M
 write-output-spec =

@@ -3,8 +3,7 @@ use mathlib.Core.Path.{_≡_, sym, _∙_}
 use mathlib.Core.Bool.{true}
 use borrow.Author.Needs.{needs}
 use borrow.Author.Tests.{not-true, not-false}
-use Rattle.registry.specs.Names.{legalName}
-use Rattle.registry.specs.Slots.{keyNameMost}
+use Rattle.keys.specs.Names.{legalName, keyNameMost}
 use Rattle.registry.proofs.RegistryLaws.{slot-below}
 use Rattle.judgement.specs.declared.Status.the-variants.{PsaErrorInvalidArgument, PsaErrorDoesNotExist}
 use Rattle.judgement.proofs.DecidedLaws.{refusal, clearing, bad-destroyed, none-destroyed, destroyed}

@@ -4,8 +4,7 @@ use mathlib.Core.Bool.{true}
 use Prim.Native.Nat.{_<_}
 use borrow.Author.Needs.{needs}
 use borrow.Author.Tests.{not-true, not-false}
-use Rattle.registry.specs.Names.{legalName}
-use Rattle.registry.specs.Slots.{keyNameMost}
+use Rattle.keys.specs.Names.{legalName, keyNameMost}
 use Rattle.registry.specs.Registry.{slotCount, slotsOf, slotNamed}
 use Rattle.registry.specs.declared.Found.the-variants.{At}
 use Rattle.registry.proofs.RegistryLaws.{slot-below}

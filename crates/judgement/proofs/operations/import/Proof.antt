@@ -7,11 +7,13 @@ use native.Mathlib.Omega.{arith}
 use borrow.Author.Needs.{needs}
 use borrow.Author.Tests.{not-true, not-false}
 use lib.ListN.{take, drop}
-use Rattle.registry.specs.Slots.{Key, Entry}
+use Rattle.keys.specs.Key.{Key}
+use Rattle.registry.specs.Slots.{Entry}
 use Rattle.registry.specs.Registry.{slotsOf, slotNamed}
 use Rattle.registry.specs.declared.Found.the-variants.{Nothing}
 use Rattle.registry.proofs.RegistryLaws.{slot-below}
-use Rattle.judgement.specs.Operations.{keyOf, importable}
+use Rattle.judgement.specs.Operations.{importable}
+use Rattle.judgement.specs.code.Placed.{keyOf}
 use Rattle.judgement.specs.declared.Status.the-variants.{PsaErrorInvalidArgument, PsaErrorAlreadyExists, PsaErrorInsufficientStorage}
 use Rattle.judgement.proofs.DecidedLaws.{refusal, filling, key-parts, bad-key, name-held, no-slot, imported}
 use Rattle.judgement.proofs.operations.import.Statement.{statement}

@@ -7,9 +7,9 @@ use borrow.Author.Needs.{needs}
 use borrow.Author.Tests.{not-true, not-false}
 use lib.ListN.{length, take, drop}
 use Rattle.wire.proofs.ListLaws.{length-part}
-use Rattle.registry.specs.Names.{legalName}
-use Rattle.registry.specs.Slots.{Key, keyNameMost}
-use Rattle.judgement.specs.Operations.{keyOf}
+use Rattle.keys.specs.Names.{legalName, keyNameMost}
+use Rattle.keys.specs.Key.{Key}
+use Rattle.judgement.specs.code.Placed.{keyOf}
 use Rattle.judgement.proofs.DecidedLaws.{bad-name, no-data, long-data, bits-left}
 use Rattle.judgement.proofs.operations.is_importable.Statement.{statement}
 use Rattle.judgement.proofs.operations.is_importable.Tie as tie

@@ -4,7 +4,9 @@ use borrow.Author.Needs.{needs}
 use Rattle.protobuf.specs.Body.{bodyOf}
 use Rattle.protobuf.specs.declared.message.Schema.{Schema}
 use Rattle.protobuf.specs.declared.message.Values.{Values}
-use Rattle.judgement.specs.Operations.{opcodesFields, Operation, listOpcodes, operationOf, perform}
+use Rattle.messages.specs.Operations.{Operation, listOpcodes}
+use Rattle.judgement.specs.Operations.{perform}
+use Rattle.judgement.specs.code.Placed.{opcodesFields, placedOperation}
 use Rattle.judgement.specs.declared.Output.the-variants.{Opcodes}
 use Rattle.judgement.specs.declared.Status.the-variants.{ProviderDoesNotExist}
 use Rattle.judgement.proofs.DecidedLaws.{refusal, listing, readable, unreadable, opcodes-refused, opcodes-listed}
@@ -32,7 +34,7 @@ refused-requires : tie.Need-refused-requires
 refused-requires c κs = search needs
 
 returns : tie.Need-returns
-unfolding operationOf perform
+unfolding placedOperation perform
 returns c slots =
     let k = c .before .before .before .before in
     let e = body-read (k .before .before) ∙ k .v .given .1 in
@@ -49,7 +51,7 @@ refused-requires-2 : tie.Need-refused-requires-2
 refused-requires-2 c κs = search needs
 
 returns-2 : tie.Need-returns-2
-unfolding operationOf perform
+unfolding placedOperation perform
 returns-2 c slots =
     let k = c .before .before .before .before in
     let e = body-read (k .before .before) ∙ k .v .given .1 in
@@ -57,7 +59,7 @@ returns-2 c slots =
     (listing slots _ (Opcodes _) (c .before .if1 .left) (readable slots _ 9 opcodesFields asked refl _ e ∙ opcodes-listed slots _ (c .before .if1 .left)))
 
 returns-3 : tie.Need-returns-3
-unfolding operationOf
+unfolding placedOperation
 returns-3 c slots =
     let e = body-read (c .before .before .before) ∙ c .before .enum-told .given .1 in
     rw (c .refused2 .ensures) (unreadable slots _ 9 opcodesFields asked refl _ e)

@@ -3,8 +3,10 @@ use mathlib.Core.Path.{_≡_, refl, sym, ap, _∙_}
 use borrow.Author.Needs.{needs}
 use Rattle.protobuf.specs.Body.{bodyOf}
 use Rattle.protobuf.specs.declared.message.Schema.{Schema}
-use Rattle.judgement.specs.Operations.{noFields, listProviders, operationOf, perform}
-use Rattle.judgement.specs.code.Decided.{outputBytes}
+use Rattle.messages.specs.Operations.{listProviders}
+use Rattle.judgement.specs.Operations.{perform}
+use Rattle.judgement.specs.code.Placed.{noFields, placedOperation}
+use Rattle.judgement.specs.code.Decided.{outputIn}
 use Rattle.judgement.specs.declared.Output.the-variants.{Providers}
 use Rattle.judgement.proofs.DecidedLaws.{listing, readable, unreadable}
 use Rattle.judgement.proofs.operations.list_providers.Statement.{statement}
@@ -34,13 +36,13 @@ refused-requires : tie.Need-refused-requires
 refused-requires c κs = search needs
 
 returns : tie.Need-returns
-unfolding operationOf perform outputBytes
+unfolding placedOperation perform outputIn
 returns c slots =
     let e = body-read (c .before .before .before) ∙ c .before .enum-told .given .1 in
     rw (c .listed .ensures) (listing slots _ Providers tt (readable slots _ 8 noFields (λ v. listProviders) refl _ e))
 
 returns-2 : tie.Need-returns-2
-unfolding operationOf
+unfolding placedOperation
 returns-2 c slots =
     let e = body-read (c .before .before .before) ∙ c .before .enum-told2 .given .1 in
     rw (c .refused .ensures) (unreadable slots _ 8 noFields (λ v. listProviders) refl _ e)

@@ -12,7 +12,9 @@ use Rattle.protobuf.specs.declared.message.Values.{Values}
 use Rattle.protobuf.specs.declared.body.Body.the-variants.{Message}
 use Rattle.registry.specs.Registry.{slotsOf}
 use Rattle.registry.proofs.WellFormedLaws.{good-of}
-use Rattle.judgement.specs.Operations.{importFields, nameFields, bytesOf, keyOf, importKey, destroyKey, exportPublicKey, operationOf, perform}
+use Rattle.messages.specs.Operations.{importKey, destroyKey, exportPublicKey}
+use Rattle.judgement.specs.Operations.{perform}
+use Rattle.judgement.specs.code.Placed.{importFields, nameFields, bytesOf, keyOf, placedOperation}
 use Rattle.judgement.specs.code.Decided.{ValuesIn}
 use Rattle.judgement.proofs.DecidedLaws.{values-in, readable, unreadable}
 use Rattle.judgement.proofs.operations.perform_keystore.Statement.{statement}
@@ -53,7 +55,7 @@ refused-requires : tie.Need-refused-requires
 refused-requires c κs = search needs
 
 returns : tie.Need-returns
-unfolding operationOf perform
+unfolding placedOperation perform
 returns c =
     let k = c .before .before in
     let r = k .before .before in
@@ -62,7 +64,7 @@ returns c =
     (c .import .ensures)
 
 returns-2 : tie.Need-returns-2
-unfolding operationOf
+unfolding placedOperation
 returns-2 c =
     let r = c .before .before .before in
     let s = start1 r in
@@ -119,7 +121,7 @@ name-part v body =
     ap (λ (m : ℕ). take m (drop (v .f1 .start) body)) n
 
 returns-3 : tie.Need-returns-3
-unfolding operationOf perform
+unfolding placedOperation perform
 returns-3 c =
     let k = at-v (c .before .before .before) in
     let s = start2 (k .before .before) in
@@ -152,7 +154,7 @@ seven c =
     ⊎-elim (λ e. absurd (c .if2 .left e)) (λ h. ⊎-elim (λ e. absurd (r .before .before .if1 .left e)) (λ e. e) h) (start2 r .pre .0)
 
 returns-4 : tie.Need-returns-4
-unfolding operationOf perform
+unfolding placedOperation perform
 returns-4 c =
     let k = at-v (c .before .before .before) in
     let s = start2 (k .before .before) in
@@ -161,7 +163,7 @@ returns-4 c =
     (c .export .ensures (bytes s))
 
 returns-5 : tie.Need-returns-5
-unfolding operationOf
+unfolding placedOperation
 returns-5 c =
     let r = c .before .before .before in
     let s = start2 r in

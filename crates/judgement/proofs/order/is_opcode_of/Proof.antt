@@ -4,7 +4,7 @@ use native.Mathlib.Omega.{arith}
 use borrow.Author.Needs.{needs}
 use borrow.Author.Tests.{eq-eqb, ne-eqb}
 use Rattle.wire.specs.Lists.{oneOf}
-use Rattle.judgement.specs.Operations.{coreOpcodes, keystoreOpcodes, opcodesOf}
+use Rattle.messages.specs.Opcodes.{coreOpcodes, keystoreOpcodes, opcodesOf}
 use Rattle.judgement.proofs.OrderLaws as laws
 use Rattle.judgement.proofs.order.is_opcode_of.Statement.{statement}
 use Rattle.judgement.proofs.order.is_opcode_of.Tie as tie

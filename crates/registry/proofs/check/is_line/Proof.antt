@@ -7,11 +7,12 @@ use native.Mathlib.Omega.{arith}
 use borrow.Author.Tests.{not-true, not-false}
 use lib.ListN.{length, take, drop, getD, length-take, length-drop}
 use Rattle.wire.specs.Lists.{all, every, isZero}
-use Rattle.registry.specs.Names.{legalName, nameIn}
-use Rattle.registry.specs.Registry.{applicationNameMost, lineHead}
+use Rattle.keys.specs.Names.{legalName, applicationNameMost}
+use Rattle.registry.specs.Names.{nameIn}
+use Rattle.registry.specs.Registry.{lineHead}
 use Rattle.registry.specs.WellFormed.{zerosBehindName}
 use Rattle.registry.specs.code.Check.{blockNames, lineTests, wellFormedLine}
-use Rattle.registry.proofs.NameLaws.{legal-short}
+use Rattle.keys.proofs.NameLaws.{legal-short}
 use borrow.Author.Needs.{needs}
 use Rattle.registry.proofs.check.is_line.Statement.{statement}
 use Rattle.registry.proofs.check.is_line.Tie as tie

@@ -5,7 +5,8 @@ use mathlib.Core.List.{List}
 use native.Mathlib.Omega.{arith}
 use lib.ListN.{length, take, drop}
 use Rattle.wire.specs.Numbers.{field}
-use Rattle.registry.specs.Slots.{dataMost, dataLengthAt, dataAt, slotSize}
+use Rattle.keys.specs.Key.{dataMost}
+use Rattle.registry.specs.Slots.{dataLengthAt, dataAt, slotSize}
 use Rattle.registry.specs.Registry.{place}
 use Rattle.registry.proofs.KeyLaws.{size-small, data-there}
 use Rattle.registry.proofs.WellFormedLaws.{good-of}

@@ -1,9 +1,11 @@
 -- `registry::slots::is_slot` meets its contract: the tests that are left, behind each test that passed.
 use Rattle.wire.specs.Lists.{all, every, isZero}
 use Rattle.wire.specs.Numbers.{field}
-use Rattle.registry.specs.Names.{legalName, nameIn}
-use Rattle.registry.specs.Slots.{keyNameMost, dataMost, legalBits, dataLengthAt, dataAt, bitsAt, behindName, behindData, keyTests, wellFormedSlot}
-use Rattle.registry.proofs.NameLaws.{legal-short}
+use Rattle.keys.specs.Names.{legalName, keyNameMost}
+use Rattle.registry.specs.Names.{nameIn}
+use Rattle.keys.specs.Key.{dataMost, legalBits}
+use Rattle.registry.specs.Slots.{dataLengthAt, dataAt, bitsAt, behindName, behindData, keyTests, wellFormedSlot}
+use Rattle.keys.proofs.NameLaws.{legal-short}
 use Rattle.registry.proofs.SlotLaws.{free-slot, key-slot, name-length, data-ok, data-none, data-long}
 use mathlib.Core.Path.{_≡_, sym, ap, _∙_}
 use mathlib.Core.List.{List}

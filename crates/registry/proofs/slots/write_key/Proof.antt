@@ -3,7 +3,9 @@ use Rattle.wire.specs.Lists.{padded}
 use Rattle.wire.specs.Numbers.{littleEndianOf}
 use Rattle.wire.proofs.ListLaws.{length-padded}
 use Rattle.wire.proofs.NumberLaws.{length-number}
-use Rattle.registry.specs.Slots.{keyNameMost, dataMost, dataLengthAt, dataAt, bitsAt, exportAt, verifyAt, slotSize, flag, keyBytes}
+use Rattle.keys.specs.Key.{dataMost}
+use Rattle.keys.specs.Names.{keyNameMost}
+use Rattle.registry.specs.Slots.{dataLengthAt, dataAt, bitsAt, exportAt, verifyAt, slotSize, flag, keyBytes}
 use Rattle.registry.proofs.WrittenLaws.{Written, start, put-byte-of, put-part-of, part-length, whole}
 use mathlib.Core.Path.{_≡_, sym, ap, _∙_}
 use mathlib.Core.List.{List, [], _∷_, _++_}

@@ -12,8 +12,9 @@ use lib.Seq.{length-take-le, take-all}
 use Rattle.wire.specs.Lists.{padded, over}
 use Rattle.wire.proofs.ListLaws.{all-at}
 use Rattle.wire.proofs.BufferLaws.{put-mid, put-on, zeros-on}
-use Rattle.registry.specs.Registry.{applicationNameMost, lineSize, registrySize, lineOf, registryOf}
-use Rattle.registry.proofs.NameLaws.{legal-short}
+use Rattle.keys.specs.Names.{applicationNameMost}
+use Rattle.registry.specs.Registry.{lineSize, registrySize, lineOf, registryOf}
+use Rattle.keys.proofs.NameLaws.{legal-short}
 use Rattle.registry.proofs.KeylessLaws.{isLegal, line-length}
 use Rattle.roster.specs.code.Check.{namesAt}
 use Rattle.roster.proofs.LoadLaws.{names-many, linesOf, lines-more, lines-long}

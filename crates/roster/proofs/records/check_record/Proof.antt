@@ -12,8 +12,9 @@ use Rattle.wire.specs.Numbers.{field}
 use Rattle.wire.proofs.TestLaws.{not-across}
 use Rattle.wire.proofs.NumberLaws.{field-byte}
 use Rattle.wire.proofs.BufferLaws.{lent}
-use Rattle.registry.specs.Names.{legalName, isNew}
-use Rattle.registry.specs.Registry.{applicationNameMost, lineCount}
+use Rattle.keys.specs.Names.{legalName, applicationNameMost}
+use Rattle.registry.specs.Names.{isNew}
+use Rattle.registry.specs.Registry.{lineCount}
 use Rattle.roster.specs.Roster.{valueIn}
 use Rattle.roster.specs.code.Check.{loadedOf, isWhole, namesAt}
 use Rattle.roster.proofs.LoadLaws.{whole-room, fault-cut, fault-tag, fault-name, fault-ninth, fault-repeated, fault-none, names-many}

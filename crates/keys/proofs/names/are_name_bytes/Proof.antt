@@ -1,4 +1,4 @@
--- `registry::names::are_name_bytes` meets its contract. The loop's invariant: what the OR so far and the rest say is what the
+-- `keys::names::are_name_bytes` meets its contract. The loop's invariant: what the OR so far and the rest say is what the
 -- whole says.
 use Prim.Native.Nat.{_≤_, _-_}
 use mathlib.Core.Path.{_≡_, refl, _∙_}
@@ -9,9 +9,9 @@ use lib.Dec.{eqb}
 use lib.ListN.{length, drop}
 use Rattle.wire.specs.Lists.{all}
 use Rattle.wire.proofs.BitLaws.{or-more, or-all}
-use Rattle.registry.specs.Names.{isNameByte}
-use Rattle.registry.proofs.names.are_name_bytes.Statement.{statement}
-use Rattle.registry.proofs.names.are_name_bytes.Tie as tie
+use Rattle.keys.specs.Names.{isNameByte}
+use Rattle.keys.proofs.names.are_name_bytes.Statement.{statement}
+use Rattle.keys.proofs.names.are_name_bytes.Tie as tie
 
 abbrev Inv-loop : tie.InvT-loop
 Inv-loop s joined₀ i₀ joined i = (i ≤ length s) × (eqb joined 0 && all isNameByte (drop i s) ≡ all isNameByte s)

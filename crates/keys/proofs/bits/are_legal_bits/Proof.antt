@@ -1,10 +1,10 @@
--- `registry::slots::are_legal_bits` meets its contract.
+-- `keys::bits::are_legal_bits` meets its contract.
 use mathlib.Core.Path.{sym}
 use borrow.Author.Tests.{le-leb, lt-leb}
 use mathlib.Core.Bool.{and-true}
-use Rattle.registry.specs.Slots.{bitsLeast, bitsMost, legalBits}
-use Rattle.registry.proofs.slots.are_legal_bits.Statement.{statement}
-use Rattle.registry.proofs.slots.are_legal_bits.Tie as tie
+use Rattle.keys.specs.Key.{bitsLeast, bitsMost, legalBits}
+use Rattle.keys.proofs.bits.are_legal_bits.Statement.{statement}
+use Rattle.keys.proofs.bits.are_legal_bits.Tie as tie
 
 returns : tie.Need-returns
 unfolding legalBits

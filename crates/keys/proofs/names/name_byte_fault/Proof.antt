@@ -1,7 +1,7 @@
--- `registry::names::name_byte_fault` meets its contract.
+-- `keys::names::name_byte_fault` meets its contract.
 use borrow.Author.Tests.{le-leb, lt-leb}
-use Rattle.registry.proofs.names.name_byte_fault.Statement.{statement}
-use Rattle.registry.proofs.names.name_byte_fault.Tie as tie
+use Rattle.keys.proofs.names.name_byte_fault.Statement.{statement}
+use Rattle.keys.proofs.names.name_byte_fault.Tie as tie
 
 returns : tie.Need-returns
 returns c = rw (lt-leb 0x21 _ (c .if1 .taken))

@@ -1,13 +1,13 @@
--- `registry::names::is_legal` meets its contract.
+-- `keys::names::is_legal` meets its contract.
 use mathlib.Core.Path.{sym, _∙_}
 use native.Mathlib.Omega.{arith}
 use borrow.Author.Needs.{needs}
 use borrow.Author.Tests.{le-leb, lt-leb}
 use lib.ListN.{length}
 use mathlib.Core.Bool.{and-true}
-use Rattle.registry.specs.Names.{legalName}
-use Rattle.registry.proofs.names.is_legal.Statement.{statement}
-use Rattle.registry.proofs.names.is_legal.Tie as tie
+use Rattle.keys.specs.Names.{legalName}
+use Rattle.keys.proofs.names.is_legal.Statement.{statement}
+use Rattle.keys.proofs.names.is_legal.Tie as tie
 
 returns : tie.Need-returns
 unfolding legalName

@@ -1,0 +1,20 @@
+-- Names of applications and of keys ("Operations and their fields"; "Roster, registry, connection, tally").
+use Prim.Native.Nat.{ℕ}
+use mathlib.Core.Bool.{Bool, _&&_}
+use mathlib.Core.List.{List, [], _∷_}
+use lib.ListN.{length}
+use lib.Dec.{leb}
+use Rattle.wire.specs.Lists.{all, every}
+
+abbrev pub applicationNameMost : ℕ
+applicationNameMost = 64
+
+abbrev pub keyNameMost : ℕ
+keyNameMost = 32
+
+abbrev pub isNameByte : ℕ → Bool
+isNameByte x = leb 0x21 x && leb x 0x7E
+
+-- 1 to `most` bytes, each 0x21 to 0x7E
+unfoldable pub legalName : (most : ℕ) → List ℕ → Bool
+legalName most name = every (leb 1 (length name) ∷ leb (length name) most ∷ all isNameByte name ∷ [])

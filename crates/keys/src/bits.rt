@@ -1,0 +1,18 @@
+// Which lengths a key may have, in bits.
+use crate::BITS_LEAST;
+use crate::BITS_MOST;
+ghost use mathlib.Core.Path.{_≡_};
+ghost use Rattle.keys.specs.Key.{legalBits};
+
+// Whether a key in a registry may have this many bits.
+pub fn are_legal_bits(bits: usize) -> bool
+    ensures { λ r. ⌜ r ≡ legalBits bits ⌝ }
+{
+    if bits < BITS_LEAST {
+        return false;
+    }
+    if BITS_MOST < bits {
+        return false;
+    }
+    bits % 8 == 0
+}

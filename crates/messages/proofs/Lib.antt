@@ -1,0 +1,5 @@
+pub mod RoundTrip
+pub mod ProtobufLaws
+pub mod OperationLaws
+pub mod PlacesLaws
+pub mod Cases

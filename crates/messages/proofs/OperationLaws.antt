@@ -1,0 +1,71 @@
+-- What is asked is read as what was asked, and what is answered as what was answered, in every lawful format.
+use Prim.Native.Nat.{ℕ, _≤_, _<_}
+use native.Mathlib.Omega.{arith}
+use mathlib.Core.Path.{_≡_, refl, ap, _∙_}
+use mathlib.Core.Option.{some}
+use mathlib.Core.List.{List, [], _∷_, _++_, append-nil, map}
+use lib.ListN.{length}
+use Rattle.protobuf.specs.Written.{numberField, bytesField, packedField}
+use Rattle.messages.specs.Message.{Message, kindOf, AllFit, numberOf, octetsOf, numbersOf, valueAt}
+use Rattle.messages.specs.Format.{Format, messageBytes}
+use Rattle.messages.specs.Protobuf.{protobuf}
+use Rattle.messages.specs.Operations.{Operation, ping, listProviders, listOpcodes, importKey, destroyKey, exportPublicKey, opcodeOf, inputOf, operationBody, keyOf, whenRead, readBody, operationOf, Output, nothing, version, providers, opcodes, exported, Answers, ofPing, ofListProviders, ofListOpcodes, ofImport, ofDestroy, ofExport, messageOf, outputBytes, outputOf}
+use Rattle.messages.proofs.RoundTrip.{Lawful, round-trip}
+use Rattle.messages.proofs.ProtobufLaws.{protobuf-lawful}
+
+module _ (format : Format) (law : Lawful format) where
+  pub body-back : {A : Type 0} (m : Message) (f : Message → A) → length m < 256 → AllFit (format .lengthMost) m → readBody format (map kindOf m) (messageBytes format m) f ≡ some (f m)
+  unfolding readBody
+  body-back m f few fits = ap (whenRead f) (round-trip format law m few fits)
+
+  pub operation-back : (operation : Operation) → AllFit (format .lengthMost) (inputOf operation) → operationOf format (opcodeOf operation) (operationBody format operation) ≡ some operation
+  unfolding operationOf operationBody
+  operation-back ping fits = body-back [] (λ m. ping) (omega arith) fits
+  operation-back listProviders fits = body-back [] (λ m. listProviders) (omega arith) fits
+  operation-back (listOpcodes provider) fits = body-back (inputOf (listOpcodes provider)) (λ m. listOpcodes (numberOf (valueAt m 1))) (omega arith) fits
+  operation-back (importKey key) fits = body-back (inputOf (importKey key)) (λ m. importKey (keyOf m)) (omega arith) fits
+  operation-back (destroyKey name) fits = body-back (inputOf (destroyKey name)) (λ m. destroyKey (octetsOf (valueAt m 1))) (omega arith) fits
+  operation-back (exportPublicKey name) fits = body-back (inputOf (exportPublicKey name)) (λ m. exportPublicKey (octetsOf (valueAt m 1))) (omega arith) fits
+
+  pub output-back : (opcode : ℕ) (output : Output) → Answers opcode output → AllFit (format .lengthMost) (messageOf output) → outputOf format opcode (outputBytes format output) ≡ some output
+  unfolding outputOf outputBytes
+  output-back opcode (version major minor) ofPing fits = body-back (messageOf (version major minor)) (λ m. version (numberOf (valueAt m 1)) (numberOf (valueAt m 2))) (omega arith) fits
+  output-back opcode (providers list) ofListProviders fits = body-back (messageOf (providers list)) (λ m. providers (numbersOf (valueAt m 1))) (omega arith) fits
+  output-back opcode (opcodes list) ofListOpcodes fits = body-back (messageOf (opcodes list)) (λ m. opcodes (numbersOf (valueAt m 1))) (omega arith) fits
+  output-back opcode nothing ofImport fits = body-back [] (λ m. nothing) (omega arith) fits
+  output-back opcode nothing ofDestroy fits = body-back [] (λ m. nothing) (omega arith) fits
+  output-back opcode (exported data′) ofExport fits = body-back (messageOf (exported data′)) (λ m. exported (octetsOf (valueAt m 1))) (omega arith) fits
+
+-- ---- in Protocol Buffers
+
+-- what is asked is read as what was asked
+pub asked-back : (operation : Operation) → AllFit (protobuf .lengthMost) (inputOf operation)
+    → operationOf protobuf (opcodeOf operation) (operationBody protobuf operation) ≡ some operation
+asked-back operation fits = operation-back protobuf protobuf-lawful operation fits
+
+-- what is answered is read as what was answered
+pub answered-back : (opcode : ℕ) (output : Output) → Answers opcode output → AllFit (protobuf .lengthMost) (messageOf output)
+    → outputOf protobuf opcode (outputBytes protobuf output) ≡ some output
+answered-back opcode output answers fits = output-back protobuf protobuf-lawful opcode output answers fits
+
+-- ---- the outputs in Protocol Buffers
+
+pub nothing-bytes : outputBytes protobuf nothing ≡ []
+unfolding outputBytes messageBytes
+nothing-bytes = refl
+
+pub version-bytes : (major minor : ℕ) → outputBytes protobuf (version major minor) ≡ numberField 1 major ++ numberField 2 minor
+unfolding outputBytes messageBytes
+version-bytes major minor = ap (λ (l : List ℕ). numberField 1 major ++ l) (append-nil (numberField 2 minor))
+
+pub providers-bytes : (list : List ℕ) → outputBytes protobuf (providers list) ≡ packedField 1 list
+unfolding outputBytes messageBytes
+providers-bytes list = append-nil (packedField 1 list)
+
+pub opcodes-bytes : (list : List ℕ) → outputBytes protobuf (opcodes list) ≡ packedField 1 list
+unfolding outputBytes messageBytes
+opcodes-bytes list = append-nil (packedField 1 list)
+
+pub exported-bytes : (data′ : List ℕ) → outputBytes protobuf (exported data′) ≡ bytesField 1 data′
+unfolding outputBytes messageBytes
+exported-bytes data′ = append-nil (bytesField 1 data′)

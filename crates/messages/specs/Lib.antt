@@ -1,0 +1,5 @@
+pub mod Message
+pub mod Format
+pub mod Protobuf
+pub mod Opcodes
+pub mod Operations

@@ -1,0 +1,117 @@
+-- "Operations and their fields": what each operation asks and answers, and the fields of its bodies.
+use Prim.Native.Nat.{ℕ}
+use mathlib.Core.Option.{Option, none, some}
+use mathlib.Core.List.{List, [], _∷_}
+use lib.Dec.{eqb}
+use Rattle.wire.specs.Choice.{if_then_else_}
+use Rattle.keys.specs.Key.{Key}
+use Rattle.messages.specs.Message.{uint32, bool, bytes, uint32s, number, flag, octets, numbers, Schema, Message, numberOf, flagOf, octetsOf, numbersOf, valueAt}
+use Rattle.messages.specs.Format.{Format, Reading, read, broken, messageBytes, readMessage}
+
+-- ---- what a request asks for
+
+pub data Operation : Type 0 where
+  ping : Operation
+  listProviders : Operation
+  listOpcodes : (provider : ℕ) → Operation
+  importKey : Key → Operation
+  destroyKey : (name : List ℕ) → Operation
+  exportPublicKey : (name : List ℕ) → Operation
+
+abbrev pub opcodeOf : Operation → ℕ
+opcodeOf ping = 1
+opcodeOf listProviders = 8
+opcodeOf (listOpcodes provider) = 9
+opcodeOf (importKey key) = 6
+opcodeOf (destroyKey name) = 3
+opcodeOf (exportPublicKey name) = 7
+
+-- provider 0 is core, 1 keystore
+abbrev pub providerOf : Operation → ℕ
+providerOf ping = 0
+providerOf listProviders = 0
+providerOf (listOpcodes provider) = 0
+providerOf (importKey key) = 1
+providerOf (destroyKey name) = 1
+providerOf (exportPublicKey name) = 1
+
+-- the fields of its body
+abbrev pub inputOf : Operation → Message
+inputOf ping = []
+inputOf listProviders = []
+inputOf (listOpcodes provider) = number provider ∷ []
+inputOf (importKey key) = octets (key .name) ∷ octets (key .bytes) ∷ number (key .bits) ∷ flag (key .exportAllowed) ∷ flag (key .verifyAllowed) ∷ []
+inputOf (destroyKey name) = octets name ∷ []
+inputOf (exportPublicKey name) = octets name ∷ []
+
+-- the body of the operation's request
+unfoldable pub operationBody : Format → Operation → List ℕ
+operationBody format operation = messageBytes format (inputOf operation)
+
+-- 1 name, 2 data (bytes), 3 bits (uint32), 4 export allowed, 5 verify allowed (bool)
+abbrev pub keyOf : Message → Key
+keyOf m = record {
+  name = octetsOf (valueAt m 1);
+  bytes = octetsOf (valueAt m 2);
+  bits = numberOf (valueAt m 3);
+  exportAllowed = flagOf (valueAt m 4);
+  verifyAllowed = flagOf (valueAt m 5);
+}
+
+abbrev pub whenRead : {A : Type 0} → (Message → A) → Reading → Option A
+whenRead f (read message) = some (f message)
+whenRead f (broken at) = none
+
+-- what `f` makes of a readable body
+unfoldable pub readBody : {A : Type 0} → Format → Schema → (body : List ℕ) → (Message → A) → Option A
+readBody format schema body f = whenRead f (readMessage format schema body)
+
+-- the operation that a listed opcode and a readable body ask for
+unfoldable pub operationOf : Format → (opcode : ℕ) (body : List ℕ) → Option Operation
+operationOf format opcode body =
+    if eqb opcode 1 then readBody format [] body (λ m. ping)
+    else if eqb opcode 8 then readBody format [] body (λ m. listProviders)
+    else if eqb opcode 9 then readBody format (uint32 ∷ []) body (λ m. listOpcodes (numberOf (valueAt m 1)))
+    else if eqb opcode 6 then readBody format (bytes ∷ bytes ∷ uint32 ∷ bool ∷ bool ∷ []) body (λ m. importKey (keyOf m))
+    else if eqb opcode 3 then readBody format (bytes ∷ []) body (λ m. destroyKey (octetsOf (valueAt m 1)))
+    else if eqb opcode 7 then readBody format (bytes ∷ []) body (λ m. exportPublicKey (octetsOf (valueAt m 1)))
+    else none
+
+-- ---- what a served request answers
+
+pub data Output : Type 0 where
+  nothing : Output
+  version : (major minor : ℕ) → Output
+  providers : List ℕ → Output
+  opcodes : List ℕ → Output
+  exported : (data′ : List ℕ) → Output
+
+-- the output that each opcode has
+pub data Answers : (opcode : ℕ) → Output → Type 0 where
+  ofPing : {major minor : ℕ} → Answers 1 (version major minor)
+  ofListProviders : {list : List ℕ} → Answers 8 (providers list)
+  ofListOpcodes : {list : List ℕ} → Answers 9 (opcodes list)
+  ofImport : Answers 6 nothing
+  ofDestroy : Answers 3 nothing
+  ofExport : {data′ : List ℕ} → Answers 7 (exported data′)
+
+abbrev pub messageOf : Output → Message
+messageOf nothing = []
+messageOf (version major minor) = number major ∷ number minor ∷ []
+messageOf (providers list) = numbers list ∷ []
+messageOf (opcodes list) = numbers list ∷ []
+messageOf (exported data′) = octets data′ ∷ []
+
+-- the body of a response with status 0
+unfoldable pub outputBytes : Format → Output → List ℕ
+outputBytes format output = messageBytes format (messageOf output)
+
+unfoldable pub outputOf : Format → (opcode : ℕ) (body : List ℕ) → Option Output
+outputOf format opcode body =
+    if eqb opcode 1 then readBody format (uint32 ∷ uint32 ∷ []) body (λ m. version (numberOf (valueAt m 1)) (numberOf (valueAt m 2)))
+    else if eqb opcode 8 then readBody format (uint32s ∷ []) body (λ m. providers (numbersOf (valueAt m 1)))
+    else if eqb opcode 9 then readBody format (uint32s ∷ []) body (λ m. opcodes (numbersOf (valueAt m 1)))
+    else if eqb opcode 6 then readBody format [] body (λ m. nothing)
+    else if eqb opcode 3 then readBody format [] body (λ m. nothing)
+    else if eqb opcode 7 then readBody format (bytes ∷ []) body (λ m. exported (octetsOf (valueAt m 1)))
+    else none
