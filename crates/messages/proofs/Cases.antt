@@ -2,7 +2,7 @@
 use mathlib.Core.Path.{_≡_, refl}
 use mathlib.Core.Bool.{true, false}
 use mathlib.Core.Option.{bind}
-use mathlib.Core.List.{[], _∷_, _++_, flatMap}
+use mathlib.Core.List.{[], _∷_, flatMap}
 use Rattle.wire.specs.Scan.{scanFrom, scanAt}
 use Rattle.keys.specs.Key.{Key}
 use Rattle.protobuf.specs.Varint.{varintOf}

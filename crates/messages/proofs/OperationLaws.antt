@@ -1,9 +1,9 @@
 -- What is asked is read as what was asked, and what is answered as what was answered, in every lawful format.
-use Prim.Native.Nat.{ℕ, _≤_, _<_}
+use Prim.Native.Nat.{ℕ, _<_}
 use native.Mathlib.Omega.{arith}
-use mathlib.Core.Path.{_≡_, refl, ap, _∙_}
+use mathlib.Core.Path.{_≡_, refl, ap}
 use mathlib.Core.Option.{some}
-use mathlib.Core.List.{List, [], _∷_, _++_, append-nil, map}
+use mathlib.Core.List.{List, [], _++_, append-nil, map}
 use lib.ListN.{length}
 use Rattle.protobuf.specs.Written.{numberField, bytesField, packedField}
 use Rattle.messages.specs.Message.{Message, kindOf, AllFit, numberOf, octetsOf, numbersOf, valueAt}
