@@ -17,7 +17,7 @@ use Rattle.wire.specs.code.Header.{headerOf}
 use Rattle.wire.specs.Response.{responseBytes}
 use Rattle.wire.specs.code.Wrote.{Wrote}
 use Rattle.wire.specs.declared.header.Header.{Header}
-use Rattle.wire.proofs.TestLaws.{some≢none, none-at, first-before, first-behind}
+use Rattle.wire.proofs.TestLaws.{first-has, some≢none, none-at, first-before, first-behind}
 use Rattle.stream.specs.Frame.{contentMost}
 use Rattle.protobuf.specs.Body.{bodyOf}
 use Rattle.protobuf.specs.declared.message.Schema.{Schema}
@@ -47,20 +47,6 @@ use Rattle.judgement.specs.declared.Auth.the-variants.{Refused as AuthRefused, 
 use Rattle.judgement.specs.declared.Decision.{Decision}
 use Rattle.answer.specs.code.Answers.{AnsweredBy, PassedHeader, resultForNobody, ResultAnswered, RefusedWith}
 use Rattle.answer.specs.declared.Answered.{Answered}
-
--- ---- the first test that applies
-
-module _ {A : Type 0} where
-  abbrev AllHave : (A → Type 0) → List (Bool × A) → Type 0
-  AllHave P [] = Unit {0}
-  AllHave P (t ∷ ts) = P (t .1) × AllHave P ts
-
-  -- what every case has, the first that applies has
-  first-has : (P : A → Type 0) (ts : List (Bool × A)) → AllHave P ts → (a : A) → firstOf ts ≡ some a → P a
-  unfolding firstOf
-  first-has P [] h a e = absurd (some≢none a (sym e))
-  first-has P ((true, x) ∷ ts) h a e = let w : x ≡ a = cc in subst P w (h .0)
-  first-has P ((false, x) ∷ ts) h a e = first-has P ts (h .1) a e
 
 -- ---- what the tests of a header say
 

@@ -1,1 +1,4 @@
 pub mod Asked
+pub mod Answered
+pub mod Results
+pub mod AnswerLaws

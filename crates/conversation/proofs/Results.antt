@@ -1,0 +1,149 @@
+-- Every result of a request that the client wrote can be read by it: a status that is not 0 and no output, or 0 and an output of
+-- the operation's kind.
+use mathlib.Core.Path.{_≡_, refl, sym, ap, _∙_, subst}
+use Prim.Native.Nat.{ℕ, _*_, _^_, _≤_, _<_}
+use mathlib.Core.Bool.{Bool, true, false}
+use mathlib.Core.Option.{Option, none, some}
+use mathlib.Core.List.{List, [], _∷_}
+use native.Mathlib.Omega.{arith}
+use lib.ListN.{length, getD}
+use lib.Dec.{ltb, eqb, lit<}
+use Rattle.wire.specs.Choice.{firstOf}
+use Rattle.wire.specs.Lists.{all}
+use Rattle.wire.specs.Request.{Request}
+use Rattle.wire.proofs.TestLaws.{either, first-has}
+use Rattle.keys.specs.Names.{keyNameMost, legalName}
+use Rattle.keys.specs.Key.{Key, dataMost}
+use Rattle.messages.specs.Protobuf.{protobuf}
+use Rattle.messages.specs.Opcodes.{opcodesOf}
+use Rattle.messages.specs.Operations.{Operation, ping, listProviders, listOpcodes, importKey, destroyKey, exportPublicKey, ofPing, ofListProviders, ofListOpcodes, ofImport, ofDestroy, ofExport, operationOf}
+use Rattle.registry.specs.Slots.{Entry, free, held}
+use Rattle.registry.specs.Registry.{slotNamed}
+use Rattle.registry.specs.WellFormed.{wellFormedRegistry}
+use Rattle.registry.specs.declared.Line.{Line}
+use Rattle.registry.specs.declared.Slot.{Slot}
+use Rattle.registry.specs.declared.Found.{Found}
+use Rattle.registry.specs.declared.Found.the-variants.{At, Nothing}
+use Rattle.registry.proofs.SlotLaws.{ShortEntry}
+use Rattle.registry.proofs.WellFormedLaws.{slots-short}
+use Rattle.judgement.specs.Status.{statusNumber}
+use Rattle.judgement.specs.Operations.{Result, success, refuse, importable, performImport, performDestroy, exportOf, performExport, performListOpcodes, perform, operated}
+use Rattle.judgement.specs.Judgement.{applicationOf, refusals, askersSlots, resultOf}
+use Rattle.judgement.specs.declared.Status.{Status}
+use Rattle.judgement.proofs.JudgementLaws.{asks}
+use Rattle.client.specs.Writing.{Sender, requestFor}
+use Rattle.conversation.proofs.Asked.{Writable, ReadAsWritten, read-as-written}
+use Rattle.conversation.proofs.Answered.{Sound, notServed, served}
+
+refused : (operation : Operation) (status : Status) → 0 < statusNumber status → Sound operation (refuse status)
+unfolding refuse
+refused operation status h = notServed h refl
+
+opcodes-fit : (provider : ℕ) → (all (λ n. ltb n (2 ^ 32)) (opcodesOf provider) ≡ true) × (10 * length (opcodesOf provider) ≤ protobuf .lengthMost)
+unfolding opcodesOf
+opcodes-fit provider =
+    either (λ (l : List ℕ). (all (λ n. ltb n (2 ^ 32)) l ≡ true) × (10 * length l ≤ protobuf .lengthMost)) (eqb provider 0)
+    (λ _. (refl, omega arith)) (λ _. (refl, omega arith))
+
+-- the slots of the asker hold short data
+abbrev ShortSlots : List Entry → Type 0
+ShortSlots slots = (i : ℕ) → ShortEntry (getD slots i free)
+
+module _ (slots : List Entry) where
+  sound-import : (key : Key) → Sound (importKey key) (performImport key slots)
+  unfolding performImport success statusNumber
+  sound-import key = go (importable key) refl
+    where
+      third : importable key ≡ true → slotNamed (key .name) slots ≡ Nothing → (f : Found) → slotNamed [] slots ≡ f → Sound (importKey key) (performImport key slots)
+      third v n Nothing e = rw (v, n, e, performImport) (refused (importKey key) _ (lit< tt))
+      third v n (At slot) e = rw (v, n, e, performImport) (served refl ofImport tt)
+
+      second : importable key ≡ true → (f : Found) → slotNamed (key .name) slots ≡ f → Sound (importKey key) (performImport key slots)
+      second v (At slot) e = rw (v, e, performImport) (refused (importKey key) _ (lit< tt))
+      second v Nothing e = third v e (slotNamed [] slots) refl
+
+      go : (t : Bool) → importable key ≡ t → Sound (importKey key) (performImport key slots)
+      go false e = rw (e, performImport) (refused (importKey key) _ (lit< tt))
+      go true e = second e (slotNamed (key .name) slots) refl
+
+  sound-destroy : (name : List ℕ) → Sound (destroyKey name) (performDestroy name slots)
+  unfolding performDestroy success statusNumber
+  sound-destroy name = go (legalName keyNameMost name) refl
+    where
+      second : legalName keyNameMost name ≡ true → (f : Found) → slotNamed name slots ≡ f → Sound (destroyKey name) (performDestroy name slots)
+      second v Nothing e = rw (v, e, performDestroy) (refused (destroyKey name) _ (lit< tt))
+      second v (At slot) e = rw (v, e, performDestroy) (served refl ofDestroy tt)
+
+      go : (t : Bool) → legalName keyNameMost name ≡ t → Sound (destroyKey name) (performDestroy name slots)
+      go false e = rw (e, performDestroy) (refused (destroyKey name) _ (lit< tt))
+      go true e = second e (slotNamed name slots) refl
+
+  sound-entry : (name : List ℕ) (entry : Entry) → ShortEntry entry → Sound (exportPublicKey name) (exportOf entry)
+  unfolding exportOf success statusNumber
+  sound-entry name free s = refused (exportPublicKey name) _ (lit< tt)
+  sound-entry name (held key) s =
+      either (Sound (exportPublicKey name)) (key .exportAllowed)
+      (λ _. served refl ofExport (omega (arith, s), tt))
+      (λ _. refused (exportPublicKey name) _ (lit< tt))
+
+  sound-export : ShortSlots slots → (name : List ℕ) → Sound (exportPublicKey name) (performExport name slots)
+  unfolding performExport statusNumber
+  sound-export short name = go (legalName keyNameMost name) refl
+    where
+      second : legalName keyNameMost name ≡ true → (f : Found) → slotNamed name slots ≡ f → Sound (exportPublicKey name) (performExport name slots)
+      second v Nothing e = rw (v, e, performExport) (refused (exportPublicKey name) _ (lit< tt))
+      second v (At slot) e = rw (v, e, performExport) (sound-entry name (getD slots (slot .0) free) (short (slot .0)))
+
+      go : (t : Bool) → legalName keyNameMost name ≡ t → Sound (exportPublicKey name) (performExport name slots)
+      go false e = rw (e, performExport) (refused (exportPublicKey name) _ (lit< tt))
+      go true e = second e (slotNamed name slots) refl
+
+  sound-opcodes : (provider : ℕ) → Sound (listOpcodes provider) (performListOpcodes provider)
+  unfolding performListOpcodes success statusNumber
+  sound-opcodes provider =
+      either (Sound (listOpcodes provider)) (ltb 1 provider)
+      (λ _. refused (listOpcodes provider) _ (lit< tt))
+      (λ _. served refl ofListOpcodes (opcodes-fit provider, tt))
+
+  sound-perform : ShortSlots slots → (operation : Operation) → Sound operation (perform operation slots)
+  unfolding perform success statusNumber
+  sound-perform short ping = served refl ofPing (omega arith, (omega arith, tt))
+  sound-perform short listProviders = served refl ofListProviders ((refl, omega arith), tt)
+  sound-perform short (listOpcodes provider) = sound-opcodes provider
+  sound-perform short (importKey key) = sound-import key
+  sound-perform short (destroyKey name) = sound-destroy name
+  sound-perform short (exportPublicKey name) = sound-export short name
+
+-- ---- the result of a request
+
+short-slots : (registry : List ℕ) → wellFormedRegistry registry ≡ true → (q : Request) → ShortSlots (askersSlots registry (applicationOf registry q))
+unfolding askersSlots
+short-slots registry w q i = go (applicationOf registry q) refl
+  where
+    go : (o : Option Line) → applicationOf registry q ≡ o → ShortEntry (getD (askersSlots registry o) i free)
+    go none e = tt
+    go (some line) e = slots-short registry w line (asks registry q line e .there) i
+
+-- no test's status is Success
+status-some : (registry : List ℕ) (q : Request) (status : Status) → firstOf (refusals registry q) ≡ some status → 0 < statusNumber status
+unfolding refusals statusNumber
+status-some registry q status e =
+    first-has (λ s. 0 < statusNumber s) (refusals registry q)
+    (omega arith, (omega arith, (omega arith, (omega arith, (omega arith, (omega arith, (omega arith, (omega arith, (omega arith, (omega arith, tt)))))))))) status e
+
+pub result-sound : (registry : List ℕ) → wellFormedRegistry registry ≡ true → (session : ℕ) (sender : Sender) (operation : Operation)
+    → Writable sender operation → Sound operation (resultOf registry (requestFor session sender operation))
+unfolding resultOf operated
+result-sound registry w session sender operation writable = go (firstOf (refusals registry q)) refl
+  where
+    q : Request
+    q = requestFor session sender operation
+
+    slots : List Entry
+    slots = askersSlots registry (applicationOf registry q)
+
+    go : (o : Option Status) → firstOf (refusals registry q) ≡ o → Sound operation (resultOf registry q)
+    go (some status) e = rw (e, resultOf) (refused operation status (status-some registry q status e))
+    go none e =
+        rw (e, resultOf, read-as-written session sender operation writable .operation-read, operated)
+        (sound-perform slots (short-slots registry w q) operation)
