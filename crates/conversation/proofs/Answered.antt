@@ -27,9 +27,26 @@ use Rattle.client.specs.Reading.{Asked, providerFor, Reply, answered, contentMo
 
 -- ---- a response of any status and body that is for the request
 
+-- the header of such a response, as it is read
+abbrev pub headerOf : (provider session opcode status : ℕ) (body : List ℕ) → ResponseHeader
+headerOf provider session opcode status body = record {
+  major = 1;
+  minor = 0;
+  provider = provider;
+  session = session;
+  «content_type» = 1;
+  «content_length» = length body;
+  opcode = opcode;
+  status = status;
+}
+
+-- it is its request's, or status 17
+abbrev pub Its : Asked → ResponseHeader → Type 0
+Its asked h = isIts asked h || isInvalidHeader h ≡ true
+
 -- a header that passes
-passes : (asked : Asked) (h : ResponseHeader) → h .major ≡ 1 → h .minor ≡ 0 → h .«content_type» ≡ 1
-    → isIts asked h || isInvalidHeader h ≡ true → h .«content_length» ≤ contentMost → firstOf (headerTests asked h) ≡ none
+pub passes : (asked : Asked) (h : ResponseHeader) → h .major ≡ 1 → h .minor ≡ 0 → h .«content_type» ≡ 1
+    → Its asked h → h .«content_length» ≤ contentMost → firstOf (headerTests asked h) ≡ none
 unfolding headerTests firstOf
 passes asked h major minor type its short =
     rw (eq-eqb (h .major) 1 major, eq-eqb (h .minor) 0 minor, eq-eqb (h .«content_type») 1 type, its, le-ltb contentMost (h .«content_length») short)
@@ -44,19 +61,7 @@ module _ (asked : Asked) (provider session opcode status : ℕ) (body rest : Lis
   abbrev written : List ℕ
   written = responseBytes provider session opcode status body ++ rest
 
-  abbrev header : ResponseHeader
-  header = record {
-    major = 1;
-    minor = 0;
-    provider = provider;
-    session = session;
-    «content_type» = 1;
-    «content_length» = length body;
-    opcode = opcode;
-    status = status;
-  }
-
-  found-whole : isIts asked header || isInvalidHeader header ≡ true → length body ≤ contentMost
+  pub found-whole : Its asked (headerOf provider session opcode status body) → length body ≤ contentMost
       → found asked written ≡ some (bodyReply (asked .opcode) status body)
   unfolding found
   found-whole its short =
@@ -69,18 +74,22 @@ module _ (asked : Asked) (provider session opcode status : ℕ) (body rest : Lis
         le-ltb (length written) responseLeast (omega arith),
       )
       (ap (λ (h : ResponseHeader). foundBehind asked h written) (response-back provider session opcode status body rest)
-      ∙ behind asked header written (passes asked header refl refl refl its short) (omega arith)
+      ∙ behind asked (headerOf provider session opcode status body) written (passes asked (headerOf provider session opcode status body) refl refl refl its short) (omega arith)
       ∙ ap (λ (b : List ℕ). some (bodyReply (asked .opcode) status b)) (response-body provider session opcode status body rest))
 
 -- ---- status 17, whatever was asked
 
+or-true : (t : Bool) → t || true ≡ true
+or-true true = refl
+or-true false = refl
+
+pub invalid-its : (asked : Asked) → Its asked (headerOf 0 0 0 17 [])
+unfolding isInvalidHeader
+invalid-its asked = or-true (isIts asked (headerOf 0 0 0 17 []))
+
 pub invalid-read : (asked : Asked) (rest : List ℕ) → found asked (responseBytes 0 0 0 17 [] ++ rest) ≡ some (answered 17 nothing)
-unfolding isInvalidHeader bodyReply
-invalid-read asked rest = found-whole asked 0 0 0 17 [] rest (or-true (isIts asked (header asked 0 0 0 17 [] rest))) (omega arith)
-  where
-    or-true : (t : Bool) → t || true ≡ true
-    or-true true = refl
-    or-true false = refl
+unfolding bodyReply
+invalid-read asked rest = found-whole asked 0 0 0 17 [] rest (invalid-its asked) (omega arith)
 
 -- ---- the answer to an operation
 
@@ -97,11 +106,10 @@ provider-known (importKey key) = refl
 provider-known (destroyKey name) = refl
 provider-known (exportPublicKey name) = refl
 
-its-own : (session : ℕ) (operation : Operation) (status : ℕ) (body rest : List ℕ)
-    → (let h = header (askedFor session operation) (providerOf operation) session (opcodeOf operation) status body rest in
-    isIts (askedFor session operation) h || isInvalidHeader h ≡ true)
+pub its-own : (session : ℕ) (operation : Operation) (status : ℕ) (body : List ℕ)
+    → Its (askedFor session operation) (headerOf (providerOf operation) session (opcodeOf operation) status body)
 unfolding isIts
-its-own session operation status body rest =
+its-own session operation status body =
     rw (eq-eqb (opcodeOf operation) (opcodeOf operation) refl, eq-eqb session session refl, eq-eqb (providerOf operation) (providerFor (opcodeOf operation)) (provider-known operation))
 
 -- a status that is not 0, and then no output; or 0, and an output of the operation's kind that can be written
@@ -125,7 +133,7 @@ pub result-read : (session : ℕ) (operation : Operation) (r : Result) (rest : L
 result-read session operation r rest s short =
     let status : ℕ = statusNumber (r .status) in
     let body : List ℕ = outputBytes protobuf (r .output) in
-    found-whole (askedFor session operation) (providerOf operation) session (opcodeOf operation) status body rest (its-own session operation status body rest) short
+    found-whole (askedFor session operation) (providerOf operation) session (opcodeOf operation) status body rest (its-own session operation status body) short
     ∙ ap some (reads s)
   where
     reads : Sound operation r → bodyReply (opcodeOf operation) (statusNumber (r .status)) (outputBytes protobuf (r .output)) ≡ answered (statusNumber (r .status)) (r .output)

@@ -2,3 +2,4 @@ pub mod Asked
 pub mod Answered
 pub mod Results
 pub mod AnswerLaws
+pub mod ReadLaws
