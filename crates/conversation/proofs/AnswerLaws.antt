@@ -40,13 +40,13 @@ module _ (registry : List ℕ) (counts : Counts) (good : wellFormedRegistry regi
       let r = read-as-written session sender operation writable in
       rw (r .within, r .fields)
 
-  response-is : judge judgement registry counts (requestBytes q) .response
+  pub response-is : judge judgement registry counts (requestBytes q) .response
       ≡ responseBytes (providerOf operation) session (opcodeOf operation) (statusNumber (result .status)) (outputBytes protobuf (result .output))
   unfolding verdictOf requestFor
   response-is = ap (λ (v : Verdict (List ℕ) Counts (List ℕ)). v .response) verdict-is
 
-  short : length (outputBytes protobuf (result .output)) ≤ contentMost
-  short =
+  pub short-output : length (outputBytes protobuf (result .output)) ≤ contentMost
+  short-output =
       let s = judge-short registry counts (requestBytes q) good in
       let e = ap length response-is in
       let l = response-long (providerOf operation) session (opcodeOf operation) (statusNumber (result .status)) (outputBytes protobuf (result .output)) [] in
@@ -56,4 +56,4 @@ module _ (registry : List ℕ) (counts : Counts) (good : wellFormedRegistry regi
       → found (askedFor session operation) (judge judgement registry counts (requestBytes q) .response ++ rest) ≡ some (answered (statusNumber (result .status)) (result .output))
   answer-read rest =
       ap (λ (b : List ℕ). found (askedFor session operation) (b ++ rest)) response-is
-      ∙ result-read session operation result rest (result-sound registry good session sender operation writable) short
+      ∙ result-read session operation result rest (result-sound registry good session sender operation writable) short-output

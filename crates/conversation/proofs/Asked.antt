@@ -92,7 +92,7 @@ module _ (session : ℕ) (sender : Sender) (operation : Operation) (w : Writable
   abbrev bytes : List ℕ
   bytes = requestBytes (requestFor session sender operation)
 
-  legal : (rest : List ℕ) → legalStart (bytes ++ rest) ≡ true
+  pub legal : (rest : List ℕ) → legalStart (bytes ++ rest) ≡ true
   unfolding legalStart
   legal rest =
       let q = requestFor session sender operation in

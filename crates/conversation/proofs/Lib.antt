@@ -3,3 +3,5 @@ pub mod Answered
 pub mod Results
 pub mod AnswerLaws
 pub mod ReadLaws
+pub mod HeardLaws
+pub mod ServiceLaws

@@ -1,0 +1,36 @@
+-- A conversation: requests that a client writes, and what it is to hear by the rules, request by request.
+use Prim.Native.Nat.{ℕ}
+use mathlib.Core.List.{List, [], _∷_, map, flatten}
+use Rattle.wire.specs.Request.{requestBytes}
+use Rattle.messages.specs.Operations.{Operation, opcodeOf}
+use Rattle.judgement.specs.Status.{statusNumber}
+use Rattle.judgement.specs.Counts.{Counts, noCounts}
+use Rattle.judgement.specs.Judgement.{resultOf, verdictOf}
+use Rattle.client.specs.Writing.{Sender, requestFor}
+use Rattle.client.specs.Reading.{Asked, Reply, answered}
+
+-- what the client is asked to write
+pub record Ask : Type 0 where
+  pub session : ℕ
+  pub sender : Sender
+  pub operation : Operation
+
+-- the request's bytes
+unfoldable pub written : Ask → List ℕ
+written ask = requestBytes (requestFor (ask .session) (ask .sender) (ask .operation))
+
+-- the request as the reader of its response knows it
+unfoldable pub askedFor : Ask → Asked
+askedFor ask = record { opcode = opcodeOf (ask .operation); session = ask .session }
+
+-- the results that the rules give for the operations, one after the other: a status's number and an output each
+unfoldable pub repliesFrom : (registry : List ℕ) → Counts → List Ask → List Reply
+repliesFrom registry counts [] = []
+repliesFrom registry counts (ask ∷ asks) =
+    let q = requestFor (ask .session) (ask .sender) (ask .operation) in
+    let r = resultOf registry q in
+    let v = verdictOf registry counts q r in
+    answered (statusNumber (r .status)) (r .output) ∷ repliesFrom (v .registry) (v .counts) asks
+
+unfoldable pub repliesTo : (registry : List ℕ) → List Ask → List Reply
+repliesTo registry asks = repliesFrom registry noCounts asks
