@@ -216,9 +216,14 @@ class Moved(unittest.TestCase):
 
     def test_methods_and_exports(self):
         whole = 'impl Sum {\n    fn less(self) -> u64 { 1 }\n}\n#[no_mangle]\npub extern "C" fn less_still(n: u64) -> u64 { n }\n'
-        text = self.said({"crates/a/src/sums.rt": whole})
-        self.assertIn("    added: sums::less_still\n", text)
+        text = self.said({**self.edited("crates/a/src/lib.rt", ("// Adding.", "pub mod sums;")), "crates/a/src/sums.rt": whole})
+        self.assertIn("  public contracts  1 added, 0 changed, 0 removed, 1 unchanged\n    added: sums::less_still\n", text)
         self.assertIn("    added: sums::Sum::less\n", text)
+
+    def test_functions_of_a_private_module_are_not_public(self):
+        root = self.edited("crates/a/src/lib.rt", ("// Adding.", "mod deep;"))
+        text = self.said({**root, "crates/a/src/deep.rt": "pub fn f() {}\n"})
+        self.assertIn("  other contracts   1 added, 0 changed, 0 removed, 1 unchanged\n    added: deep::f\n", text)
 
     def test_a_proof_is_lines_and_a_statement_is_not(self):
         proof = self.laws(("one-is n = helper", "one-is n =\n    helper"), ("helper = refl", "helper = sym refl"))
