@@ -1,6 +1,6 @@
 -- Laws of the free slots at a line's end: they are well formed if their bytes are zero, and have no names.
 use mathlib.Core.Path.{_≡_, refl, sym, ap, ap₂, _∙_}
-use mathlib.Core.Bool.{Bool, true, not, _&&_, and-comm}
+use mathlib.Core.Bool.{true, _&&_}
 use mathlib.Core.List.{List, [], _∷_, map}
 use Prim.Native.Nat.{ℕ, zero, suc, _+_, _-_, _*_, _≤_, _<_}
 use native.Mathlib.Omega.{arith}
@@ -8,11 +8,11 @@ use borrow.Author.Tests.{eqb-true, eq-eqb}
 use lib.ListN.{length, take, drop, getD, length-drop}
 use lib.Seq.{drop-drop, getD-take, getD-drop}
 use lib.Dec.{eqb}
-use Rattle.wire.specs.Lists.{all, isZero, same, blocks}
+use Rattle.wire.specs.Lists.{all, isZero, blocks}
 use Rattle.wire.proofs.TestLaws.{and-left, and-right}
 use Rattle.wire.proofs.ListLaws.{all-split}
 use Rattle.wire.proofs.BlockLaws.{take-blocks, blocks-pass, zero-rest}
-use Rattle.registry.specs.Names.{nameIn, isNew, distinct}
+use Rattle.registry.specs.Names.{nameIn, distinct}
 use Rattle.registry.specs.Slots.{slotSize, wellFormedSlot}
 use Rattle.registry.specs.Registry.{slotCount, lineHead, lineSize, slotsIn}
 use Rattle.registry.specs.WellFormed.{slotsWellFormed}
@@ -44,16 +44,14 @@ free-before line n h few e free =
 
 -- the slots of a line, those from n on being free
 pub slots-free-from : (line : List ℕ) (n : ℕ) → length line ≡ lineSize → n ≤ slotCount → all isFree (drop n (slotsIn line)) ≡ true
-    → slotsWellFormed line ≡ all isZero (drop (lineHead + n * slotSize) line) && all wellFormedSlot (blocks n slotSize (drop lineHead line))
+    → slotsWellFormed line ≡ all wellFormedSlot (blocks n slotSize (drop lineHead line)) && all isZero (drop (lineHead + n * slotSize) line)
 slots-free-from line n long few e =
     let slots : List (List ℕ) = slotsIn line in
     let rest : List ℕ = drop lineHead line in
     let size : length rest ≡ slotCount * slotSize = length-drop lineHead line ∙ omega arith in
     let behind : all wellFormedSlot (drop n slots) ≡ all isZero (drop (lineHead + n * slotSize) line)
     = free-slots (drop n slots) e ∙ zero-rest slotSize slotCount rest n size few ∙ ap (all isZero) (drop-drop (n * slotSize) lineHead line) in
-    all-split wellFormedSlot n slots
-    ∙ ap₂ _&&_ (ap (all wellFormedSlot) (take-blocks n slotCount slotSize rest few)) behind
-    ∙ and-comm (all wellFormedSlot (blocks n slotSize rest)) (all isZero (drop (lineHead + n * slotSize) line))
+    all-split wellFormedSlot n slots ∙ ap₂ _&&_ (ap (all wellFormedSlot) (take-blocks n slotCount slotSize rest few)) behind
 
 -- ---- names
 

@@ -63,11 +63,11 @@ fn are_all_slots(line: &[u8], n: usize, at: usize) -> bool
     requires { ⌜ (length (now line) ≡ lineSize) × (n ≤ slotCount) × (all isFree (drop n (slotsIn (now line))) ≡ true) ⌝ }
     ensures { λ r. ⌜ r ≡ slotsWellFormed (now (line .entry)) ⌝ }
 {
-    let a = LINE_HEAD + n * SLOT_SIZE;
-    if !all_zero_long(&line[a..], at % 16 + a) {
+    if !are_slots(line, n) {
         return false;
     }
-    are_slots(line, n)
+    let a = LINE_HEAD + n * SLOT_SIZE;
+    all_zero_long(&line[a..], at % 16 + a)
 }
 
 // Whether the bytes of a used line are well formed; `at` as above.

@@ -14,18 +14,17 @@ use lib.ListN.{drop}
 use Rattle.registry.proofs.check.are_all_slots.Statement.{statement}
 use Rattle.registry.proofs.check.are_all_slots.Tie as tie
 
--- the slots are the tested part and the first ones
+-- the slots are the first ones and the part behind them
 apart : (c : tie.Start)
     → (let line = c .args .line .now in
-    slotsWellFormed line ≡ all isZero (drop (lineHead + c .args .n * slotSize) line) && all wellFormedSlot (blocks (c .args .n) slotSize (drop lineHead line)))
+    slotsWellFormed line ≡ all wellFormedSlot (blocks (c .args .n) slotSize (drop lineHead line)) && all isZero (drop (lineHead + c .args .n * slotSize) line))
 apart c = slots-free-from (c .args .line .now) (c .args .n) (c .pre .0) (c .pre .1) (c .pre .2)
 
-zeros : (c : tie.After-all-zero-long)
-    → (let a = c .before .before .before .args in
-    c .all-zero-long .result ≡ all isZero (drop (lineHead + a .n * slotSize) (a .line .now)))
-zeros c =
-    let a = c .before .before .before .args in
-    c .all-zero-long .ensures ∙ ap (all isZero) (lent (lineHead + a .n * slotSize) (a .line .now))
+are-slots-requires : tie.Need-are-slots-requires
+are-slots-requires c κs = search needs
+
+returns : tie.Need-returns
+returns c = sym (apart (c .before .before .before) ∙ rw (sym (c .before .are-slots .ensures) ∙ not-true _ (c .if1 .taken)))
 
 mul-a : tie.Need-mul-a
 mul-a c = search needs
@@ -48,19 +47,20 @@ add-all-zero-long c = search needs
 all-zero-long-requires : tie.Need-all-zero-long-requires
 all-zero-long-requires c κs = search needs
 
-returns : tie.Need-returns
-returns c = sym (apart (c .before .before .before .before) ∙ rw (sym (zeros (c .before)) ∙ not-true _ (c .if1 .taken)))
-
-are-slots-requires : tie.Need-are-slots-requires
-are-slots-requires c κs = search needs
-
 returns-2 : tie.Need-returns-2
-returns-2 c = c .are-slots .ensures ∙ sym (apart (c .before .before .before .before .before) ∙ rw (sym (zeros (c .before .before)) ∙ not-false _ (c .before .if1 .left)))
+returns-2 c =
+    let e = c .before .before in
+    let s = e .before .before .before in
+    c .all-zero-long .ensures
+    ∙ ap (all isZero) (lent (lineHead + s .args .n * slotSize) (s .args .line .now))
+    ∙ sym (apart s ∙ rw (sym (e .before .are-slots .ensures) ∙ not-false _ (e .if1 .left)))
 
 pub are-all-slots-spec : {M : Type 1} → statement M
 are-all-slots-spec =
     tie.close
     (tie.spec
+    are-slots-requires
+    returns
     mul-a
     add-a
     sub-all-zero-long
@@ -68,6 +68,4 @@ are-all-slots-spec =
     part-all-zero-long-end
     add-all-zero-long
     all-zero-long-requires
-    returns
-    are-slots-requires
     returns-2)
