@@ -1,3 +1,4 @@
 pub mod FeedLaws
+pub mod SourceLaws
 pub mod PrintLaws
 pub mod FrontLaws

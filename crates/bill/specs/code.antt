@@ -1,3 +1,3 @@
 pub mod Stream
-pub mod Printed
+pub mod Sources
 pub mod Front

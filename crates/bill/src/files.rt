@@ -2,6 +2,12 @@
 ghost use lib.ListN.{length};
 ghost use Rattle.bill.specs.code.Stream.{ReadWithin, KeptWithin};
 
+// The file that an argument names, or that it can't be opened.
+pub enum File {
+    Open(i32),
+    Missing,
+}
+
 // What reading once gives.
 pub enum Input {
     Bytes(usize),
@@ -9,18 +15,27 @@ pub enum Input {
     Failed,
 }
 
+// How many of a file's first bytes were kept; a file that can't be read to its end is unreadable.
+pub enum Front {
+    Kept(usize),
+    Unreadable,
+}
+
 // A number that no run counts down: nothing says that a file ends, and a proved loop has to. It is counterMost divided by
 // chunkMost, the limits of C5 and C2: so many chunks have as many bytes at most as a counter may count.
 pub const TURNS: u64 = 70368744177664;
 
-// Opens the file that an argument names; below 0 where it can't be.
-pub fn open_argument(number: usize) -> i32 {
+pub fn open_argument(number: usize) -> File {
     let mut path = io::buffer();
     let size = os::arg(number, &mut path);
     if os::errno() != 0 {
-        return -1;
+        return File::Missing;
     }
-    os::open_read(&path[..size])
+    let fd = os::open_read(&path[..size]);
+    if fd < 0 {
+        return File::Missing;
+    }
+    File::Open(fd)
 }
 
 // Reads once. No signal is handled here, so that no read is interrupted.
@@ -54,19 +69,19 @@ pub fn read_rest(fd: i32) -> bool {
 }
 
 // Reads a file to its end, and keeps as many of its first bytes as there is room for.
-pub fn read_front(fd: i32, front: &mut [u8]) -> Input
+pub fn read_front(fd: i32, front: &mut [u8]) -> Front
     ensures { λ r. ⌜ KeptWithin (length (now (front .entry))) r ⌝ }
 {
     let mut size = 0;
     while size < front.len() {
         match read_some(fd, &mut front[size..]) {
             Input::Bytes(more) => size += more,
-            Input::End => return Input::Bytes(size),
-            Input::Failed => return Input::Failed,
+            Input::End => return Front::Kept(size),
+            Input::Failed => return Front::Unreadable,
         }
     }
     if read_rest(fd) {
-        return Input::Bytes(size);
+        return Front::Kept(size);
     }
-    Input::Failed
+    Front::Unreadable
 }
