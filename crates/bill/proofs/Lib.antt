@@ -1,3 +1,4 @@
+pub mod ReadLaws
 pub mod FeedLaws
 pub mod SourceLaws
 pub mod PrintLaws

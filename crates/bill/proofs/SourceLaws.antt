@@ -47,11 +47,11 @@ source-of file memory size = rw (eq-eqb (length memory) registrySize size) (go (
     go (faulty fault) q = record { file = file; first = q }
 
 -- whatever was kept of a file
-pub front-of : (bytes memory : List ℕ) → length memory ≡ registrySize → (read : Front) (o : SourceOutcome)
+pub front-source : (bytes memory : List ℕ) → length memory ≡ registrySize → (read : Front) (o : SourceOutcome)
     → o ≡ loadFront bytes read memory → SourceOf (o .registry) (o .answer)
 unfolding SourceOf loadFront sourceOf
-front-of bytes memory size (front.Kept n) o e = rw e (source-of (take n bytes) memory size)
-front-of bytes memory size front.Unreadable o e = rw e tt
+front-source bytes memory size (front.Kept n) o e = rw e (source-of (take n bytes) memory size)
+front-source bytes memory size front.Unreadable o e = rw e tt
 
 pub roster-missing : (registry : List ℕ) {f : File} → f ≡ Missing → RosterRead f registry source.Unreadable
 unfolding RosterRead
