@@ -9,6 +9,7 @@ program. The expected bill is counted from these statuses alone, so it is indepe
 program that prints a bill. The .bill files themselves come from the second program, see README.md.
 """
 
+import argparse
 import hashlib
 import struct
 import sys
@@ -376,7 +377,16 @@ def differing(files):
     ]
 
 
+def is_check_only():
+    """What the command line asks for; a word that it does not know ends the program with status 2."""
+    parser = argparse.ArgumentParser(description=__doc__.splitlines()[0], allow_abbrev=False)
+    only = "write nothing; fail if one of the files, or a .bill file, differs"
+    parser.add_argument("--check", action="store_true", help=only)
+    return parser.parse_args().check
+
+
 def main():
+    check_only = is_check_only()
     streams = {"day": day(), "closed": closed()}
     lacking = missing(streams["day"], streams["closed"])
     files = {"servers.roster": roster()}
@@ -387,7 +397,7 @@ def main():
     }
     for name, stream in streams.items():
         show(name, stream)
-    if "--check" not in sys.argv[1:]:
+    if not check_only:
         for name, content in files.items():
             (HERE / name).write_bytes(content)
     wrong = lacking + differing(files | bills)

@@ -1,78 +1,88 @@
-//! A million Pings and a hundred thousand exports in chunks of 4,096 bytes, the registry full,
-//! through the compiled call and the reference's. Both judge all five refusals on every call.
+//! Requests in chunks of 4,096 bytes through the compiled call and through the reference's. Both judge
+//! all five refusals on every call.
 
-use crate::registries::{application_name, key_name, registry, unlike};
+use crate::registries::Registry;
+use crate::rows::{digest, Row, Turn, EACH_TURN};
 use razidkot::{raw, Counters};
 use razidkot_tests::ask::{name_body, request, EXPORT, PING};
-use razidkot_tests::layout::Place;
 use reference::{CONNECTION_SIZE, MIN_RESPONSE_BUFFER};
 use std::hint::black_box;
-use std::time::{Duration, Instant};
+use std::rc::Rc;
+use std::time::Instant;
 
-const PINGS: usize = 1_000_000;
-const EXPORTS: usize = 100_000;
 const CHUNK: usize = 4_096;
-/// The two take turns, so that a slow moment of the machine is not one program's alone.
-const TURNS: usize = 20;
+/// A turn sends a stream of a tenth of its requests, and that ten times.
+const STREAMS: usize = 10;
 
-pub fn run() {
-    println!(
-        "seconds, in chunks of {CHUNK} bytes, the registry full; in brackets proved / reference"
-    );
-    let ping = request(PING, None, &[]);
-    measure(PINGS, "Pings", &[ping]);
-    let exports: Vec<_> = Place::all().map(export).collect();
-    measure(EXPORTS, "exports", &exports);
+pub fn pings(registry: Registry) -> Row {
+    row("Pings", registry, &[request(PING, None, &[])])
 }
 
-fn export(place: Place) -> Vec<u8> {
-    let application = application_name(&unlike, place.line);
-    let key = key_name(&unlike, place.line, place.slot);
-    request(EXPORT, Some(&application), &name_body(&key))
-}
-
-/// Sends so many of these requests, one after another, to both.
-fn measure(count: usize, title: &str, requests: &[Vec<u8>]) {
-    let stream: Vec<u8> = requests
-        .iter()
-        .cycle()
-        .take(count)
-        .flatten()
-        .copied()
+/// Of each key in turn, by its application.
+pub fn exports(registry: Registry) -> Row {
+    let exports: Vec<_> = registry
+        .places()
+        .map(|(line, slot)| {
+            let body = name_body(&registry.key_name(line, slot));
+            request(EXPORT, Some(&registry.application_name(line)), &body)
+        })
         .collect();
-    let (mut proved, mut second) = (Proved::new(), Reference::new());
-    let mut times = [Duration::ZERO; 2];
-    let parts = stream.chunks(stream.len().div_ceil(TURNS).next_multiple_of(CHUNK));
-    for (turn, part) in parts.enumerate() {
-        // Whoever comes second finds the part in the cache.
-        let proved_first = turn % 2 == 0;
-        for is_proved in [proved_first, !proved_first] {
-            if is_proved {
-                times[0] += time(part, |chunk| proved.call(chunk));
-            } else {
-                times[1] += time(part, |chunk| second.call(chunk));
-            }
-        }
+    row("exports", registry, &exports)
+}
+
+/// So many Pings, by the compiled call alone.
+pub fn make_pings(registry: Registry, count: usize) {
+    let mut service = Proved::new(&registry.bytes());
+    send(&mut service, &stream(&[request(PING, None, &[])], count));
+    assert_eq!(service.served(), count as u64, "all requests are served");
+}
+
+fn row(operations: &str, registry: Registry, requests: &[Vec<u8>]) -> Row {
+    let bytes = registry.bytes();
+    let stream: Rc<[u8]> = stream(requests, EACH_TURN / STREAMS).into();
+    Row {
+        name: format!("{operations}, {}", registry.title),
+        digest: digest(&[&bytes, &stream]),
+        programs: vec![
+            ("proved", turn(Proved::new(&bytes), Rc::clone(&stream))),
+            ("reference", turn(Reference::new(&bytes), stream)),
+        ],
     }
-    assert_eq!(proved.served(), count as u64, "all requests are served");
-    assert_eq!(second.served(), count as u64, "all requests are served");
-    let [proved, second] = times.map(|time| time.as_secs_f64());
-    println!(
-        "{count:9} {title:8} proved {proved:7.3}  reference {second:7.3} ({:.2})",
-        proved / second
-    );
+}
+
+fn stream(requests: &[Vec<u8>], count: usize) -> Vec<u8> {
+    let requests = requests.iter().cycle().take(count);
+    requests.flatten().copied().collect()
+}
+
+fn turn(mut service: impl Service + 'static, stream: Rc<[u8]>) -> Turn {
+    Box::new(move || {
+        let served = service.served();
+        let start = Instant::now();
+        for _ in 0..STREAMS {
+            send(&mut service, &stream);
+        }
+        let time = start.elapsed();
+        let served = service.served() - served;
+        assert_eq!(served, EACH_TURN as u64, "all requests are served");
+        time
+    })
 }
 
 /// A call answers one request at most, so what is left of a chunk is handed over again.
-fn time(part: &[u8], mut call: impl FnMut(&[u8]) -> usize) -> Duration {
-    let start = Instant::now();
-    for chunk in part.chunks(CHUNK) {
+fn send(service: &mut impl Service, stream: &[u8]) {
+    for chunk in stream.chunks(CHUNK) {
         let mut rest = chunk;
         while !rest.is_empty() {
-            rest = &rest[call(black_box(rest))..];
+            rest = &rest[service.call(black_box(rest))..];
         }
     }
-    start.elapsed()
+}
+
+trait Service {
+    /// How many bytes of the chunk it took.
+    fn call(&mut self, chunk: &[u8]) -> usize;
+    fn served(&self) -> u64;
 }
 
 /// What a caller of the compiled service keeps.
@@ -84,15 +94,17 @@ struct Proved {
 }
 
 impl Proved {
-    fn new() -> Proved {
+    fn new(registry: &[u8]) -> Proved {
         Proved {
             connection: vec![0; CONNECTION_SIZE],
-            registry: registry(&unlike, true),
+            registry: registry.to_vec(),
             counters: Counters::default(),
             response: vec![0; MIN_RESPONSE_BUFFER],
         }
     }
+}
 
+impl Service for Proved {
     fn call(&mut self, chunk: &[u8]) -> usize {
         let answer = raw::call(
             chunk,
@@ -118,15 +130,17 @@ struct Reference {
 }
 
 impl Reference {
-    fn new() -> Reference {
+    fn new(registry: &[u8]) -> Reference {
         Reference {
             connection: vec![0; CONNECTION_SIZE],
-            registry: registry(&unlike, true),
+            registry: registry.to_vec(),
             counters: reference::Counters::default(),
             response: vec![0; MIN_RESPONSE_BUFFER],
         }
     }
+}
 
+impl Service for Reference {
     fn call(&mut self, chunk: &[u8]) -> usize {
         let taken = reference::call(
             chunk,

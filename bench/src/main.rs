@@ -1,12 +1,45 @@
-//! Times the compiled, proved code against the reference in one run, the check of a registry and
-//! then whole calls: cargo run --release -p razidkot-bench
+//! Times the compiled, proved code against the reference in one run: cargo run --release -p
+//! razidkot-bench. The other commands are for the scripts beside this folder.
 
 mod calls;
 mod check;
 mod registries;
+mod rows;
+mod table;
+mod turns;
 
-fn main() {
-    check::run();
-    println!();
-    calls::run();
+use registries::Registry;
+use std::env::args;
+use std::process::ExitCode;
+
+const USAGE: &str = "usage: razidkot-bench
+       razidkot-bench registries                  their titles
+       razidkot-bench pings REGISTRY COUNT        makes so many Pings
+       razidkot-bench checks REGISTRY COUNT       checks registry and connection so many times
+       razidkot-bench turns                       one turn of each row whose name it reads";
+
+fn main() -> ExitCode {
+    match run(&args().skip(1).collect::<Vec<_>>()) {
+        Some(()) => ExitCode::SUCCESS,
+        None => {
+            eprintln!("{USAGE}");
+            ExitCode::from(2)
+        }
+    }
+}
+
+/// `None` for words that it does not know.
+fn run(words: &[String]) -> Option<()> {
+    let words: Vec<_> = words.iter().map(String::as_str).collect();
+    match words[..] {
+        [] => table::print(),
+        ["registries"] => registries::ALL
+            .iter()
+            .for_each(|registry| println!("{}", registry.title)),
+        ["pings", title, count] => calls::make_pings(Registry::titled(title)?, count.parse().ok()?),
+        ["checks", title, count] => check::make(Registry::titled(title)?, count.parse().ok()?),
+        ["turns"] => turns::serve().expect("a reader of the seconds"),
+        _ => return None,
+    }
+    Some(())
 }

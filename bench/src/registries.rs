@@ -6,48 +6,98 @@ use razidkot_tests::generate::{name, Random};
 use razidkot_tests::layout::{Key, LINES, SLOTS};
 use reference::rules;
 
-/// A name of so many bytes, its last one by the number.
-pub type Name<'a> = &'a dyn Fn(usize, usize) -> Vec<u8>;
-
-pub fn unlike(number: usize, length: usize) -> Vec<u8> {
-    name(&mut Random::new(number as u64), number, length)
+/// So many applications, each with so many keys. The names are as long as they may be, and so is the
+/// keys' data.
+#[derive(Clone, Copy)]
+pub struct Registry {
+    pub title: &'static str,
+    applications: usize,
+    keys: usize,
+    /// The names are alike but for their last byte: the most work for whoever compares them.
+    alike: bool,
 }
 
-pub fn alike(number: usize, length: usize) -> Vec<u8> {
-    let mut name = vec![b'n'; length];
-    name[length - 1] = b'A' + number as u8;
-    name
+const fn unlike(title: &'static str, applications: usize, keys: usize) -> Registry {
+    Registry {
+        title,
+        applications,
+        keys,
+        alike: false,
+    }
 }
 
-pub fn application_name(name: Name, line: usize) -> Vec<u8> {
-    name(line, 64)
+const fn alike(title: &'static str, applications: usize, keys: usize) -> Registry {
+    Registry {
+        title,
+        applications,
+        keys,
+        alike: true,
+    }
 }
 
-pub fn key_name(name: Name, line: usize, slot: usize) -> Vec<u8> {
-    name(line * SLOTS + slot, 32)
-}
+pub const FULL: Registry = unlike("full", LINES, SLOTS);
+pub const ONE_KEY: Registry = unlike("one key a line", LINES, 1);
+pub const ALL: [Registry; 6] = [
+    FULL,
+    ONE_KEY,
+    unlike("8 names", 8, 0),
+    unlike("4 names", 4, 0),
+    unlike("1 name", 1, 0),
+    unlike("empty roster", 0, 0),
+];
+pub const ALIKE: [Registry; 2] = [
+    alike("full, names alike", LINES, SLOTS),
+    alike("8 names alike", 8, 0),
+];
 
-/// Eight names of 64 bytes; with keys also 32 keys with names of 32 bytes and data of 600, which may
-/// be exported. Line and slot number the names.
-pub fn registry(name: Name, with_keys: bool) -> Vec<u8> {
-    let names: Vec<_> = (0..LINES)
-        .map(|line| application_name(name, line))
-        .collect();
-    let mut stream = Vec::new();
-    for (line, application) in names.iter().enumerate().filter(|_| with_keys) {
-        for slot in 0..SLOTS {
+impl Registry {
+    pub fn titled(title: &str) -> Option<Registry> {
+        ALL.into_iter()
+            .chain(ALIKE)
+            .find(|registry| registry.title == title)
+    }
+
+    /// Line and slot of each key.
+    pub fn places(self) -> impl Iterator<Item = (usize, usize)> {
+        (0..self.applications).flat_map(move |line| (0..self.keys).map(move |slot| (line, slot)))
+    }
+
+    pub fn application_name(self, line: usize) -> Vec<u8> {
+        self.name(line, 64)
+    }
+
+    pub fn key_name(self, line: usize, slot: usize) -> Vec<u8> {
+        self.name(line * SLOTS + slot, 32)
+    }
+
+    fn name(self, number: usize, length: usize) -> Vec<u8> {
+        if !self.alike {
+            return name(&mut Random::new(number as u64), number, length);
+        }
+        let mut name = vec![b'n'; length];
+        name[length - 1] = b'A' + number as u8;
+        name
+    }
+
+    /// Its bytes; every key may be exported.
+    pub fn bytes(self) -> Vec<u8> {
+        let names: Vec<_> = (0..self.applications)
+            .map(|line| self.application_name(line))
+            .collect();
+        let mut stream = Vec::new();
+        for (line, slot) in self.places() {
             let key = Key {
-                name: key_name(name, line, slot),
+                name: self.key_name(line, slot),
                 data: Random::new((line * SLOTS + slot) as u64).bytes(600),
                 bits: 2_048,
                 export_allowed: true,
                 verify_allowed: false,
             };
-            stream.extend(request(IMPORT, Some(application), &import_body(&key)));
+            stream.extend(request(IMPORT, Some(&names[line]), &import_body(&key)));
         }
+        let outcome = rules::run(&registry_of(&names), &stream);
+        assert_eq!(outcome.counters.refused, [0; 17]);
+        assert!(foreign::registry_is_well_formed(&outcome.registry));
+        outcome.registry
     }
-    let outcome = rules::run(&registry_of(&names), &stream);
-    assert_eq!(outcome.counters.refused, [0; 17]);
-    assert!(foreign::registry_is_well_formed(&outcome.registry));
-    outcome.registry
 }

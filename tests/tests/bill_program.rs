@@ -141,6 +141,19 @@ fn the_worked_examples_are_billed_as_document_01_has_them() {
     assert_eq!(folder.bill(b"", &stream), expected);
 }
 
+/// Two files that are good rosters, and any bytes are a stream: each order has a bill of its own.
+#[test]
+fn the_first_argument_is_the_roster_and_the_second_the_stream() {
+    let folder = folder("order-of-arguments");
+    let [one, two] = [roster_of(&letters(1)), roster_of(&letters(3))];
+    let files = [folder.file("one", &one), folder.file("two", &two)];
+    let straight = bill(Some(&one), Some(&two));
+    let swapped = bill(Some(&two), Some(&one));
+    assert_ne!(straight, swapped);
+    assert_eq!(text(printed(&[&files[0], &files[1]])), text(straight));
+    assert_eq!(text(printed(&[&files[1], &files[0]])), text(swapped));
+}
+
 #[test]
 fn empty_files_are_a_roster_of_none_and_a_stream_of_nothing() {
     let folder = folder("empty");

@@ -27,6 +27,8 @@ use Rattle.connection.specs.declared.change.Opened.{Opened}
 use Rattle.bill.specs.code.Stream.{ReadWithin, KeptWithin, leftBy, Follows, Takes, After}
 use Rattle.bill.specs.declared.files.Input.{Input}
 use Rattle.bill.specs.declared.files.Input.the-variants.{Bytes}
+use Rattle.bill.specs.declared.files.Front.{Front}
+use Rattle.bill.specs.declared.files.Front.the-variants.{Kept}
 
 -- ---- what was read
 
@@ -34,7 +36,7 @@ pub read-bytes : {most n : ℕ} {r : Input} → ReadWithin most r → r ≡ Byte
 unfolding ReadWithin
 read-bytes {most} w e = subst (ReadWithin most) e w
 
-pub kept-bytes : {most n : ℕ} {r : Input} → KeptWithin most r → r ≡ Bytes n → n ≤ most
+pub kept-bytes : {most n : ℕ} {r : Front} → KeptWithin most r → r ≡ Kept n → n ≤ most
 unfolding KeptWithin
 kept-bytes {most} w e = subst (KeptWithin most) e w
 

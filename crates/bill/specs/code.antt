@@ -1,3 +1,4 @@
 pub mod Stream
-pub mod Printed
+pub mod Reads
+pub mod Sources
 pub mod Front

@@ -1,6 +1,7 @@
 // A captured stream run through the call, in chunks.
 use crate::files::Input;
 use crate::files::TURNS;
+use crate::files::is_end;
 use crate::files::read_some;
 use connection::change::open_connection;
 use counters::Counters;
@@ -56,23 +57,14 @@ pub fn take_stream(fd: i32, connection: &mut [u8], registry: &mut [u8]) -> Taken
     let mut counters = zero_counters();
     let mut turns = TURNS;
     while 0 < turns {
-        match read_some(fd, &mut chunk) {
-            Input::Bytes(n) => {
-                counters = feed(&chunk[..n], connection, registry, counters, &mut response);
-            }
-            Input::End => {
-                return Taken {
-                    counters,
-                    is_whole: true,
-                };
-            }
-            Input::Failed => {
-                return Taken {
-                    counters,
-                    is_whole: false,
-                };
-            }
-        }
+        let input = read_some(fd, &mut chunk);
+        let Input::Bytes(n) = input else {
+            return Taken {
+                counters,
+                is_whole: is_end(input),
+            };
+        };
+        counters = feed(&chunk[..n], connection, registry, counters, &mut response);
         turns -= 1;
     }
     Taken {

@@ -11,7 +11,7 @@ use stream::frame::Frame;
 use stream::frame::is_legal_start;
 use stream::frame::is_oversized;
 use stream::frame::read_frame;
-use wire::bytes::all_zero;
+use wire::bytes::all_zero_long;
 use wire::header::header_length;
 use wire::number::read_u16;
 use wire::number::read_u32;
@@ -37,7 +37,7 @@ fn is_zero_from(memory: &[u8], from: usize) -> bool
     requires { ⌜ from ≤ length (now memory) ⌝ }
     ensures { λ r. ⌜ r ≡ all isZero (drop from (now (memory .entry))) ⌝ }
 {
-    all_zero(&memory[from..])
+    all_zero_long(&memory[from..], from)
 }
 
 // Whether bytes are the beginning of a request that an open connection may hold.

@@ -16,9 +16,8 @@ use Rattle.wire.specs.declared.response.ResponseHeader.{ResponseHeader}
 use Rattle.wire.proofs.TestLaws.{either}
 use Rattle.wire.proofs.ResponseLaws.{response-long, response-magic, response-size, response-body, response-back}
 use Rattle.messages.specs.Protobuf.{protobuf}
-use Rattle.messages.specs.Operations.{Operation, ping, listProviders, listOpcodes, importKey, destroyKey, exportPublicKey, opcodeOf, providerOf, Output, nothing, outputBytes, outputOf}
+use Rattle.messages.specs.Operations.{Operation, ping, listProviders, listOpcodes, importKey, destroyKey, exportPublicKey, opcodeOf, providerOf, Output, nothing, outputBytes, outputOf, Answers, messageOf}
 use Rattle.messages.specs.Message.{AllFit}
-use Rattle.messages.specs.Operations.{Answers, messageOf}
 use Rattle.messages.proofs.OperationLaws.{nothing-bytes, answered-back}
 use Rattle.judgement.specs.Status.{statusNumber}
 use Rattle.judgement.specs.Operations.{Result}

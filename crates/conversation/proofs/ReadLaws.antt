@@ -126,8 +126,8 @@ module _ (asked : Asked) where
       let l′ = length-append s (b ∷ []) in
       let n : found asked (s ++ (b ∷ [])) ≡ none = quiet (s ++ (b ∷ [])) (c ∷ t) same (omega arith) in
       let ih = reads-up (c ∷ t) (s ++ (b ∷ [])) y rest (omega arith)
-          (λ u v p k. quiet u v (p ∙ same) (subst (λ (x : List ℕ). length u < length x) same k))
-          (ap (found asked) same ∙ e) in
+      (λ u v p k. quiet u v (p ∙ same) (subst (λ (x : List ℕ). length u < length x) same k))
+      (ap (found asked) same ∙ e) in
       quiet-byte s b ((c ∷ t) ++ rest) z n ∙ ap oneMore ih ∙ (λ i. record { taken = suc (length (c ∷ t)); events = y ∷ []; kept = same i })
 
 -- A RESPONSE AND WHATEVER FOLLOWS IT: the response is taken and kept, and what it is read as is the one event

@@ -2,6 +2,7 @@ pub mod NameLaws
 pub mod SlotLaws
 pub mod RegistryLaws
 pub mod WellFormedLaws
+pub mod FreeLaws
 pub mod KeylessLaws
 pub mod ChangeLaws
 pub mod BlockNameLaws

@@ -12,21 +12,41 @@ use crate::slots::is_slot;
 use keys::APPLICATION_NAME_MOST;
 use keys::names::is_legal;
 use wire::bytes::all_zero;
+use wire::bytes::all_zero_long;
 ghost use mathlib.Core.Path.{_≡_};
+ghost use mathlib.Core.Bool.{true};
 ghost use Prim.Native.Nat.{_≤_};
-ghost use lib.ListN.{length};
+ghost use lib.ListN.{length, drop};
 ghost use Rattle.wire.specs.Lists.{all, blocks};
-ghost use Rattle.registry.specs.Registry.{lineCount, lineSize, registrySize};
+ghost use Rattle.registry.specs.Slots.{slotSize, wellFormedSlot};
+ghost use Rattle.registry.specs.Registry.{lineCount, slotCount, lineHead, lineSize, registrySize, slotsIn};
 ghost use Rattle.registry.specs.WellFormed.{slotsWellFormed, wellFormedRegistry};
-ghost use Rattle.registry.specs.code.Check.{wellFormedLine};
+ghost use Rattle.registry.specs.code.Check.{isFree, wellFormedLine};
 
-// Whether the slots of a line are well formed.
-fn are_slots(line: &[u8]) -> bool
+// From which slot of a line on all are free.
+fn free_from(line: &[u8]) -> usize
     requires { ⌜ length (now line) ≡ lineSize ⌝ }
-    ensures { λ r. ⌜ r ≡ slotsWellFormed (now (line .entry)) ⌝ }
+    ensures { λ r. ⌜ (r ≤ slotCount) × (all isFree (drop r (slotsIn (now (line .entry)))) ≡ true) ⌝ }
+{
+    let mut n = SLOTS;
+    while 0 < n {
+        let last = n - 1;
+        let a = LINE_HEAD + last * SLOT_SIZE;
+        if line[a] != 0 {
+            return n;
+        }
+        n = last;
+    }
+    n
+}
+
+// Whether the first n slots of a line are well formed.
+fn are_slots(line: &[u8], n: usize) -> bool
+    requires { ⌜ (length (now line) ≡ lineSize) × (n ≤ slotCount) ⌝ }
+    ensures { λ r. ⌜ r ≡ all wellFormedSlot (blocks n slotSize (drop lineHead (now (line .entry)))) ⌝ }
 {
     let mut i = 0;
-    while i < SLOTS {
+    while i < n {
         let a = LINE_HEAD + i * SLOT_SIZE;
         let e = a + SLOT_SIZE;
         if !is_slot(&line[a..e]) {
@@ -37,8 +57,21 @@ fn are_slots(line: &[u8]) -> bool
     true
 }
 
-// Whether the bytes of a used line are well formed.
-fn is_line(line: &[u8]) -> bool
+// Whether all slots of a line are well formed, those from n on being free: their bytes are tested as one part. The line
+// begins `at` bytes behind a multiple of 16, for speed alone.
+fn are_all_slots(line: &[u8], n: usize, at: usize) -> bool
+    requires { ⌜ (length (now line) ≡ lineSize) × (n ≤ slotCount) × (all isFree (drop n (slotsIn (now line))) ≡ true) ⌝ }
+    ensures { λ r. ⌜ r ≡ slotsWellFormed (now (line .entry)) ⌝ }
+{
+    if !are_slots(line, n) {
+        return false;
+    }
+    let a = LINE_HEAD + n * SLOT_SIZE;
+    all_zero_long(&line[a..], at % 16 + a)
+}
+
+// Whether the bytes of a used line are well formed; `at` as above.
+fn is_line(line: &[u8], at: usize) -> bool
     requires { ⌜ length (now line) ≡ lineSize ⌝ }
     ensures { λ r. ⌜ r ≡ wellFormedLine (now (line .entry)) ⌝ }
 {
@@ -50,8 +83,13 @@ fn is_line(line: &[u8]) -> bool
     if !all_zero(&line[e..LINE_HEAD]) {
         return false;
     }
-    if !are_slots(line) {
+    let free = free_from(line);
+    if !are_all_slots(line, free, at) {
         return false;
+    }
+    // At most one slot has a name.
+    if free < 2 {
+        return true;
     }
     are_distinct(line, LINE_HEAD, SLOT_SIZE, SLOTS)
 }
@@ -65,7 +103,7 @@ fn are_lines(registry: &[u8], n: usize) -> bool
     while i < n {
         let a = i * LINE_SIZE;
         let e = a + LINE_SIZE;
-        if !is_line(&registry[a..e]) {
+        if !is_line(&registry[a..e], a) {
             return false;
         }
         i += 1;
@@ -83,7 +121,7 @@ pub fn is_well_formed(registry: &[u8]) -> bool
     // The empty name: an unused line.
     let n = scan(registry, 0, LINE_SIZE, LINES, 0, &registry[..0]);
     let a = n * LINE_SIZE;
-    if !all_zero(&registry[a..]) {
+    if !all_zero_long(&registry[a..], a) {
         return false;
     }
     if !are_lines(registry, n) {

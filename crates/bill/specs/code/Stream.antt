@@ -11,6 +11,8 @@ use Rattle.counters.specs.Counters.{counterMost}
 use Rattle.service.specs.Call.{Memory, memoryOf, chunkMost}
 use Rattle.bill.specs.declared.files.Input.{Input}
 use Rattle.bill.specs.declared.files.Input.the-variants.{Bytes, End, Failed}
+use Rattle.bill.specs.declared.files.Front.{Front}
+use Rattle.bill.specs.declared.files.Front.the-variants.{Kept, Unreadable}
 
 -- what reading into a buffer of so many bytes gives: some of them, or none
 unfoldable pub ReadWithin : (most : ℕ) → Input → Type 0
@@ -19,10 +21,9 @@ ReadWithin most End = Unit {0}
 ReadWithin most Failed = Unit {0}
 
 -- how much of a file was kept
-unfoldable pub KeptWithin : (most : ℕ) → Input → Type 0
-KeptWithin most (Bytes n) = n ≤ most
-KeptWithin most End = Unit {0}
-KeptWithin most Failed = Unit {0}
+unfoldable pub KeptWithin : (most : ℕ) → Front → Type 0
+KeptWithin most (Kept n) = n ≤ most
+KeptWithin most Unreadable = Unit {0}
 
 -- so many chunks have at most as many bytes as a counter may count
 abbrev pub turnsMost : ℕ

@@ -3,7 +3,8 @@ use Prim.Native.Nat.{ℕ}
 use mathlib.Core.Bool.{Bool, false}
 use mathlib.Core.Option.{Option, none, some}
 use mathlib.Core.List.{List, [], _∷_, map}
-use lib.ListN.{drop}
+use lib.ListN.{getD, drop}
+use lib.Dec.{eqb}
 use Rattle.wire.specs.Lists.{every, blocks}
 use Rattle.keys.specs.Names.{legalName, applicationNameMost}
 use Rattle.registry.specs.Names.{nameIn, indexFrom}
@@ -18,6 +19,10 @@ use Rattle.registry.specs.declared.Application.the-variants.{Named, Unkn
 -- the names of `count` blocks of `size` bytes behind `head` bytes
 unfoldable pub blockNames : (head size count : ℕ) → List ℕ → List (List ℕ)
 blockNames head size count s = map nameIn (blocks count size (drop head s))
+
+-- a slot without a name is free
+abbrev pub isFree : (slot : List ℕ) → Bool
+isFree slot = eqb (getD slot 0 0) 0
 
 -- a used line: a legal name, unused bytes zero, well-formed slots, and no key's name twice
 abbrev pub lineTests : (line : List ℕ) → List Bool

@@ -52,12 +52,26 @@ slice-aggregate-read-some c = search needs
 read-some-requires : tie.Need-read-some-requires Inv-loop μ-loop
 read-some-requires c κs = search needs
 
-enum-known-n : tie.Need-enum-known-n Inv-loop μ-loop
-enum-known-n c = search needs
+enum-known-input : tie.Need-enum-known-input Inv-loop μ-loop
+enum-known-input c = search needs
+
+is-end-requires : tie.Need-is-end-requires Inv-loop μ-loop
+is-end-requires c κs = search needs
+
+same-length : tie.Need-same-length Inv-loop μ-loop
+same-length c = search needs
+
+same-length-2 : tie.Need-same-length-2 Inv-loop μ-loop
+same-length-2 c = search needs
+
+returns : tie.Need-returns Inv-loop μ-loop
+returns c =
+    let l = c .before .before .before .before .before .before .loop in
+    after-most _ (c .before .before .before .before .before .before .before .before .before .before .before .before .before .before .before .before .pre .1) _ _ (l .inv .0) counterMost (omega arith)
 
 -- what was read is the front of the buffer
 read : (c : tie.After-known-told Inv-loop μ-loop)
-    → (let n = c .before .n .given .0 .0 in
+    → (let n = c .before .input .given .0 .0 in
     let chunk = c .before .before .before .before .read-some .last .1 .0 in
     (n ≤ chunkMost) × (length chunk ≡ chunkMost) × (length (take n chunk) ≡ n))
 read c =
@@ -65,7 +79,7 @@ read c =
     let l = r .before .before .before .loop in
     let same = r .read-some .kept .1 .0 in
     let long = l .inv .4 in
-    let (some, most) = read-bytes (r .read-some .ensures) (c .before .n .given .1) in
+    let (some, most) = read-bytes (r .read-some .ensures) (c .before .input .given .1) in
     (omega (arith, most, long), same ∙ long, length-take-le _ (r .read-some .last .1 .0) (omega (arith, most, same)))
 
 array-share-prefix-chunk : tie.Need-array-share-prefix-chunk Inv-loop μ-loop
@@ -83,34 +97,6 @@ feed-requires c κs =
     let l = c .before .before .before .before .before .before .before .before .before .before .before .loop in
     let start = c .before .before .before .before .before .before .before .before .before .before .before .before .before .before .before .before .before .before .before .before .before in
     (omega (arith, few, size), omega (arith, l .inv .5), follows _ (start .pre .1) _ _ (l .inv .0) _ (omega (arith, few, size, l .inv .1)))
-
-enum-told : tie.Need-enum-told Inv-loop μ-loop
-enum-told c = search needs
-
-same-length : tie.Need-same-length Inv-loop μ-loop
-same-length c = search needs
-
-same-length-2 : tie.Need-same-length-2 Inv-loop μ-loop
-same-length-2 c = search needs
-
-returns : tie.Need-returns Inv-loop μ-loop
-returns c =
-    let l = c .before .before .before .before .before .before .loop in
-    after-most _ (c .before .before .before .before .before .before .before .before .before .before .before .before .before .before .before .before .pre .1) _ _ (l .inv .0) counterMost (omega arith)
-
-enum-told-2 : tie.Need-enum-told-2 Inv-loop μ-loop
-enum-told-2 c = search needs
-
-same-length-3 : tie.Need-same-length-3 Inv-loop μ-loop
-same-length-3 c = search needs
-
-same-length-4 : tie.Need-same-length-4 Inv-loop μ-loop
-same-length-4 c = search needs
-
-returns-2 : tie.Need-returns-2 Inv-loop μ-loop
-returns-2 c =
-    let l = c .before .before .before .before .before .before .loop in
-    after-most _ (c .before .before .before .before .before .before .before .before .before .before .before .before .before .before .before .before .pre .1) _ _ (l .inv .0) counterMost (omega arith)
 
 sub-turns : tie.Need-sub-turns Inv-loop μ-loop
 sub-turns c = omega arith
@@ -133,14 +119,14 @@ loop-again c =
       t .feed .kept .1 .1 .1 .1 .0 ∙ room,
     )
 
-same-length-5 : tie.Need-same-length-5 Inv-loop μ-loop
-same-length-5 c = search needs
+same-length-3 : tie.Need-same-length-3 Inv-loop μ-loop
+same-length-3 c = search needs
 
-same-length-6 : tie.Need-same-length-6 Inv-loop μ-loop
-same-length-6 c = search needs
+same-length-4 : tie.Need-same-length-4 Inv-loop μ-loop
+same-length-4 c = search needs
 
-returns-3 : tie.Need-returns-3 Inv-loop μ-loop
-returns-3 c =
+returns-2 : tie.Need-returns-2 Inv-loop μ-loop
+returns-2 c =
     let l = c .before .loop in
     after-most _ (c .before .before .before .before .before .before .before .before .before .before .before .pre .1) _ _ (l .inv .0) counterMost (omega arith)
 
@@ -157,22 +143,18 @@ take-stream-spec =
     loop-holds
     slice-aggregate-read-some
     read-some-requires
-    enum-known-n
+    enum-known-input
+    is-end-requires
+    same-length
+    same-length-2
+    returns
     array-share-prefix-chunk
     slice-aggregate-feed
     slice-aggregate-feed-2
     feed-requires
-    enum-told
-    same-length
-    same-length-2
-    returns
-    enum-told-2
-    same-length-3
-    same-length-4
-    returns-2
     sub-turns
     loop-less
     loop-again
-    same-length-5
-    same-length-6
-    returns-3)
+    same-length-3
+    same-length-4
+    returns-2)

@@ -6,8 +6,8 @@ use borrow.Author.Needs.{needs}
 use lib.ListN.{length, length-drop}
 use borrow.Rule.Slice.PartMut.{putMid, same-len-mid}
 use Rattle.wire.proofs.BufferLaws.{lent}
+use Rattle.bill.proofs.ReadLaws.{front-within}
 use Rattle.bill.proofs.FeedLaws.{read-bytes}
-use Rattle.bill.specs.code.Stream.{KeptWithin}
 use Rattle.bill.proofs.files.read_front.Statement.{statement}
 use Rattle.bill.proofs.files.read_front.Tie as tie
 
@@ -32,15 +32,15 @@ part-read-some-end c = search needs
 read-some-requires : tie.Need-read-some-requires Inv-loop μ-loop
 read-some-requires c κs = search needs
 
-enum-known-more : tie.Need-enum-known-more Inv-loop μ-loop
-enum-known-more c = search needs
+enum-known-input : tie.Need-enum-known-input Inv-loop μ-loop
+enum-known-input c = search needs
 
 -- a byte at least was read, and no more than there is room for
 fits : (c : tie.After-known-told Inv-loop μ-loop)
-    → (let l = c .before .before .before .before .before .before .before .before .loop in (1 ≤ c .before .more .given .0 .0) × (l .size + c .before .more .given .0 .0 ≤ length (l .front)))
+    → (let l = c .before .before .before .before .before .before .before .before .loop in (1 ≤ c .before .input .given .0 .0) × (l .size + c .before .input .given .0 .0 ≤ length (l .front)))
 fits c =
     let l = c .before .before .before .before .before .before .before .before .loop in
-    let (some, most) = read-bytes (c .before .before .before .before .before .read-some .ensures) (c .before .more .given .1) in
+    let (some, most) = read-bytes (c .before .before .before .before .before .read-some .ensures) (c .before .input .given .1) in
     (some, omega (arith, most, ap length (lent (l .size) (l .front)), length-drop (l .size) (l .front)))
 
 -- what is lent on for reading keeps its length
@@ -58,42 +58,33 @@ loop-less c = omega (arith, long c, fits c .0, fits c .1)
 loop-again : tie.Need-loop-again Inv-loop μ-loop
 loop-again c = (omega (arith, long c, fits c .1), long c ∙ c .before .before .before .before .before .before .before .before .loop .inv .1)
 
-enum-told : tie.Need-enum-told Inv-loop μ-loop
-enum-told c = search needs
+is-end-requires : tie.Need-is-end-requires Inv-loop μ-loop
+is-end-requires c κs = search needs
+
+front-of-requires : tie.Need-front-of-requires Inv-loop μ-loop
+front-of-requires c κs = search needs
 
 same-length : tie.Need-same-length Inv-loop μ-loop
 same-length c = search needs
 
 returns : tie.Need-returns Inv-loop μ-loop
-unfolding KeptWithin
-returns c = omega arith
+returns c =
+    let l = c .before .before .before .before .before .before .before .before .loop in
+    front-within _ (l .size) _ _ (omega (arith, l .inv .0, l .inv .1)) (c .front-of .ensures)
 
-enum-told-2 : tie.Need-enum-told-2 Inv-loop μ-loop
-enum-told-2 c = search needs
+read-rest-requires : tie.Need-read-rest-requires Inv-loop μ-loop
+read-rest-requires c κs = search needs
+
+front-of-requires-2 : tie.Need-front-of-requires-2 Inv-loop μ-loop
+front-of-requires-2 c κs = search needs
 
 same-length-2 : tie.Need-same-length-2 Inv-loop μ-loop
 same-length-2 c = search needs
 
 returns-2 : tie.Need-returns-2 Inv-loop μ-loop
-unfolding KeptWithin
-returns-2 c = tt
-
-read-rest-requires : tie.Need-read-rest-requires Inv-loop μ-loop
-read-rest-requires c κs = search needs
-
-same-length-3 : tie.Need-same-length-3 Inv-loop μ-loop
-same-length-3 c = search needs
-
-returns-3 : tie.Need-returns-3 Inv-loop μ-loop
-unfolding KeptWithin
-returns-3 c = omega arith
-
-same-length-4 : tie.Need-same-length-4 Inv-loop μ-loop
-same-length-4 c = search needs
-
-returns-4 : tie.Need-returns-4 Inv-loop μ-loop
-unfolding KeptWithin
-returns-4 c = tt
+returns-2 c =
+    let l = c .before .before .before .loop in
+    front-within _ (l .size) _ _ (omega (arith, l .inv .0, l .inv .1)) (c .front-of2 .ensures)
 
 pub read-front-spec : {M : Type 1} → statement M
 read-front-spec =
@@ -106,18 +97,15 @@ read-front-spec =
     part-read-some-start
     part-read-some-end
     read-some-requires
-    enum-known-more
+    enum-known-input
+    is-end-requires
+    front-of-requires
+    same-length
+    returns
     add-size
     loop-less
     loop-again
-    enum-told
-    same-length
-    returns
-    enum-told-2
-    same-length-2
-    returns-2
     read-rest-requires
-    same-length-3
-    returns-3
-    same-length-4
-    returns-4)
+    front-of-requires-2
+    same-length-2
+    returns-2)

@@ -2,7 +2,7 @@
 use Rattle.wire.specs.Lists.{all, blocks}
 use Rattle.wire.proofs.BlockLaws.{blocks-pass, blocks-fail, blocks-end}
 use Rattle.registry.specs.Slots.{slotSize, wellFormedSlot}
-use Rattle.registry.specs.Registry.{slotCount, lineHead}
+use Rattle.registry.specs.Registry.{lineHead}
 use lib.Seq.{drop-drop}
 use mathlib.Core.Path.{_≡_, refl, sym, ap, _∙_}
 use mathlib.Core.List.{List}
@@ -15,11 +15,10 @@ use Rattle.registry.proofs.check.are_slots.Statement.{statement}
 use Rattle.registry.proofs.check.are_slots.Tie as tie
 
 abbrev Inv-loop : tie.InvT-loop
-Inv-loop line i₀ i =
-    (i ≤ slotCount) × (all wellFormedSlot (blocks slotCount slotSize (drop lineHead line)) ≡ all wellFormedSlot (drop i (blocks slotCount slotSize (drop lineHead line))))
+Inv-loop line n i₀ i = (i ≤ n) × (all wellFormedSlot (blocks n slotSize (drop lineHead line)) ≡ all wellFormedSlot (drop i (blocks n slotSize (drop lineHead line))))
 
 abbrev μ-loop : tie.MeasureT-loop
-μ-loop line i₀ i = slotCount - i
+μ-loop line n i₀ i = n - i
 
 abbrev After-is-slot : Type 0
 After-is-slot = tie.After-is-slot Inv-loop μ-loop
@@ -68,7 +67,7 @@ is-slot-requires c κs = search needs
 returns : tie.Need-returns Inv-loop μ-loop
 returns c =
     let w = c .before in
-    sym (w .before .before .before .loop .inv .1 ∙ blocks-fail wellFormedSlot slotSize slotCount (slots w) (i w) (w .before .before .loop-test .taken) (sym (tested w) ∙ not-true _ (c .if1 .taken)))
+    sym (w .before .before .before .loop .inv .1 ∙ blocks-fail wellFormedSlot slotSize (start w .args .n) (slots w) (i w) (w .before .before .loop-test .taken) (sym (tested w) ∙ not-true _ (c .if1 .taken)))
 
 add-i : tie.Need-add-i Inv-loop μ-loop
 add-i c = search needs
@@ -79,10 +78,12 @@ loop-less c = search needs
 loop-again : tie.Need-loop-again Inv-loop μ-loop
 loop-again c =
     let w = c .before in
-    (search needs, w .before .before .before .loop .inv .1 ∙ blocks-pass wellFormedSlot slotSize slotCount (slots w) (i w) (w .before .before .loop-test .taken) (sym (tested w) ∙ not-false _ (c .if1 .left)))
+    (search needs, w .before .before .before .loop .inv .1 ∙ blocks-pass wellFormedSlot slotSize (start w .args .n) (slots w) (i w) (w .before .before .loop-test .taken) (sym (tested w) ∙ not-false _ (c .if1 .left)))
 
 returns-2 : tie.Need-returns-2 Inv-loop μ-loop
-returns-2 c = sym (c .before .loop .inv .1 ∙ blocks-end wellFormedSlot slotSize slotCount (drop lineHead (c .before .before .before .args .line .now)) (c .before .loop .i) (c .loop-test .left))
+returns-2 c =
+    let a = c .before .before .before .args in
+    sym (c .before .loop .inv .1 ∙ blocks-end wellFormedSlot slotSize (a .n) (drop lineHead (a .line .now)) (c .before .loop .i) (c .loop-test .left))
 
 pub are-slots-spec : {M : Type 1} → statement M
 are-slots-spec =

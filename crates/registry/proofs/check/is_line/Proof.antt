@@ -9,10 +9,11 @@ use lib.ListN.{length, take, drop, getD, length-take, length-drop}
 use Rattle.wire.specs.Lists.{all, every, isZero}
 use Rattle.keys.specs.Names.{legalName, applicationNameMost}
 use Rattle.registry.specs.Names.{nameIn}
-use Rattle.registry.specs.Registry.{lineHead}
+use Rattle.registry.specs.Registry.{lineHead, slotsIn}
 use Rattle.registry.specs.WellFormed.{zerosBehindName}
 use Rattle.registry.specs.code.Check.{blockNames, lineTests, wellFormedLine}
 use Rattle.keys.proofs.NameLaws.{legal-short}
+use Rattle.registry.proofs.FreeLaws.{distinct-free-from}
 use borrow.Author.Needs.{needs}
 use Rattle.registry.proofs.check.is_line.Statement.{statement}
 use Rattle.registry.proofs.check.is_line.Tie as tie
@@ -24,7 +25,7 @@ abbrev start2 : tie.Else2 → tie.Start
 start2 c = start1 (c .before .before .before)
 
 abbrev start3 : tie.Else3 → tie.Start
-start3 c = start2 (c .before .before)
+start3 c = start2 (c .before .before .before)
 
 abbrev bytes : tie.Start → List ℕ
 bytes c = c .args .line .now
@@ -66,7 +67,7 @@ rest2 : (c : tie.Else2) → wellFormedLine (bytes (start2 c)) ≡ every (drop 2 
 rest2 c = rest1 (c .before .before .before) ∙ rw (sym (behind-name (c .before)) ∙ not-false _ (c .if2 .left))
 
 rest3 : (c : tie.Else3) → wellFormedLine (bytes (start3 c)) ≡ every (drop 3 (lineTests (bytes (start3 c))))
-rest3 c = rest2 (c .before .before) ∙ rw (sym (c .before .are-slots .ensures) ∙ not-false _ (c .if3 .left))
+rest3 c = rest2 (c .before .before .before) ∙ rw (sym (c .before .are-all-slots .ensures) ∙ not-false _ (c .if3 .left))
 
 shared-slice-read-wide : tie.Need-shared-slice-read-wide
 shared-slice-read-wide c = search needs
@@ -108,18 +109,26 @@ all-zero-requires c κs = search needs
 returns-2 : tie.Need-returns-2
 returns-2 c = sym (rest1 (c .before .before .before) ∙ rw (sym (behind-name (c .before)) ∙ not-true _ (c .if2 .taken)))
 
-are-slots-requires : tie.Need-are-slots-requires
-are-slots-requires c κs = search needs
+free-from-requires : tie.Need-free-from-requires
+free-from-requires c κs = search needs
+
+are-all-slots-requires : tie.Need-are-all-slots-requires
+are-all-slots-requires c κs = (start2 (c .before) .pre, c .free-from .ensures .0, c .free-from .ensures .1)
 
 returns-3 : tie.Need-returns-3
-returns-3 c = sym (rest2 (c .before .before) ∙ rw (sym (c .before .are-slots .ensures) ∙ not-true _ (c .if3 .taken)))
+returns-3 c = sym (rest2 (c .before .before .before) ∙ rw (sym (c .before .are-all-slots .ensures) ∙ not-true _ (c .if3 .taken)))
+
+returns-4 : tie.Need-returns-4
+returns-4 c =
+    let f = c .before .before .before .free-from in
+    sym (rest3 (c .before) ∙ rw (distinct-free-from (slotsIn (bytes (start3 (c .before)))) (f .result) (c .if4 .taken) (f .ensures .1)))
 
 are-distinct-requires : tie.Need-are-distinct-requires
 are-distinct-requires c κs = search needs
 
-returns-4 : tie.Need-returns-4
+returns-5 : tie.Need-returns-5
 unfolding blockNames
-returns-4 c = c .are-distinct .ensures ∙ sym (rest3 (c .before) ∙ and-true _)
+returns-5 c = c .are-distinct .ensures ∙ sym (rest3 (c .before .before) ∙ and-true _)
 
 pub is-line-spec : {M : Type 1} → statement M
 is-line-spec =
@@ -138,7 +147,9 @@ is-line-spec =
     part-all-zero-end
     all-zero-requires
     returns-2
-    are-slots-requires
+    free-from-requires
+    are-all-slots-requires
     returns-3
+    returns-4
     are-distinct-requires
-    returns-4)
+    returns-5)

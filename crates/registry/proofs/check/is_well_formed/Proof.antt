@@ -36,13 +36,13 @@ few c = omega (arith, used c, used-few (bytes (start c)))
 rest1 : (c : tie.Else1) → wellFormedRegistry (bytes (start1 c)) ≡ every (drop 1 (registryChecks (bytes (start1 c))))
 rest1 c = same-test (bytes (start1 c)) ∙ rw (eq-eqb (length (bytes (start1 c))) registrySize (c .if1 .left))
 
-zeros : (c : tie.After-all-zero) → let b = bytes (start (c .before .before)) in c .all-zero .result ≡ all isZero (drop (usedLines b * lineSize) b)
+zeros : (c : tie.After-all-zero-long) → let b = bytes (start (c .before .before)) in c .all-zero-long .result ≡ all isZero (drop (usedLines b * lineSize) b)
 zeros c =
     let w = c .before .before in
     let b = bytes (start w) in
     let a : ℕ = w .scan .result * lineSize in
     let short : length (drop a b) ≤ length b - a = rw length-drop (omega arith) in
-    c .all-zero .ensures ∙ ap (all isZero) (take-all (length b - a) (drop a b) short) ∙ ap (λ (n : ℕ). all isZero (drop (n * lineSize) b)) (used w)
+    c .all-zero-long .ensures ∙ ap (all isZero) (take-all (length b - a) (drop a b) short) ∙ ap (λ (n : ℕ). all isZero (drop (n * lineSize) b)) (used w)
 
 rest2 : (c : tie.Else2) → let b = bytes (start (c .before .before .before)) in wellFormedRegistry b ≡ every (drop 2 (registryChecks b))
 rest2 c = rest1 (c .before .before .before .before .before) ∙ rw (sym (zeros (c .before)) ∙ not-false _ (c .if2 .left))
@@ -64,17 +64,17 @@ scan-requires c κs = search needs
 mul-a : tie.Need-mul-a
 mul-a c = omega (arith, few c)
 
-sub-all-zero : tie.Need-sub-all-zero
-sub-all-zero c = omega (arith, few c, c .before .before .if1 .left)
+sub-all-zero-long : tie.Need-sub-all-zero-long
+sub-all-zero-long c = omega (arith, few c, c .before .before .if1 .left)
 
-part-all-zero-start : tie.Need-part-all-zero-start
-part-all-zero-start c = omega (arith, few c, c .before .before .if1 .left)
+part-all-zero-long-start : tie.Need-part-all-zero-long-start
+part-all-zero-long-start c = omega (arith, few c, c .before .before .if1 .left)
 
-part-all-zero-end : tie.Need-part-all-zero-end
-part-all-zero-end c = search needs
+part-all-zero-long-end : tie.Need-part-all-zero-long-end
+part-all-zero-long-end c = search needs
 
-all-zero-requires : tie.Need-all-zero-requires
-all-zero-requires c κs = search needs
+all-zero-long-requires : tie.Need-all-zero-long-requires
+all-zero-long-requires c κs = search needs
 
 returns-2 : tie.Need-returns-2
 returns-2 c = sym (rest1 (c .before .before .before .before .before) ∙ rw (sym (zeros (c .before)) ∙ not-true _ (c .if2 .taken)))
@@ -100,10 +100,10 @@ is-well-formed-spec =
     slice-aggregate-scan
     scan-requires
     mul-a
-    sub-all-zero
-    part-all-zero-start
-    part-all-zero-end
-    all-zero-requires
+    sub-all-zero-long
+    part-all-zero-long-start
+    part-all-zero-long-end
+    all-zero-long-requires
     returns-2
     are-lines-requires
     returns-3

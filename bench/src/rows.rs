@@ -1,0 +1,37 @@
+//! What is timed: rows of operations, each for several programs that do the same.
+
+use crate::registries::{ALIKE, ALL, FULL, ONE_KEY};
+use crate::{calls, check};
+use std::time::Duration;
+
+/// The operations of a turn. Programs take turns, so that a slow moment of the machine is not one
+/// program's alone.
+pub const EACH_TURN: usize = 50_000;
+
+/// Does a turn's operations, and says how long they took.
+pub type Turn = Box<dyn FnMut() -> Duration>;
+
+pub struct Row {
+    pub name: String,
+    /// Of all bytes that the operations are given: rows with one name and one digest are the same.
+    pub digest: u64,
+    /// The first is the compiled, proved code.
+    pub programs: Vec<(&'static str, Turn)>,
+}
+
+pub fn all() -> Vec<Row> {
+    let checks = ALL.into_iter().chain(ALIKE).map(check::row);
+    let pings = ALL.into_iter().map(calls::pings);
+    let exports = [FULL, ONE_KEY].into_iter().map(calls::exports);
+    checks.chain(pings).chain(exports).collect()
+}
+
+/// FNV-1a of 64 bits.
+pub fn digest(inputs: &[&[u8]]) -> u64 {
+    inputs
+        .concat()
+        .iter()
+        .fold(0xCBF2_9CE4_8422_2325, |sum, &byte| {
+            (sum ^ u64::from(byte)).wrapping_mul(0x0100_0000_01B3)
+        })
+}
