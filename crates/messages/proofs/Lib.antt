@@ -2,4 +2,6 @@ pub mod RoundTrip
 pub mod ProtobufLaws
 pub mod OperationLaws
 pub mod PlacesLaws
+pub mod PackedLaws
+pub mod PlacedLaws
 pub mod Cases
