@@ -1,5 +1,11 @@
 // A response's body read as the output that an opcode has, told by its places in the body: no copy is made ("Operations and
 // their fields").
+use crate::opcodes::LIST_OPCODES;
+use crate::opcodes::LIST_PROVIDERS;
+use crate::opcodes::PING;
+use crate::opcodes::PSA_DESTROY_KEY;
+use crate::opcodes::PSA_EXPORT_PUBLIC_KEY;
+use crate::opcodes::PSA_IMPORT_KEY;
 use protobuf::body::Body;
 use protobuf::body::read_body;
 use protobuf::field::Field;
@@ -168,28 +174,28 @@ fn read_nothing(body: &[u8]) -> OutputRead
 pub fn read_output(opcode: u16, body: &[u8]) -> OutputRead
     ensures { λ r. ⌜ (readIn (now (body .entry)) r ≡ outputOf protobuf opcode (now (body .entry))) × ReadWithin (length (now (body .entry))) r ⌝ }
 {
-    if opcode == 1 {
+    if opcode == PING {
         return read_version(body);
     }
-    if opcode == 8 {
+    if opcode == LIST_PROVIDERS {
         return match read_list_body(body) {
             ListRead::List(span) => OutputRead::Read(Output::Providers(span)),
             ListRead::Unreadable => OutputRead::Unreadable,
         };
     }
-    if opcode == 9 {
+    if opcode == LIST_OPCODES {
         return match read_list_body(body) {
             ListRead::List(span) => OutputRead::Read(Output::Opcodes(span)),
             ListRead::Unreadable => OutputRead::Unreadable,
         };
     }
-    if opcode == 6 {
+    if opcode == PSA_IMPORT_KEY {
         return read_nothing(body);
     }
-    if opcode == 3 {
+    if opcode == PSA_DESTROY_KEY {
         return read_nothing(body);
     }
-    if opcode == 7 {
+    if opcode == PSA_EXPORT_PUBLIC_KEY {
         return read_data(body);
     }
     OutputRead::Unreadable
