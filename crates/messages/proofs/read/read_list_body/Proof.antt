@@ -1,6 +1,6 @@
 -- `messages::read::read_list_body` meets its contract. The loop's invariant: `Reads`, the rest gives what the whole gives.
 use Prim.Native.Nat.{ℕ, _-_}
-use mathlib.Core.Path.{_≡_, sym, ap, subst, _∙_}
+use mathlib.Core.Path.{sym, ap, subst, _∙_}
 use mathlib.Core.List.{List}
 use native.Mathlib.Omega.{arith}
 use borrow.Author.Needs.{needs}

@@ -1,6 +1,6 @@
 -- `messages::read::read_nothing` meets its contract.
 use mathlib.Core.Path.{sym, _∙_}
-use mathlib.Core.List.{[], _∷_}
+use mathlib.Core.List.{[]}
 use native.Mathlib.Omega.{arith}
 use Rattle.messages.specs.Operations.{nothing}
 use Rattle.messages.proofs.PlacedLaws.{body-read, body-broken}
