@@ -1,3 +1,5 @@
 pub mod Writing
 pub mod Reading
 pub mod State
+pub mod Handed
+pub mod code

@@ -1,4 +1,7 @@
 // The client's half (document 02): requests written, responses read in chunks. It depends on no crate of the service.
+pub mod look;
+pub mod read;
+pub mod state;
 
 // Why a request is not written; the first that applies.
 pub enum WriteRefusal {

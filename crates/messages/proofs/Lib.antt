@@ -3,4 +3,7 @@ pub mod ProtobufLaws
 pub mod OperationLaws
 pub mod PlacesLaws
 pub mod LengthLaws
+pub mod OpcodeLaws
+pub mod PackedLaws
+pub mod PlacedLaws
 pub mod Cases

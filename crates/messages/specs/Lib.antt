@@ -3,3 +3,5 @@ pub mod Format
 pub mod Protobuf
 pub mod Opcodes
 pub mod Operations
+pub mod Placed
+pub mod code

@@ -1,0 +1,4 @@
+pub mod StateLaws
+pub mod FoundLaws
+pub mod LookLaws
+pub mod ReadLaws

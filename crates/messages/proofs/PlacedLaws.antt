@@ -1,0 +1,189 @@
+-- Laws of outputs that are told by their places: a list's body field by field, the other bodies, and places moved.
+use Prim.Native.Nat.{ℕ, _+_, _≤_, _<_}
+use native.Mathlib.Omega.{arith}
+use mathlib.Core.Path.{_≡_, refl, sym, ap, _∙_}
+use mathlib.Core.Bool.{Bool, true, false, true≢false}
+use mathlib.Core.Option.{Option, none, some, bind}
+use mathlib.Core.List.{List, [], _∷_}
+use lib.ListN.{length, take, drop}
+use lib.Dec.{eqb}
+use borrow.Author.Tests.{ne-eqb}
+use Rattle.wire.specs.Choice.{if_then_else_, isSome}
+use Rattle.wire.specs.Scan.{Turn, follow, scanFrom, scanAt}
+use Rattle.wire.proofs.ScanLaws.{scan-end, scan-on}
+use Rattle.protobuf.specs.Field as proto
+use Rattle.protobuf.specs.Body.{bodyOf}
+use Rattle.protobuf.specs.declared.field.Field.{Field as ProtoField}
+use Rattle.protobuf.specs.declared.field.Field.the-variants.{Number, Span, Fixed, GroupStart, GroupEnd, Unreadable}
+use Rattle.protobuf.specs.declared.message.Values.{Values}
+use Rattle.protobuf.specs.declared.body.Body.the-variants.{Message as Readable, Unreadable as Broken}
+use Rattle.protobuf.proofs.FieldLaws.{Ahead, field-ahead}
+use Rattle.protobuf.proofs.StepLaws.{ValuesIn}
+use Rattle.protobuf.proofs.BodyLaws.{body-in}
+use Rattle.messages.specs.Message.{uint32, bytes, uint32s, Value, numbers, numberOf, octetsOf, numbersOf, valueAt, Schema, Message}
+use Rattle.messages.specs.Format.{Field, field, unreadable, fieldWith, listed, Reading, read, broken, SoFar, turnOf, turnAt, readMessage}
+use Rattle.messages.specs.Protobuf.{ofVarint, packedOf, fieldOf, protobuf}
+use Rattle.messages.specs.Operations.{Output, nothing, version, providers, opcodes, exported, whenRead, readBody, outputOf}
+use Rattle.messages.specs.Placed.{listIn, SpanWithin}
+use Rattle.messages.specs.code.ListBody.{listSchema}
+use Rattle.messages.specs.declared.read.Span.{Span as Place}
+use Rattle.messages.proofs.RoundTrip.{turn-ahead}
+use Rattle.messages.proofs.ProtobufLaws.{protobuf-lawful}
+use Rattle.messages.proofs.PlacesLaws.{schemaPlaced, NoLists, valuesOf, five, seen, placed}
+use Rattle.messages.proofs.PackedLaws.{packed-list}
+
+-- ---- a field of a list's body
+
+module _ (body : List ℕ) where
+  abbrev fieldFor : ProtoField → Field
+  fieldFor f = fieldOf listSchema body f
+
+  no-number : (n v next : ℕ) (t : Bool) → fieldWith n next (bind (if t then some uint32s else none) (ofVarint v)) ≡ unreadable
+  unfolding bind
+  no-number n v next true = refl
+  no-number n v next false = refl
+
+  -- anything but bytes
+  pub not-bytes : (f : ProtoField) → ((n start len next : ℕ) → f ≡ Span n start len next → ⊥) → fieldFor f ≡ unreadable
+  unfolding listed
+  not-bytes (Number n v next) h = no-number n v next (eqb n 1)
+  not-bytes (Span n start len next) h = absurd (h n start len next refl)
+  not-bytes (Fixed n next) h = refl
+  not-bytes (GroupStart n next) h = refl
+  not-bytes (GroupEnd n next) h = refl
+  not-bytes Unreadable h = refl
+
+  module _ (n start len next : ℕ) where
+    pub other-number : (n ≡ 1 → ⊥) → fieldFor (Span n start len next) ≡ unreadable
+    unfolding listed bind
+    other-number h = rw (ne-eqb n 1 h)
+
+    one-with : n ≡ 1 → fieldFor (Span n start len next) ≡ fieldWith 1 next (packedOf (take len (drop start body)))
+    unfolding listed bind
+    one-with e = rw e
+
+    none-packed : (o : Option Value) → isSome o ≡ false → fieldWith 1 next o ≡ unreadable
+    unfolding isSome
+    none-packed none h = refl
+    none-packed (some v) h = absurd (true≢false h)
+
+    pub no-list : n ≡ 1 → isSome (packedOf (take len (drop start body))) ≡ false → fieldFor (Span n start len next) ≡ unreadable
+    no-list e h = one-with e ∙ none-packed (packedOf (take len (drop start body))) h
+
+    pub a-list : n ≡ 1 → isSome (packedOf (take len (drop start body))) ≡ true
+        → fieldFor (Span n start len next) ≡ field 1 (numbers (listIn body (record { start = start; len = len }))) next
+    a-list e h = one-with e ∙ ap (fieldWith 1 next) (packed-list (take len (drop start body)) h)
+
+  pub span-ahead : (at n start len next : ℕ) → proto.fieldAt body at ≡ Span n start len next → Ahead (length body) at next × (start + len ≤ length body)
+  span-ahead at n start len next e = rw e at (field-ahead body at)
+
+-- ---- a list's body
+
+module _ (body : List ℕ) where
+  abbrev turn : ℕ → SoFar → Turn SoFar Reading
+  turn at so = turnAt protobuf listSchema body at so
+
+  abbrev end : SoFar → Reading
+  end so = read (so .1)
+
+  abbrev scan : ℕ → SoFar → Reading
+  scan at so = scanAt turn end (length body) at so
+
+  -- the list so far, and the rest, give what the whole gives
+  pub record Reads (span : Place) (at : ℕ) : Type 0 where
+    pub last : ℕ
+    pub within : SpanWithin (length body) span
+    pub same : scan at (last, numbers (listIn body span) ∷ []) ≡ readMessage protobuf listSchema body
+
+  pub reads-none : Reads (record { start = 0; len = 0 }) 0
+  unfolding readMessage packedOf scanAt scanFrom
+  reads-none = record { last = 0; within = omega arith; same = refl }
+
+  module _ {span : Place} {at : ℕ} (r : Reads span at) where
+    abbrev so : SoFar
+    so = (r .last, numbers (listIn body span) ∷ [])
+
+    here : at < length body → (f : Field) → f ≡ protobuf .fieldAt listSchema body at
+        → readMessage protobuf listSchema body ≡ follow (turnOf protobuf at so f) scan
+    here h f e =
+        sym (r .same)
+        ∙ scan-on turn end (length body) (turn-ahead protobuf protobuf-lawful listSchema body) at so h
+        ∙ ap (λ (x : Field). follow (turnOf protobuf at so x) scan) (sym e)
+
+    pub reads-on : (found : Place) (next : ℕ) → at < length body → SpanWithin (length body) found
+        → field 1 (numbers (listIn body found)) next ≡ protobuf .fieldAt listSchema body at → Reads found next
+    reads-on found next h w e = record { last = 1; within = w; same = sym (here h _ e) }
+
+    abbrev list : Message → List ℕ
+    list m = numbersOf (valueAt m 1)
+
+    pub reads-broken : at < length body → unreadable ≡ protobuf .fieldAt listSchema body at → readBody protobuf listSchema body list ≡ none
+    unfolding readBody
+    reads-broken h e = ap (whenRead list) (here h unreadable e)
+
+    pub reads-end : length body ≤ at → readBody protobuf listSchema body list ≡ some (listIn body span)
+    unfolding readBody
+    reads-end h = ap (whenRead list) (sym (r .same) ∙ scan-end turn end (length body) at so h)
+
+-- ---- what is made of a body, in two steps
+
+abbrev pub map-option : {A B : Type 0} → (A → B) → Option A → Option B
+map-option g none = none
+map-option g (some a) = some (g a)
+
+when-then : {A B : Type 0} (f : Message → A) (g : A → B) (r : Reading) → whenRead (λ m. g (f m)) r ≡ map-option g (whenRead f r)
+when-then f g (read m) = refl
+when-then f g (broken at) = refl
+
+pub body-then : {A B : Type 0} (schema : Schema) (body : List ℕ) (f : Message → A) (g : A → B) (o : Option A)
+    → o ≡ readBody protobuf schema body f → map-option g o ≡ readBody protobuf schema body (λ m. g (f m))
+unfolding readBody
+body-then schema body f g o e = ap (map-option g) e ∙ sym (when-then f g (readMessage protobuf schema body))
+
+-- ---- the other bodies
+
+module _ {A : Type 0} (schema : Schema) (body : List ℕ) (f : Message → A) (few : length schema ≤ 5) (no-lists : NoLists schema) where
+  pub body-read : (m : Values) → bodyOf (schemaPlaced schema) body ≡ Readable m → readBody protobuf schema body f ≡ some (f (valuesOf body schema (five m)))
+  unfolding readBody
+  body-read m e = ap (whenRead f) (placed schema body few no-lists ∙ ap (seen body schema) e)
+
+  pub body-broken : (at : ℕ) → bodyOf (schemaPlaced schema) body ≡ Broken at → readBody protobuf schema body f ≡ none
+  unfolding readBody
+  body-broken at e = ap (whenRead f) (placed schema body few no-lists ∙ ap (seen body schema) e)
+
+  pub body-within : (m : Values) → bodyOf (schemaPlaced schema) body ≡ Readable m → ValuesIn (length body) m
+  body-within m e = rw e at (body-in (schemaPlaced schema) body)
+
+-- ---- an output, by its opcode
+
+module _ (opcode : ℕ) (body : List ℕ) where
+  abbrev Is : Option Output → Type 0
+  Is o = outputOf protobuf opcode body ≡ o
+
+  pub of-ping : opcode ≡ 1 → Is (readBody protobuf (uint32 ∷ uint32 ∷ []) body (λ m. version (numberOf (valueAt m 1)) (numberOf (valueAt m 2))))
+  unfolding outputOf
+  of-ping e = rw (e, outputOf)
+
+  pub of-list-providers : opcode ≡ 8 → Is (readBody protobuf listSchema body (λ m. providers (numbersOf (valueAt m 1))))
+  unfolding outputOf
+  of-list-providers e = rw (e, outputOf)
+
+  pub of-list-opcodes : opcode ≡ 9 → Is (readBody protobuf listSchema body (λ m. opcodes (numbersOf (valueAt m 1))))
+  unfolding outputOf
+  of-list-opcodes e = rw (e, outputOf)
+
+  pub of-import : opcode ≡ 6 → Is (readBody protobuf [] body (λ m. nothing))
+  unfolding outputOf
+  of-import e = rw (e, outputOf)
+
+  pub of-destroy : opcode ≡ 3 → Is (readBody protobuf [] body (λ m. nothing))
+  unfolding outputOf
+  of-destroy e = rw (e, outputOf)
+
+  pub of-export : opcode ≡ 7 → Is (readBody protobuf (bytes ∷ []) body (λ m. exported (octetsOf (valueAt m 1))))
+  unfolding outputOf
+  of-export e = rw (e, outputOf)
+
+  pub of-other : (opcode ≡ 1 → ⊥) → (opcode ≡ 8 → ⊥) → (opcode ≡ 9 → ⊥) → (opcode ≡ 6 → ⊥) → (opcode ≡ 3 → ⊥) → (opcode ≡ 7 → ⊥) → Is none
+  unfolding outputOf
+  of-other a b c d e f = rw (ne-eqb _ _ a, ne-eqb _ _ b, ne-eqb _ _ c, ne-eqb _ _ d, ne-eqb _ _ e, ne-eqb _ _ f, outputOf)

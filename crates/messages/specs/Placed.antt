@@ -1,0 +1,78 @@
+-- An output told by its places in the bytes that it was read from, and a packed list taken apart.
+use Prim.Native.Nat.{ℕ, _+_, _%_, _^_, _≤_}
+use mathlib.Core.Option.{Option, none, some}
+use mathlib.Core.List.{List, [], _∷_, _++_}
+use lib.ListN.{length, take, drop}
+use Rattle.wire.specs.Scan.{Turn, on, out, scanAt}
+use Rattle.wire.specs.Lists.{over}
+use Rattle.protobuf.specs.Varint.{varintAt}
+use Rattle.protobuf.specs.declared.varint.Varint.{Varint}
+use Rattle.protobuf.specs.declared.varint.Varint.the-variants.{Read as readVarint, Unreadable as noVarint}
+use Rattle.messages.specs.Message.{Value, numbersOf}
+use Rattle.messages.specs.Protobuf.{packedOf}
+use Rattle.messages.specs.Operations.{Output, nothing, version, providers, opcodes, exported}
+use Rattle.messages.specs.declared.read.Span.{Span}
+use Rattle.messages.specs.declared.read.Output.{Output as OutputPlaces}
+use Rattle.messages.specs.declared.read.Output.the-variants.{Nothing, Version, Providers, Opcodes, Data}
+use Rattle.messages.specs.declared.read.OutputRead.{OutputRead}
+use Rattle.messages.specs.declared.read.OutputRead.the-variants.{Read, Unreadable}
+
+-- ---- places
+
+abbrev pub bytesIn : (bytes : List ℕ) → Span → List ℕ
+bytesIn bytes span = take (span .len) (drop (span .start) bytes)
+
+abbrev pub entriesOf : Option Value → List ℕ
+entriesOf none = []
+entriesOf (some value) = numbersOf value
+
+-- the entries of the packed list that lies there
+abbrev pub listIn : (bytes : List ℕ) → Span → List ℕ
+listIn bytes span = entriesOf (packedOf (bytesIn bytes span))
+
+abbrev pub outputIn : (bytes : List ℕ) → OutputPlaces → Output
+outputIn bytes Nothing = nothing
+outputIn bytes (Version major minor) = version major minor
+outputIn bytes (Providers span) = providers (listIn bytes span)
+outputIn bytes (Opcodes span) = opcodes (listIn bytes span)
+outputIn bytes (Data span) = exported (bytesIn bytes span)
+
+abbrev pub readIn : (bytes : List ℕ) → OutputRead → Option Output
+readIn bytes (Read output) = some (outputIn bytes output)
+readIn bytes Unreadable = none
+
+-- ---- they lie within so many bytes
+
+abbrev pub SpanWithin : (most : ℕ) → Span → Type 0
+SpanWithin most span = span .start + span .len ≤ most
+
+abbrev pub OutputWithin : (most : ℕ) → OutputPlaces → Type 0
+OutputWithin most Nothing = Unit {0}
+OutputWithin most (Version major minor) = Unit {0}
+OutputWithin most (Providers span) = SpanWithin most span
+OutputWithin most (Opcodes span) = SpanWithin most span
+OutputWithin most (Data span) = SpanWithin most span
+
+abbrev pub ReadWithin : (most : ℕ) → OutputRead → Type 0
+ReadWithin most (Read output) = OutputWithin most output
+ReadWithin most Unreadable = Unit {0}
+
+-- ---- a packed list taken apart, as far as it can be read
+
+abbrev pub entryTurn : List ℕ → Varint → Turn (List ℕ) (List ℕ)
+entryTurn ns (readVarint v next) = on (ns ++ (v % 2 ^ 32 ∷ [])) next
+entryTurn ns noVarint = out ns
+
+-- its entries up to the first that is no varint
+unfoldable pub firstEntries : (packed : List ℕ) → List ℕ
+firstEntries packed = scanAt (λ at ns. entryTurn ns (varintAt packed at)) (λ ns. ns) (length packed) 0 []
+
+pub record ListOutcome : Type 0 where
+  pub count : ℕ
+  pub entries : List ℕ
+
+-- as many of them as there is room for, over the front of the room
+unfoldable pub readListOutcome : (packed room : List ℕ) → ListOutcome
+readListOutcome packed room =
+    let written = take (length room) (firstEntries packed) in
+    record { count = length written; entries = over written room }

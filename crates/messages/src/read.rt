@@ -1,0 +1,223 @@
+// A response's body read as the output that an opcode has, told by its places in the body: no copy is made ("Operations and
+// their fields").
+use crate::opcodes::LIST_OPCODES;
+use crate::opcodes::LIST_PROVIDERS;
+use crate::opcodes::PING;
+use crate::opcodes::PSA_DESTROY_KEY;
+use crate::opcodes::PSA_EXPORT_PUBLIC_KEY;
+use crate::opcodes::PSA_IMPORT_KEY;
+use protobuf::body::Body;
+use protobuf::body::read_body;
+use protobuf::field::Field;
+use protobuf::field::read_field;
+use protobuf::message::Kind;
+use protobuf::message::Schema;
+use protobuf::varint::Varint;
+use protobuf::varint::read_varint;
+ghost use mathlib.Core.Path.{_≡_};
+ghost use mathlib.Core.List.{[], _∷_};
+ghost use lib.ListN.{length};
+ghost use Rattle.wire.specs.Choice.{isSome};
+ghost use Rattle.messages.specs.Message.{uint32, bytes, numberOf, octetsOf, numbersOf, valueAt};
+ghost use Rattle.messages.specs.Protobuf.{packedOf, protobuf};
+ghost use Rattle.messages.specs.Operations.{nothing, version, exported, readBody, outputOf};
+ghost use Rattle.messages.specs.Placed.{readIn, ReadWithin, readListOutcome};
+ghost use Rattle.messages.specs.code.ListBody.{listSchema, fieldIn, FieldWithin, entriesIn, ListWithin};
+
+// A part of the bytes that were read.
+pub struct Span {
+    pub start: usize,
+    pub len: usize,
+}
+
+// A list is a span of packed varints; `read_list` takes it apart.
+pub enum Output {
+    Nothing,
+    Version(u32, u32),
+    Providers(Span),
+    Opcodes(Span),
+    Data(Span),
+}
+
+pub enum OutputRead {
+    Read(Output),
+    Unreadable,
+}
+
+// A field that is a packed list, and the position behind it.
+enum ListField {
+    At(Span, usize),
+    Unreadable,
+}
+
+enum ListRead {
+    List(Span),
+    Unreadable,
+}
+
+// Whether bytes are varints to their end.
+fn is_packed(bytes: &[u8]) -> bool
+    ensures { λ r. ⌜ r ≡ isSome (packedOf (now (bytes .entry))) ⌝ }
+{
+    let mut at = 0;
+    while at < bytes.len() {
+        match read_varint(bytes, at) {
+            Varint::Read(_, next) => {
+                at = next;
+            }
+            Varint::Unreadable => {
+                return false;
+            }
+        }
+    }
+    true
+}
+
+// The field at `at`. Its varints are read in its own bytes: one that is cut by its end is not finished by what follows.
+fn read_list_field(body: &[u8], at: usize) -> ListField
+    ensures { λ r. ⌜ (fieldIn (now (body .entry)) r ≡ protobuf .fieldAt listSchema (now (body .entry)) at) × FieldWithin (length (now (body .entry))) at r ⌝ }
+{
+    let Field::Span {
+        number,
+        start,
+        len,
+        next,
+    } = read_field(body, at)
+    else {
+        return ListField::Unreadable;
+    };
+    if number != 1 {
+        return ListField::Unreadable;
+    }
+    let end = start + len;
+    if !is_packed(&body[start..end]) {
+        return ListField::Unreadable;
+    }
+    ListField::At(Span { start, len }, next)
+}
+
+// The list in the body: each of its fields is read, and the last one counts; an absent one is empty.
+fn read_list_body(body: &[u8]) -> ListRead
+    ensures { λ r. ⌜ (entriesIn (now (body .entry)) r ≡ readBody protobuf listSchema (now (body .entry)) (λ m. numbersOf (valueAt m 1))) × ListWithin (length (now (body .entry))) r ⌝ }
+{
+    let mut span = Span { start: 0, len: 0 };
+    let mut at = 0;
+    while at < body.len() {
+        match read_list_field(body, at) {
+            ListField::At(found, next) => {
+                span = found;
+                at = next;
+            }
+            ListField::Unreadable => {
+                return ListRead::Unreadable;
+            }
+        }
+    }
+    ListRead::List(span)
+}
+
+// Two uint32 fields.
+fn read_version(body: &[u8]) -> OutputRead
+    ensures { λ r. ⌜ (readIn (now (body .entry)) r ≡ readBody protobuf (uint32 ∷ uint32 ∷ []) (now (body .entry)) (λ m. version (numberOf (valueAt m 1)) (numberOf (valueAt m 2)))) × ReadWithin (length (now (body .entry))) r ⌝ }
+{
+    let schema = Schema {
+        k1: Kind::Uint32,
+        k2: Kind::Uint32,
+        k3: Kind::Unlisted,
+        k4: Kind::Unlisted,
+        k5: Kind::Unlisted,
+    };
+    match read_body(body, schema) {
+        Body::Message(m) => OutputRead::Read(Output::Version(m.f1.number, m.f2.number)),
+        Body::Unreadable(_) => OutputRead::Unreadable,
+    }
+}
+
+// One field of bytes.
+fn read_data(body: &[u8]) -> OutputRead
+    ensures { λ r. ⌜ (readIn (now (body .entry)) r ≡ readBody protobuf (bytes ∷ []) (now (body .entry)) (λ m. exported (octetsOf (valueAt m 1)))) × ReadWithin (length (now (body .entry))) r ⌝ }
+{
+    let schema = Schema {
+        k1: Kind::Bytes,
+        k2: Kind::Unlisted,
+        k3: Kind::Unlisted,
+        k4: Kind::Unlisted,
+        k5: Kind::Unlisted,
+    };
+    match read_body(body, schema) {
+        Body::Message(m) => OutputRead::Read(Output::Data(Span {
+            start: m.f1.start,
+            len: m.f1.len,
+        })),
+        Body::Unreadable(_) => OutputRead::Unreadable,
+    }
+}
+
+// No field.
+fn read_nothing(body: &[u8]) -> OutputRead
+    ensures { λ r. ⌜ (readIn (now (body .entry)) r ≡ readBody protobuf [] (now (body .entry)) (λ m. nothing)) × ReadWithin (length (now (body .entry))) r ⌝ }
+{
+    let schema = Schema {
+        k1: Kind::Unlisted,
+        k2: Kind::Unlisted,
+        k3: Kind::Unlisted,
+        k4: Kind::Unlisted,
+        k5: Kind::Unlisted,
+    };
+    match read_body(body, schema) {
+        Body::Message(_) => OutputRead::Read(Output::Nothing),
+        Body::Unreadable(_) => OutputRead::Unreadable,
+    }
+}
+
+// The output that a response with status 0 has, by the opcode of its request.
+pub fn read_output(opcode: u16, body: &[u8]) -> OutputRead
+    ensures { λ r. ⌜ (readIn (now (body .entry)) r ≡ outputOf protobuf opcode (now (body .entry))) × ReadWithin (length (now (body .entry))) r ⌝ }
+{
+    if opcode == PING {
+        return read_version(body);
+    }
+    if opcode == LIST_PROVIDERS {
+        return match read_list_body(body) {
+            ListRead::List(span) => OutputRead::Read(Output::Providers(span)),
+            ListRead::Unreadable => OutputRead::Unreadable,
+        };
+    }
+    if opcode == LIST_OPCODES {
+        return match read_list_body(body) {
+            ListRead::List(span) => OutputRead::Read(Output::Opcodes(span)),
+            ListRead::Unreadable => OutputRead::Unreadable,
+        };
+    }
+    if opcode == PSA_IMPORT_KEY {
+        return read_nothing(body);
+    }
+    if opcode == PSA_DESTROY_KEY {
+        return read_nothing(body);
+    }
+    if opcode == PSA_EXPORT_PUBLIC_KEY {
+        return read_data(body);
+    }
+    OutputRead::Unreadable
+}
+
+// Takes a packed list apart: its first entries over the front of `entries`, as many as there is room for, up to the first that
+// is no varint. Says how many.
+pub fn read_list(packed: &[u8], entries: &mut [u32]) -> usize
+    ensures { λ r. ⌜ record { count = r; entries = now (entries .exit) } ≡ readListOutcome (now (packed .entry)) (now (entries .entry)) ⌝ }
+{
+    let mut count: usize = 0;
+    let mut at = 0;
+    while count < entries.len() {
+        if packed.len() <= at {
+            return count;
+        }
+        let Varint::Read(value, next) = read_varint(packed, at) else {
+            return count;
+        };
+        entries[count] = (value % 4294967296) as u32;
+        count += 1;
+        at = next;
+    }
+    count
+}
