@@ -3,3 +3,4 @@ pub mod Format
 pub mod Protobuf
 pub mod Opcodes
 pub mod Operations
+pub mod code
