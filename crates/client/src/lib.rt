@@ -1,4 +1,6 @@
 // The client's half (document 02): requests written, responses read in chunks. It depends on no crate of the service.
+pub mod judge;
+pub mod write;
 
 // Why a request is not written; the first that applies.
 pub enum WriteRefusal {
