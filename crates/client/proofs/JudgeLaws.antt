@@ -1,6 +1,6 @@
 -- Laws of the tests before writing: what is left to be judged behind those that passed, and what they say of a request.
 use Prim.Native.Nat.{ℕ, _≤_}
-use mathlib.Core.Path.{_≡_, refl, sym, ap}
+use mathlib.Core.Path.{_≡_, refl, ap, _∙_}
 use mathlib.Core.Bool.{Bool, true, false, not}
 use mathlib.Core.Option.{Option, none, some}
 use mathlib.Core.List.{List, [], _∷_, _++_}
@@ -8,18 +8,16 @@ use borrow.Author.Tests.{ltb-false, not-false}
 use lib.ListN.{length, getD}
 use lib.Dec.{ltb}
 use Rattle.wire.specs.Choice.{firstOf}
-use Rattle.wire.proofs.TestLaws.{none-at, first-before, first-behind}
+use Rattle.wire.proofs.TestLaws.{none-at}
 use Rattle.keys.specs.Names.{keyNameMost, legalName}
 use Rattle.keys.specs.Key.{Key, legalData, importBits}
 use Rattle.messages.specs.Operations.{Operation, ping, importKey, destroyKey}
 use Rattle.client.specs.Writing.{Sender, requestBufferLeast, legalSender, legalKeyName, legalKeyData, writeTests}
-use Rattle.client.specs.code.Judged.{judgedAs}
+use Rattle.client.specs.code.Judged.{judgedAs, firstRefusal}
 use Rattle.client.specs.declared.WriteRefusal.{WriteRefusal}
 use Rattle.client.specs.declared.WriteRefusal.the-variants.{BufferTooSmall, ApplicationNameIllegal, KeyNameIllegal, DataIllegal, BitsIllegal}
+use Rattle.client.specs.declared.judge.Judged.{Judged}
 use Rattle.client.specs.declared.judge.Judged.the-variants.{Legal, Refused}
-
-abbrev Tests : Type 0
-Tests = List (Bool × WriteRefusal)
 
 -- ---- what the code's answer says
 
@@ -33,57 +31,46 @@ unfolding judgedAs
 told-legal none e = refl
 told-legal (some x) e = cc
 
--- ---- tests, and then others
+-- ---- the tests of each operation, as the code joins them
 
-module _ (ts us : Tests) where
-  early : (refusal : WriteRefusal) → judgedAs (firstOf ts) ≡ Refused refusal → Refused refusal ≡ judgedAs (firstOf (ts ++ us))
-  unfolding judgedAs
-  early refusal e = sym (ap judgedAs (first-before ts us refusal (told-refused (firstOf ts) refusal e)))
+abbrev Tests : Type 0
+Tests = List (Bool × WriteRefusal)
 
-  left : judgedAs (firstOf ts) ≡ Legal → judgedAs (firstOf (ts ++ us)) ≡ judgedAs (firstOf us)
-  left e = ap judgedAs (first-behind ts us (told-legal (firstOf ts) e))
+joined : (ts us : Tests) → firstRefusal (judgedAs (firstOf ts)) (judgedAs (firstOf us)) ≡ judgedAs (firstOf (ts ++ us))
+unfolding judgedAs firstOf firstRefusal
+joined [] us = refl
+joined ((true, refusal) ∷ ts) us = refl
+joined ((false, refusal) ∷ ts) us = joined ts us
 
-unfoldable pub nameTests : (name : List ℕ) → Tests
-nameTests name = (not (legalName keyNameMost name), KeyNameIllegal) ∷ []
-
-unfoldable pub materialTests : (bytes : List ℕ) (bits : ℕ) → Tests
-materialTests bytes bits = (not (legalData bytes), DataIllegal) ∷ (not (importBits bits), BitsIllegal) ∷ []
+abbrev alone : (test : Bool) → WriteRefusal → Judged
+alone test refusal = judgedAs (firstOf ((test, refusal) ∷ []))
 
 module _ (out : List ℕ) (sender : Sender) where
-  unfoldable senderTests : Tests
+  senderTests : Tests
   senderTests = (ltb (length out) requestBufferLeast, BufferTooSmall) ∷ (not (legalSender sender), ApplicationNameIllegal) ∷ []
 
-  sender-first : firstOf (writeTests out sender ping) ≡ firstOf senderTests
-  unfolding writeTests firstOf senderTests
-  sender-first = refl
+  nameTest : (name : List ℕ) → Tests
+  nameTest name = (not (legalName keyNameMost name), KeyNameIllegal) ∷ []
 
-  name-next : (name : List ℕ) → firstOf (writeTests out sender (destroyKey name)) ≡ firstOf (senderTests ++ nameTests name)
-  unfolding writeTests firstOf senderTests nameTests
-  name-next name = refl
+  pub sender-judged : firstRefusal (alone (ltb (length out) requestBufferLeast) BufferTooSmall) (alone (not (legalSender sender)) ApplicationNameIllegal)
+      ≡ judgedAs (firstOf (writeTests out sender ping))
+  unfolding writeTests firstOf
+  sender-judged = joined ((ltb (length out) requestBufferLeast, BufferTooSmall) ∷ []) ((not (legalSender sender), ApplicationNameIllegal) ∷ [])
 
-  key-last : (key : Key) → firstOf (writeTests out sender (importKey key)) ≡ firstOf ((senderTests ++ nameTests (key .name)) ++ materialTests (key .bytes) (key .bits))
-  unfolding writeTests firstOf senderTests nameTests materialTests
-  key-last key = refl
+  pub name-judged : (name : List ℕ) → firstRefusal (judgedAs (firstOf (writeTests out sender ping))) (alone (not (legalName keyNameMost name)) KeyNameIllegal)
+      ≡ judgedAs (firstOf (writeTests out sender (destroyKey name)))
+  unfolding writeTests firstOf senderTests nameTest
+  name-judged name = joined senderTests (nameTest name)
 
-  -- the key's name is judged behind the sender
-  module _ (name : List ℕ) where
-    pub name-refused-early : (refusal : WriteRefusal) → judgedAs (firstOf (writeTests out sender ping)) ≡ Refused refusal
-        → Refused refusal ≡ judgedAs (firstOf (writeTests out sender (destroyKey name)))
-    name-refused-early refusal e = rw name-next (early senderTests (nameTests name) refusal (rw sender-first at e))
-
-    pub name-left : judgedAs (firstOf (writeTests out sender ping)) ≡ Legal
-        → judgedAs (firstOf (writeTests out sender (destroyKey name))) ≡ judgedAs (firstOf (nameTests name))
-    name-left e = rw name-next (left senderTests (nameTests name) (rw sender-first at e))
-
-  -- and the data and the bits behind both
-  module _ (key : Key) where
-    pub key-refused-early : (refusal : WriteRefusal) → judgedAs (firstOf (writeTests out sender (destroyKey (key .name)))) ≡ Refused refusal
-        → Refused refusal ≡ judgedAs (firstOf (writeTests out sender (importKey key)))
-    key-refused-early refusal e = rw key-last (early (senderTests ++ nameTests (key .name)) (materialTests (key .bytes) (key .bits)) refusal (rw name-next at e))
-
-    pub key-left : judgedAs (firstOf (writeTests out sender (destroyKey (key .name)))) ≡ Legal
-        → judgedAs (firstOf (writeTests out sender (importKey key))) ≡ judgedAs (firstOf (materialTests (key .bytes) (key .bits)))
-    key-left e = rw key-last (left (senderTests ++ nameTests (key .name)) (materialTests (key .bytes) (key .bits)) (rw name-next at e))
+  pub key-judged : (key : Key)
+      → firstRefusal (judgedAs (firstOf (writeTests out sender (destroyKey (key .name))))) (firstRefusal (alone (not (legalData (key .bytes))) DataIllegal) (alone (not (importBits (key .bits))) BitsIllegal))
+      ≡ judgedAs (firstOf (writeTests out sender (importKey key)))
+  unfolding writeTests firstOf senderTests nameTest
+  key-judged key =
+      let bytes : Tests = (not (legalData (key .bytes)), DataIllegal) ∷ [] in
+      let bits : Tests = (not (importBits (key .bits)), BitsIllegal) ∷ [] in
+      ap (firstRefusal (judgedAs (firstOf (senderTests ++ nameTest (key .name))))) (joined bytes bits)
+      ∙ joined (senderTests ++ nameTest (key .name)) (bytes ++ bits)
 
 -- ---- what holds where every test is passed
 

@@ -6,12 +6,13 @@ use keys::KEY_NAME_MOST;
 use keys::bits::are_legal_bits;
 use keys::names::is_legal;
 ghost use mathlib.Core.Bool.{Bool};
+ghost use mathlib.Core.List.{[], _∷_};
 ghost use mathlib.Core.Path.{_≡_};
 ghost use Rattle.wire.specs.Choice.{firstOf};
 ghost use Rattle.keys.specs.Key.{legalData};
 ghost use Rattle.messages.specs.Operations.{ping, importKey, destroyKey};
 ghost use Rattle.client.specs.Writing.{senderOf, legalSender, writeTests};
-ghost use Rattle.client.specs.code.Judged.{judgedAs};
+ghost use Rattle.client.specs.code.Judged.{judgedAs, firstRefusal};
 
 // The shortest buffer for a request.
 pub const REQUEST_BUFFER_LEAST: usize = 5120;
@@ -43,32 +44,48 @@ fn is_legal_data(bytes: &[u8]) -> bool
     true
 }
 
+// One test: whether it refuses.
+fn judge(test: bool, refusal: WriteRefusal) -> Judged
+    ensures { λ r. ⌜ r ≡ judgedAs (firstOf ((test, refusal) ∷ [])) ⌝ }
+{
+    if test {
+        return Judged::Refused(refusal);
+    }
+    Judged::Legal
+}
+
+// Of tests and later ones, the first that refuses.
+fn first_refusal(judged: Judged, later: Judged) -> Judged
+    ensures { λ r. ⌜ r ≡ firstRefusal judged later ⌝ }
+{
+    match judged {
+        Judged::Legal => later,
+        Judged::Refused(refusal) => Judged::Refused(refusal),
+    }
+}
+
 // The tests of an operation on no key, Ping for all.
 pub fn judge_sender(out: &[u8], named: bool, application: &[u8]) -> Judged
     ensures { λ r. ⌜ r ≡ judgedAs (firstOf (writeTests (now (out .entry)) (senderOf named (now (application .entry))) ping)) ⌝ }
 {
-    if out.len() < REQUEST_BUFFER_LEAST {
-        return Judged::Refused(WriteRefusal::BufferTooSmall);
-    }
-    if !is_legal_sender(named, application) {
-        return Judged::Refused(WriteRefusal::ApplicationNameIllegal);
-    }
-    Judged::Legal
+    let room = judge(
+        out.len() < REQUEST_BUFFER_LEAST,
+        WriteRefusal::BufferTooSmall,
+    );
+    let sender = judge(
+        !is_legal_sender(named, application),
+        WriteRefusal::ApplicationNameIllegal,
+    );
+    first_refusal(room, sender)
 }
 
 // Of one on a key by its name, Destroy for both.
 pub fn judge_name(out: &[u8], named: bool, application: &[u8], name: &[u8]) -> Judged
     ensures { λ r. ⌜ r ≡ judgedAs (firstOf (writeTests (now (out .entry)) (senderOf named (now (application .entry))) (destroyKey (now (name .entry))))) ⌝ }
 {
-    match judge_sender(out, named, application) {
-        Judged::Refused(refusal) => Judged::Refused(refusal),
-        Judged::Legal => {
-            if !is_legal(name, KEY_NAME_MOST) {
-                return Judged::Refused(WriteRefusal::KeyNameIllegal);
-            }
-            Judged::Legal
-        }
-    }
+    let sender = judge_sender(out, named, application);
+    let key = judge(!is_legal(name, KEY_NAME_MOST), WriteRefusal::KeyNameIllegal);
+    first_refusal(sender, key)
 }
 
 // Of Import, whatever its permissions are.
@@ -82,16 +99,8 @@ pub fn judge_key(
 ) -> Judged
     ensures { λ r. ⌜ ((exported verified : Bool) → r ≡ judgedAs (firstOf (writeTests (now (out .entry)) (senderOf named (now (application .entry))) (importKey (record { name = now (name .entry); bytes = now (bytes .entry); bits = bits; exportAllowed = exported; verifyAllowed = verified }))))) ⌝ }
 {
-    match judge_name(out, named, application, name) {
-        Judged::Refused(refusal) => Judged::Refused(refusal),
-        Judged::Legal => {
-            if !is_legal_data(bytes) {
-                return Judged::Refused(WriteRefusal::DataIllegal);
-            }
-            if !are_legal_bits(bits as usize) {
-                return Judged::Refused(WriteRefusal::BitsIllegal);
-            }
-            Judged::Legal
-        }
-    }
+    let names = judge_name(out, named, application, name);
+    let data = judge(!is_legal_data(bytes), WriteRefusal::DataIllegal);
+    let size = judge(!are_legal_bits(bits as usize), WriteRefusal::BitsIllegal);
+    first_refusal(names, first_refusal(data, size))
 }

@@ -7,3 +7,8 @@ use Rattle.client.specs.declared.judge.Judged.the-variants.{Legal, Refus
 unfoldable pub judgedAs : Option WriteRefusal → Judged
 judgedAs none = Legal
 judgedAs (some refusal) = Refused refusal
+
+-- of tests and later ones, the first that refuses
+unfoldable pub firstRefusal : (judged later : Judged) → Judged
+firstRefusal Legal later = later
+firstRefusal (Refused refusal) later = Refused refusal

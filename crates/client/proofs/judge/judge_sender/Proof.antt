@@ -1,26 +1,34 @@
 -- `client::judge::judge_sender` meets its contract.
-use borrow.Author.Tests.{lt-ltb, le-ltb}
 use borrow.Author.Needs.{needs}
-use Rattle.wire.specs.Choice.{firstOf}
-use Rattle.client.specs.Writing.{writeTests}
-use Rattle.client.specs.code.Judged.{judgedAs}
+use Rattle.client.specs.Writing.{senderOf}
+use Rattle.client.proofs.JudgeLaws.{sender-judged}
 use Rattle.client.proofs.judge.judge_sender.Statement.{statement}
 use Rattle.client.proofs.judge.judge_sender.Tie as tie
 
-returns : tie.Need-returns
-unfolding judgedAs firstOf writeTests
-returns c = rw (lt-ltb _ _ (c .if1 .taken))
+judge-requires : tie.Need-judge-requires
+judge-requires c κs = search needs
 
 is-legal-sender-requires : tie.Need-is-legal-sender-requires
 is-legal-sender-requires c κs = search needs
 
-returns-2 : tie.Need-returns-2
-unfolding judgedAs firstOf writeTests
-returns-2 c = rw (le-ltb _ _ (c .before .before .if1 .left), ← c .before .is-legal-sender .ensures, c .if2 .taken)
+judge-requires-2 : tie.Need-judge-requires-2
+judge-requires-2 c κs = search needs
 
-returns-3 : tie.Need-returns-3
-unfolding judgedAs firstOf writeTests
-returns-3 c = rw (le-ltb _ _ (c .before .before .if1 .left), ← c .before .is-legal-sender .ensures, c .if2 .left)
+first-refusal-requires : tie.Need-first-refusal-requires
+first-refusal-requires c κs = search needs
+
+returns : tie.Need-returns
+returns c =
+    let a = c .before .before .before .before .before .before .args in
+    rw (← sender-judged (a .out .now) (senderOf (a .named) (a .application .now)), ← c .before .before .is-legal-sender .ensures, ← c .before .judge2 .ensures, ← c .before .before .before .judge .ensures)
+    (c .first-refusal .ensures)
 
 pub judge-sender-spec : {M : Type 1} → statement M
-judge-sender-spec = tie.close (tie.spec returns is-legal-sender-requires returns-2 returns-3)
+judge-sender-spec =
+    tie.close
+    (tie.spec
+    judge-requires
+    is-legal-sender-requires
+    judge-requires-2
+    first-refusal-requires
+    returns)

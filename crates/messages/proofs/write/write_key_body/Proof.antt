@@ -13,10 +13,10 @@ abbrev start : tie.After-write-bytes-field → tie.Start
 start c = c .before .before .before .before .before
 
 first-short : (c : tie.After-write-bytes-field) → c .write-bytes-field .result ≤ length (start c .args .name .now) + fieldMost
-first-short c = bytes-short 1 _ (c .write-bytes-field .ensures)
+first-short c = bytes-short _ _ (c .write-bytes-field .ensures)
 
 second-short : (c : tie.After-write-bytes-field2) → c .write-bytes-field2 .result ≤ length (start (c .before .before .before .before) .args .bytes .now) + fieldMost
-second-short c = bytes-short 2 _ (c .write-bytes-field2 .ensures)
+second-short c = bytes-short _ _ (c .write-bytes-field2 .ensures)
 
 write-bytes-field-requires : tie.Need-write-bytes-field-requires
 write-bytes-field-requires c κs = search needs

@@ -9,13 +9,13 @@ use Rattle.messages.proofs.write.write_key_numbers.Statement.{statement
 use Rattle.messages.proofs.write.write_key_numbers.Tie as tie
 
 first-short : (c : tie.After-write-number-field) → c .write-number-field .result ≤ fieldMost
-first-short c = number-short 3 _ (c .write-number-field .ensures)
+first-short c = number-short _ _ (c .write-number-field .ensures)
 
 second-short : (c : tie.After-write-number-field2) → c .write-number-field2 .result ≤ fieldMost
-second-short c = number-short 4 _ (c .write-number-field2 .ensures)
+second-short c = number-short _ _ (c .write-number-field2 .ensures)
 
 third-short : (c : tie.After-write-number-field3) → c .write-number-field3 .result ≤ fieldMost
-third-short c = number-short 5 _ (c .write-number-field3 .ensures)
+third-short c = number-short _ _ (c .write-number-field3 .ensures)
 
 write-number-field-requires : tie.Need-write-number-field-requires
 write-number-field-requires c κs = search needs

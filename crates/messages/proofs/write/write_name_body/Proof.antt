@@ -12,7 +12,7 @@ same-length : tie.Need-same-length
 same-length c = search needs
 
 returns : tie.Need-returns
-returns c = let w = c .before .before .write-bytes-field .ensures in rw name-body (w, bytes-short 1 _ w)
+returns c = let w = c .before .before .write-bytes-field .ensures in rw name-body (w, bytes-short _ _ w)
 
 pub write-name-body-spec : {M : Type 1} → statement M
 write-name-body-spec = tie.close (tie.spec write-bytes-field-requires same-length returns)

@@ -12,7 +12,7 @@ same-length : tie.Need-same-length
 same-length c = search needs
 
 returns : tie.Need-returns
-returns c = let w = c .before .before .write-number-field .ensures in rw provider-body (w, number-short 1 _ w)
+returns c = let w = c .before .before .write-number-field .ensures in rw provider-body (w, number-short _ _ w)
 
 pub write-provider-body-spec : {M : Type 1} → statement M
 write-provider-body-spec = tie.close (tie.spec write-number-field-requires same-length returns)
