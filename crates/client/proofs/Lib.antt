@@ -2,3 +2,5 @@ pub mod StateLaws
 pub mod FoundLaws
 pub mod LookLaws
 pub mod ReadLaws
+pub mod JudgeLaws
+pub mod WritingLaws

@@ -1,1 +1,3 @@
 pub mod Looked
+pub mod Judged
+pub mod Around

@@ -1,7 +1,9 @@
 // The client's half (document 02): requests written, responses read in chunks. It depends on no crate of the service.
+pub mod judge;
 pub mod look;
 pub mod read;
 pub mod state;
+pub mod write;
 
 // Why a request is not written; the first that applies.
 pub enum WriteRefusal {

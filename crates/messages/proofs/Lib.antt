@@ -6,4 +6,5 @@ pub mod LengthLaws
 pub mod OpcodeLaws
 pub mod PackedLaws
 pub mod PlacedLaws
+pub mod WriteLaws
 pub mod Cases

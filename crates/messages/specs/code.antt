@@ -1,1 +1,2 @@
 pub mod ListBody
+pub mod Bodies

@@ -2,3 +2,4 @@
 // client. specs/ defines it, and proofs/ has that what is written is read as itself.
 pub mod opcodes;
 pub mod read;
+pub mod write;

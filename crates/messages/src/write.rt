@@ -1,0 +1,68 @@
+// The bodies of requests, written over the front of a lent buffer ("Operations and their fields").
+use protobuf::write::write_bytes_field;
+use protobuf::write::write_number_field;
+ghost use mathlib.Core.Path.{_≡_};
+ghost use mathlib.Core.List.{[], _∷_};
+ghost use Prim.Native.Nat.{_+_, _≤_};
+ghost use lib.ListN.{length};
+ghost use Rattle.wire.specs.Choice.{if_then_else_};
+ghost use Rattle.wire.specs.code.Wrote.{Wrote};
+ghost use Rattle.messages.specs.Message.{octets};
+ghost use Rattle.messages.specs.Format.{messageBytes};
+ghost use Rattle.messages.specs.Protobuf.{protobuf};
+ghost use Rattle.messages.specs.Operations.{listOpcodes, importKey, operationBody};
+ghost use Rattle.messages.specs.code.Bodies.{fieldMost, nameBodyMost, keyNumbers, keyNumbersMost, keyBodyMost};
+
+// A bool as its field's number.
+fn flag_number(b: bool) -> u64
+    ensures { λ r. ⌜ r ≡ (if b then 1 else 0) ⌝ }
+{
+    if b { 1 } else { 0 }
+}
+
+// ListOpcodes' body.
+pub fn write_provider_body(out: &mut [u8], provider: u32) -> usize
+    requires { ⌜ fieldMost ≤ length (now out) ⌝ }
+    ensures { λ r. ⌜ Wrote (operationBody protobuf (listOpcodes provider)) (now (out .entry)) (now (out .exit)) r × (r ≤ fieldMost) ⌝ }
+{
+    write_number_field(out, 1, provider as u64)
+}
+
+// Destroy's and Export's.
+pub fn write_name_body(out: &mut [u8], name: &[u8]) -> usize
+    requires { ⌜ nameBodyMost (now name) ≤ length (now out) ⌝ }
+    ensures { λ r. ⌜ Wrote (messageBytes protobuf (octets (now (name .entry)) ∷ [])) (now (out .entry)) (now (out .exit)) r × (r ≤ nameBodyMost (now (name .entry))) ⌝ }
+{
+    write_bytes_field(out, 1, name)
+}
+
+// The last three fields of Import's.
+fn write_key_numbers(out: &mut [u8], bits: u32, exported: bool, verified: bool) -> usize
+    requires { ⌜ keyNumbersMost ≤ length (now out) ⌝ }
+    ensures { λ r. ⌜ Wrote (keyNumbers bits exported verified) (now (out .entry)) (now (out .exit)) r × (r ≤ keyNumbersMost) ⌝ }
+{
+    let first = write_number_field(out, 3, bits as u64);
+    let second = write_number_field(&mut out[first..], 4, flag_number(exported));
+    let behind = first + second;
+    let third = write_number_field(&mut out[behind..], 5, flag_number(verified));
+    behind + third
+}
+
+// Import's.
+pub fn write_key_body(
+    out: &mut [u8],
+    name: &[u8],
+    bytes: &[u8],
+    bits: u32,
+    exported: bool,
+    verified: bool,
+) -> usize
+    requires { ⌜ keyBodyMost (now name) (now bytes) ≤ length (now out) ⌝ }
+    ensures { λ r. ⌜ Wrote (operationBody protobuf (importKey (record { name = now (name .entry); bytes = now (bytes .entry); bits = bits; exportAllowed = exported; verifyAllowed = verified }))) (now (out .entry)) (now (out .exit)) r × (r ≤ keyBodyMost (now (name .entry)) (now (bytes .entry))) ⌝ }
+{
+    let first = write_bytes_field(out, 1, name);
+    let second = write_bytes_field(&mut out[first..], 2, bytes);
+    let behind = first + second;
+    let third = write_key_numbers(&mut out[behind..], bits, exported, verified);
+    behind + third
+}
