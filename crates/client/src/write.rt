@@ -5,6 +5,12 @@ use crate::judge::Judged;
 use crate::judge::judge_key;
 use crate::judge::judge_name;
 use crate::judge::judge_sender;
+use messages::opcodes::LIST_OPCODES;
+use messages::opcodes::LIST_PROVIDERS;
+use messages::opcodes::PING;
+use messages::opcodes::PSA_DESTROY_KEY;
+use messages::opcodes::PSA_EXPORT_PUBLIC_KEY;
+use messages::opcodes::PSA_IMPORT_KEY;
 use messages::write::write_key_body;
 use messages::write::write_name_body;
 use messages::write::write_provider_body;
@@ -28,19 +34,6 @@ const HEADER_LENGTH: usize = 28;
 const CORE: u8 = 0;
 
 const KEYSTORE: u8 = 1;
-
-// Opcodes.
-const PING: u16 = 1;
-
-const LIST_PROVIDERS: u16 = 8;
-
-const LIST_OPCODES: u16 = 9;
-
-const PSA_IMPORT_KEY: u16 = 6;
-
-const PSA_DESTROY_KEY: u16 = 3;
-
-const PSA_EXPORT_PUBLIC_KEY: u16 = 7;
 
 // 0 for nobody that is named, 1 for an application.
 fn auth_type(named: bool) -> u8

@@ -8,19 +8,6 @@ pub mod operations;
 pub mod order;
 pub mod statuses;
 
-// The opcodes: of the core operations, provider 0, and of the keystore's, provider 1.
-pub const PING: u16 = 1;
-
-pub const LIST_PROVIDERS: u16 = 8;
-
-pub const LIST_OPCODES: u16 = 9;
-
-pub const PSA_DESTROY_KEY: u16 = 3;
-
-pub const PSA_IMPORT_KEY: u16 = 6;
-
-pub const PSA_EXPORT_PUBLIC_KEY: u16 = 7;
-
 // A response's status: document 01's table, ascending by number.
 pub enum Status {
     Success,

@@ -1,16 +1,16 @@
 // The six operations ("Operations and their fields"): what each comes to. Nothing is changed or written here.
 use crate::Decision;
 use crate::Edit;
-use crate::LIST_PROVIDERS;
 use crate::Output;
-use crate::PING;
-use crate::PSA_DESTROY_KEY;
-use crate::PSA_IMPORT_KEY;
 use crate::Status;
 use keys::DATA_MOST;
 use keys::KEY_NAME_MOST;
 use keys::bits::are_legal_bits;
 use keys::names::is_legal;
+use messages::opcodes::LIST_PROVIDERS;
+use messages::opcodes::PING;
+use messages::opcodes::PSA_DESTROY_KEY;
+use messages::opcodes::PSA_IMPORT_KEY;
 use protobuf::body::Body;
 use protobuf::body::read_body;
 use protobuf::message::Kind;
