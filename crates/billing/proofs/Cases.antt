@@ -13,7 +13,7 @@ use Rattle.wire.specs.Request.{requestOf}
 use Rattle.wire.specs.Response.{responseHeader, responseBytes}
 use Rattle.protobuf.specs.Varint.{varintOf}
 use Rattle.protobuf.specs.Field.{numberAt, fixedAt, spanAt, contentAt, fieldAt}
-use Rattle.protobuf.specs.Message.{withValue, itemOf, stepAt}
+use Rattle.protobuf.specs.code.Message.{withValue, itemOf, stepAt}
 use Rattle.protobuf.specs.Written.{varintWithin, varint, numberField, bytesField, packedField}
 use Rattle.keys.specs.Names.{legalName}
 use Rattle.registry.specs.Names.{indexFrom}

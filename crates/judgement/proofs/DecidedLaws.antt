@@ -8,8 +8,8 @@ use native.Mathlib.Omega.{arith}
 use borrow.Author.Tests.{lt-ltb, le-ltb, lt-leb, le-leb}
 use lib.ListN.{length, getD}
 use Rattle.wire.proofs.ListLaws.{length-part}
-use Rattle.protobuf.specs.Body.{bodyOf}
-use Rattle.protobuf.specs.Message.{allAbsent}
+use Rattle.protobuf.specs.code.Body.{bodyOf}
+use Rattle.protobuf.specs.code.Message.{allAbsent}
 use Rattle.protobuf.specs.declared.message.Schema.{Schema}
 use Rattle.protobuf.specs.declared.message.Values.{Values}
 use Rattle.protobuf.specs.declared.body.Body.the-variants.{Message, Unreadable}

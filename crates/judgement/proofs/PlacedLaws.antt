@@ -8,7 +8,7 @@ use mathlib.Core.List.{List, [], _∷_}
 use lib.ListN.{length}
 use lib.Dec.{eqb}
 use Rattle.wire.specs.Choice.{if_then_else_}
-use Rattle.protobuf.specs.Body.{bodyOf}
+use Rattle.protobuf.specs.code.Body.{bodyOf}
 use Rattle.protobuf.specs.declared.body.Body.{Body}
 use Rattle.protobuf.specs.declared.body.Body.the-variants.{Message as Readable, Unreadable}
 use Rattle.judgement.specs.code.Placed as placed-specs

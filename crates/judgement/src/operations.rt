@@ -26,7 +26,7 @@ ghost use mathlib.Core.List.{List};
 ghost use mathlib.Core.Path.{_≡_};
 ghost use Prim.Native.Nat.{ℕ, _<_};
 ghost use lib.ListN.{length};
-ghost use Rattle.protobuf.specs.Message as message;
+ghost use Rattle.protobuf.specs.code.Message as message;
 ghost use Rattle.registry.specs.Registry.{lineCount, registrySize, slotsOf};
 ghost use Rattle.registry.specs.WellFormed.{wellFormedRegistry};
 ghost use Rattle.judgement.specs.Operations.{operated, performImport, performDestroy, performExport, importable};

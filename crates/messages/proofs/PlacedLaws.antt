@@ -12,7 +12,7 @@ use Rattle.wire.specs.Choice.{if_then_else_, isSome}
 use Rattle.wire.specs.Scan.{Turn, follow, scanFrom, scanAt}
 use Rattle.wire.proofs.ScanLaws.{scan-end, scan-on}
 use Rattle.protobuf.specs.Field as proto
-use Rattle.protobuf.specs.Body.{bodyOf}
+use Rattle.protobuf.specs.code.Body.{bodyOf}
 use Rattle.protobuf.specs.declared.field.Field.{Field as ProtoField}
 use Rattle.protobuf.specs.declared.field.Field.the-variants.{Number, Span, Fixed, GroupStart, GroupEnd, Unreadable}
 use Rattle.protobuf.specs.declared.message.Values.{Values}

@@ -13,8 +13,8 @@ use Rattle.wire.specs.Choice.{if_then_else_}
 use Rattle.wire.specs.Scan.{Turn, on, out, follow, scanFrom, scanAt}
 use Rattle.wire.proofs.TestLaws.{either}
 use Rattle.protobuf.specs.Field.{fieldAt}
-use Rattle.protobuf.specs.Message as proto
-use Rattle.protobuf.specs.Body as proto-body
+use Rattle.protobuf.specs.code.Message as proto
+use Rattle.protobuf.specs.code.Body as proto-body
 use Rattle.protobuf.specs.declared.field.Field.{Field as ProtoField}
 use Rattle.protobuf.specs.declared.field.Field.the-variants.{Number, Span, Fixed, GroupStart, GroupEnd, Unreadable as noField}
 use Rattle.protobuf.specs.declared.message.Kind.{Kind as ProtoKind}

@@ -18,7 +18,7 @@ ghost use Prim.Native.Nat.{_-_};
 ghost use lib.ListN.{length};
 ghost use lib.Dec.{leb};
 ghost use Rattle.protobuf.specs.Varint.{varintAt};
-ghost use Rattle.protobuf.specs.Body.{bodyOf};
+ghost use Rattle.protobuf.specs.code.Body.{bodyOf};
 ghost use Rattle.protobuf.specs.Written.{varint, numberField, bytesField};
 ghost use Rattle.probe.specs.code.Answers.{numberMost, WroteIf};
 ghost use Rattle.probe.specs.code.Numbers.{varintNumbers, bodyNumbers, schemaOf};

@@ -4,8 +4,8 @@ use native.Mathlib.Omega.{arith}
 use mathlib.Core.Path.{_≡_}
 use mathlib.Core.List.{List}
 use lib.ListN.{length}
-use Rattle.protobuf.specs.Message.{stepAt, allAbsent}
-use Rattle.protobuf.specs.Body.{turnOf, turnAt, bodyAt, bodyOf}
+use Rattle.protobuf.specs.code.Message.{stepAt, allAbsent}
+use Rattle.protobuf.specs.code.Body.{turnOf, turnAt, bodyAt, bodyOf}
 use Rattle.protobuf.specs.declared.message.Schema.{Schema}
 use Rattle.protobuf.specs.declared.message.Values.{Values}
 use Rattle.protobuf.specs.declared.message.Step.{Step}

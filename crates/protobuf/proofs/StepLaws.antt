@@ -5,7 +5,7 @@ use mathlib.Core.List.{List}
 use lib.ListN.{length}
 use lib.Dec.{eqb}
 use Rattle.protobuf.specs.Field.{fieldAt}
-use Rattle.protobuf.specs.Message.{kindOf, withValue, ofNumber, ofSpan, itemOf, stepOf, stepAt}
+use Rattle.protobuf.specs.code.Message.{kindOf, withValue, ofNumber, ofSpan, itemOf, stepOf, stepAt}
 use Rattle.protobuf.specs.declared.field.Field.{Field}
 use Rattle.protobuf.specs.declared.field.Field.the-variants.{Number, Span, Fixed, GroupStart, GroupEnd, Unreadable}
 use Rattle.protobuf.specs.declared.message.Kind.{Kind}

@@ -1,5 +1,4 @@
 pub mod Varint
 pub mod Field
-pub mod Message
-pub mod Body
 pub mod Written
+pub mod code

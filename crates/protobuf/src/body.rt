@@ -7,8 +7,8 @@ use crate::message::read_step;
 use crate::reader::open_reader;
 use crate::reader::read_message;
 ghost use mathlib.Core.Path.{_≡_};
-ghost use Rattle.protobuf.specs.Message.{allAbsent};
-ghost use Rattle.protobuf.specs.Body.{bodyAt, bodyOf};
+ghost use Rattle.protobuf.specs.code.Message.{allAbsent};
+ghost use Rattle.protobuf.specs.code.Body.{bodyAt, bodyOf};
 
 // A body that was read: its message, or where its first unreadable field's tag starts.
 pub enum Body {

@@ -3,7 +3,7 @@
 use crate::field::Field;
 use crate::field::read_field;
 ghost use mathlib.Core.Path.{_≡_};
-ghost use Rattle.protobuf.specs.Message as message;
+ghost use Rattle.protobuf.specs.code.Message as message;
 
 // What a field number stands for in a message.
 pub enum Kind {

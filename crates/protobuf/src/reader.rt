@@ -3,8 +3,8 @@ use crate::body::Body;
 use crate::body::read_fields;
 use crate::message::Schema;
 ghost use mathlib.Core.Path.{_≡_};
-ghost use Rattle.protobuf.specs.Message.{allAbsent};
-ghost use Rattle.protobuf.specs.Body.{bodyAt};
+ghost use Rattle.protobuf.specs.code.Message.{allAbsent};
+ghost use Rattle.protobuf.specs.code.Body.{bodyAt};
 
 pub struct Reader<'a> {
     pub body: &'a [u8],

@@ -10,7 +10,7 @@ use lib.Dec.{ltb, eqb}
 use Rattle.wire.specs.Choice.{if_then_else_}
 use Rattle.wire.specs.Lists.{oneOf}
 use Rattle.wire.specs.declared.header.Header.{Header}
-use Rattle.protobuf.specs.Message.{allAbsent}
+use Rattle.protobuf.specs.code.Message.{allAbsent}
 use Rattle.protobuf.specs.declared.message.Value.{Value}
 use Rattle.protobuf.specs.declared.message.Values.{Values}
 use Rattle.keys.specs.Key.{dataMost, bitsMost}

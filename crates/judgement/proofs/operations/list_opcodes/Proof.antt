@@ -1,7 +1,7 @@
 -- `judgement::operations::list_opcodes` meets its contract.
 use mathlib.Core.Path.{_≡_, refl, sym, ap, _∙_}
 use borrow.Author.Needs.{needs}
-use Rattle.protobuf.specs.Body.{bodyOf}
+use Rattle.protobuf.specs.code.Body.{bodyOf}
 use Rattle.protobuf.specs.declared.message.Schema.{Schema}
 use Rattle.protobuf.specs.declared.message.Values.{Values}
 use Rattle.messages.specs.Operations.{Operation, listOpcodes}

@@ -1,5 +1,5 @@
 -- `probe::messages::probe_read_body` meets its contract.
-use Rattle.protobuf.specs.Body.{bodyOf}
+use Rattle.protobuf.specs.code.Body.{bodyOf}
 use Rattle.protobuf.specs.declared.message.Schema.{Schema}
 use Rattle.probe.specs.code.Numbers.{schemaOf, bodyNumbers}
 use mathlib.Core.Path.{_≡_, sym, ap, _∙_}

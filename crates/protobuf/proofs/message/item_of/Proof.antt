@@ -1,5 +1,5 @@
 -- `protobuf::message::item_of` meets its contract.
-use Rattle.protobuf.specs.Message.{itemOf}
+use Rattle.protobuf.specs.code.Message.{itemOf}
 use borrow.Author.Needs.{needs}
 use Rattle.protobuf.proofs.message.item_of.Statement.{statement}
 use Rattle.protobuf.proofs.message.item_of.Tie as tie

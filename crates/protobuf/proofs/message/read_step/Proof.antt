@@ -1,5 +1,5 @@
 -- `protobuf::message::read_step` meets its contract.
-use Rattle.protobuf.specs.Message.{itemOf, stepAt}
+use Rattle.protobuf.specs.code.Message.{itemOf, stepAt}
 use mathlib.Core.Path.{ap, sym, _∙_}
 use borrow.Author.Needs.{needs}
 use Rattle.protobuf.proofs.message.read_step.Statement.{statement}

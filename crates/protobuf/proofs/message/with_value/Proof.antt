@@ -1,5 +1,5 @@
 -- `protobuf::message::with_value` meets its contract.
-use Rattle.protobuf.specs.Message.{withValue}
+use Rattle.protobuf.specs.code.Message.{withValue}
 use borrow.Author.Tests.{eq-eqb, ne-eqb}
 use Rattle.protobuf.proofs.message.with_value.Statement.{statement}
 use Rattle.protobuf.proofs.message.with_value.Tie as tie

@@ -40,8 +40,8 @@ use denote.Triple.Statement.{Contract, Triple}
 use denote.Triple.Table.{entered, cited}
 use denote.Triple.Walked.{says, Stays, stay-dropped, walkOf, goes-dropped, Walks, ends-at, walked, walk-meets}
 use denote.Exit.{yes}
-use Rattle.protobuf.specs.Message.{allAbsent}
-use Rattle.protobuf.specs.Body.{bodyAt}
+use Rattle.protobuf.specs.code.Message.{allAbsent}
+use Rattle.protobuf.specs.code.Body.{bodyAt}
 use Rattle.protobuf.specs.declared.reader.Reader.{Reader}
 use Rattle.protobuf.specs.declared.message.Schema.{Schema}
 use Rattle.protobuf.specs.declared.body.Body.{Body}

@@ -4,7 +4,7 @@ use Prim.Native.Nat.{ℕ}
 use mathlib.Core.List.{List}
 use lib.ListN.{length}
 use Rattle.wire.specs.Scan.{Turn, on, out, scanAt}
-use Rattle.protobuf.specs.Message.{stepAt, allAbsent}
+use Rattle.protobuf.specs.code.Message.{stepAt, allAbsent}
 use Rattle.protobuf.specs.declared.message.Schema.{Schema}
 use Rattle.protobuf.specs.declared.message.Values.{Values}
 use Rattle.protobuf.specs.declared.message.Step.{Step}
