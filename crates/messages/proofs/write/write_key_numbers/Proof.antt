@@ -64,7 +64,8 @@ returns c =
     let third = c .before .before in
     let second = third .before .before .before .before .before in
     let first = second .before .before .before .before .before in
-    rw (key-numbers _ _ _ (second .before .flag-number .ensures) (third .before .flag-number2 .ensures)) (
+    let a = first .before .before .before .args in
+    rw (key-numbers _ (a .exported) (a .verified) (second .before .flag-number .ensures) (third .before .flag-number2 .ensures)) (
       wrote-on (wrote-on (first .write-number-field .ensures) (second .write-number-field2 .ensures)) (third .write-number-field3 .ensures),
       omega (arith, first-short first, second-short second, third-short third),
     )
