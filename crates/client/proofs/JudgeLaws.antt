@@ -12,7 +12,7 @@ use Rattle.wire.proofs.TestLaws.{none-at}
 use Rattle.keys.specs.Names.{keyNameMost, legalName}
 use Rattle.keys.specs.Key.{Key, legalData, importBits}
 use Rattle.messages.specs.Operations.{Operation, ping, importKey, destroyKey}
-use Rattle.client.specs.Writing.{Sender, requestBufferLeast, legalSender, legalKeyName, legalKeyData, writeTests}
+use Rattle.client.specs.Writing.{Sender, requestBufferLeast, legalSender, legalKeyName, legalKeyData, legalKeyBits, writeTests}
 use Rattle.client.specs.code.Judged.{judgedAs, firstRefusal}
 use Rattle.client.specs.declared.WriteRefusal.{WriteRefusal}
 use Rattle.client.specs.declared.WriteRefusal.the-variants.{BufferTooSmall, ApplicationNameIllegal, KeyNameIllegal, DataIllegal, BitsIllegal}
@@ -79,6 +79,7 @@ pub record Passed (out : List ℕ) (sender : Sender) (operation : Operation) : T
   pub legal : legalSender sender ≡ true
   pub name : legalKeyName operation ≡ true
   pub bytes : legalKeyData operation ≡ true
+  pub bits : legalKeyBits operation ≡ true
 
 pub passed : (out : List ℕ) (sender : Sender) (operation : Operation) → judgedAs (firstOf (writeTests out sender operation)) ≡ Legal → Passed out sender operation
 unfolding writeTests
@@ -86,4 +87,4 @@ passed out sender operation e =
     let none′ = told-legal (firstOf (writeTests out sender operation)) e in
     let at : (k : ℕ) → getD (writeTests out sender operation) k (false, BufferTooSmall) .0 ≡ false
     = λ k. none-at (writeTests out sender operation) k BufferTooSmall none′ in
-    record { room = ltb-false _ _ (at 0); legal = not-false _ (at 1); name = not-false _ (at 2); bytes = not-false _ (at 3) }
+    record { room = ltb-false _ _ (at 0); legal = not-false _ (at 1); name = not-false _ (at 2); bytes = not-false _ (at 3); bits = not-false _ (at 4) }

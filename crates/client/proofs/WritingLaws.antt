@@ -15,17 +15,22 @@ use Rattle.wire.specs.Request.{requestLeast, requestHeader, requestBytes}
 use Rattle.wire.specs.code.Wrote.{Wrote}
 use Rattle.wire.proofs.ListLaws.{length-part}
 use Rattle.wire.proofs.BufferLaws.{onward, wrote-on}
-use Rattle.keys.specs.Names.{applicationNameMost}
+use Rattle.keys.specs.Names.{applicationNameMost, keyNameMost}
+use Rattle.keys.specs.Key.{importBits}
 use Rattle.keys.proofs.NameLaws.{legal-short}
+use Rattle.keys.proofs.KeyLaws.{legal-data, legal-bits}
+use Rattle.messages.specs.Format.{messageBytes}
 use Rattle.messages.specs.Protobuf.{protobuf}
-use Rattle.messages.specs.Operations.{Operation, opcodeOf, providerOf, operationBody}
-use Rattle.client.specs.Writing.{Sender, senderOf, authTypeOf, authOf, legalSender, requestFor, writeTests, writeOutcome}
+use Rattle.messages.specs.Operations.{Operation, ping, listProviders, listOpcodes, importKey, destroyKey, exportPublicKey, opcodeOf, providerOf, operationBody}
+use Rattle.messages.specs.code.Bodies.{bodyMost}
+use Rattle.messages.proofs.WriteLaws.{provider-body-short, name-body-short, key-body-short}
+use Rattle.client.specs.Writing.{Sender, senderOf, authTypeOf, authOf, legalSender, legalKeyName, legalKeyData, legalKeyBits, requestFor, writeTests, writeOutcome}
 use Rattle.client.specs.code.Judged.{judgedAs}
 use Rattle.client.specs.code.Around.{requestAround}
 use Rattle.client.specs.declared.WriteRefusal.{WriteRefusal}
 use Rattle.client.specs.declared.Written.the-variants.{Bytes, Refused}
 use Rattle.client.specs.declared.judge.Judged.the-variants.{Legal, Refused as Forbidden}
-use Rattle.client.proofs.JudgeLaws.{told-refused, told-legal}
+use Rattle.client.proofs.JudgeLaws.{told-refused, told-legal, Passed, passed}
 
 -- ---- the sender's auth bytes
 
@@ -42,6 +47,25 @@ auth-front false application e = rw e
 pub auth-short : (sender : Sender) → legalSender sender ≡ true → length (authOf sender) ≤ applicationNameMost
 auth-short none e = omega arith
 auth-short (some name) e = legal-short applicationNameMost name e
+
+-- ---- how long a legal body is at most
+
+body-short : (operation : Operation) → legalKeyName operation ≡ true → legalKeyData operation ≡ true → legalKeyBits operation ≡ true
+    → length (operationBody protobuf operation) ≤ bodyMost
+unfolding operationBody messageBytes importBits
+body-short ping n d b = omega arith
+body-short listProviders n d b = omega arith
+body-short (listOpcodes provider) n d b = provider-body-short provider
+body-short (importKey key) n d b = key-body-short key (legal-short keyNameMost (key .name) n) (legal-data (key .bytes) d) (legal-bits (key .bits) b)
+body-short (destroyKey name) n d b = name-body-short name (legal-short keyNameMost name n)
+body-short (exportPublicKey name) n d b = name-body-short name (legal-short keyNameMost name n)
+
+module _ {out : List ℕ} {sender : Sender} {operation : Operation} (p : Passed out sender operation) where
+  passed-short : length (operationBody protobuf operation) ≤ bodyMost
+  passed-short = body-short operation (p .name) (p .bytes) (p .bits)
+
+  pub written-short : {d e : List ℕ} {r : ℕ} → Wrote (operationBody protobuf operation) d e r → r ≤ bodyMost
+  written-short w = omega (arith, w .count, passed-short)
 
 -- ---- around a body that is there
 
@@ -125,3 +149,26 @@ module _ (out : List ℕ) (session : ℕ) (sender : Sender) (operation : Operati
         count = w′ .count;
         bytes = w′ .bytes ∙ ap (over bytes) there ∙ over-more bytes (front ++ written) out covers;
       })
+
+-- ---- A REQUEST THAT IS WRITTEN IS SHORT: 28 bytes, at most 644 of body, at most 64 of auth
+
+abbrev pub requestMost : ℕ
+requestMost = requestLeast + (bodyMost + applicationNameMost)
+
+pub request-short : (out : List ℕ) (session : ℕ) (sender : Sender) (operation : Operation) → firstOf (writeTests out sender operation) ≡ none
+    → length (requestBytes (requestFor session sender operation)) ≤ requestMost
+unfolding requestFor requestAround judgedAs
+request-short out session sender operation e =
+    let p = passed out sender operation (ap judgedAs e) in
+    omega (
+      arith,
+      request-length session sender (providerOf operation) (opcodeOf operation) (operationBody protobuf operation),
+      passed-short p,
+      auth-short sender (p .legal),
+    )
+
+-- so the shortest buffer has room
+pub request-fits : (out : List ℕ) (session : ℕ) (sender : Sender) (operation : Operation) → firstOf (writeTests out sender operation) ≡ none
+    → length (requestBytes (requestFor session sender operation)) ≤ length out
+unfolding judgedAs
+request-fits out session sender operation e = omega (arith, request-short out session sender operation e, passed out sender operation (ap judgedAs e) .room)

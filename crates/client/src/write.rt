@@ -24,8 +24,9 @@ ghost use Rattle.wire.specs.Choice.{if_then_else_};
 ghost use Rattle.wire.specs.Request.{requestLeast, requestBytes};
 ghost use Rattle.wire.specs.code.Wrote.{Wrote};
 ghost use Rattle.messages.specs.Operations.{ping, listProviders, listOpcodes, importKey, destroyKey, exportPublicKey};
+ghost use Rattle.messages.specs.code.Bodies.{bodyMost};
 ghost use Rattle.client.specs.Writing.{senderOf, authOf, legalSender, requestBufferLeast, writeOutcome};
-ghost use Rattle.client.specs.code.Around.{bodyMost, requestAround};
+ghost use Rattle.client.specs.code.Around.{requestAround};
 
 // Of every request that is written.
 const HEADER_LENGTH: usize = 28;

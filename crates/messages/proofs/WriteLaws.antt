@@ -1,44 +1,45 @@
 -- Laws of the bodies that are written: their fields, and how long they are at most.
-use Prim.Native.Nat.{ℕ, _+_, _*_, _≤_}
+use Prim.Native.Nat.{ℕ, _+_, _*_, _/_, _≤_, _<_}
 use native.Mathlib.Omega.{arith}
-use mathlib.Core.Path.{_≡_, ap}
-use mathlib.Core.Bool.{Bool}
+use mathlib.Core.Path.{_≡_, refl, ap}
+use mathlib.Core.Bool.{Bool, true, false}
 use mathlib.Core.List.{List, [], _∷_, _++_, append-nil, append-assoc}
+use borrow.Author.Tests.{ltb-true, ltb-false}
 use lib.ListN.{length, length-append}
-use lib.Dec.{eqb}
+use lib.Dec.{ltb, eqb}
 use Rattle.wire.specs.Choice.{if_then_else_}
 use Rattle.wire.specs.code.Wrote.{Wrote}
 use Rattle.wire.proofs.TestLaws.{either}
-use Rattle.keys.specs.Key.{Key}
-use Rattle.protobuf.specs.Written.{varint, numberField, bytesField}
-use Rattle.protobuf.proofs.WrittenLaws.{varint-short, bytes-field-none, bytes-field-length}
+use Rattle.keys.specs.Names.{keyNameMost}
+use Rattle.keys.specs.Key.{Key, dataMost, bitsMost}
+use Rattle.protobuf.specs.Written.{varintWithin, varint, numberField, bytesField}
+use Rattle.protobuf.proofs.WrittenLaws.{ends, goes-on, varint-short, bytes-field-none, bytes-field-length}
 use Rattle.messages.specs.Message.{octets}
 use Rattle.messages.specs.Format.{messageBytes}
 use Rattle.messages.specs.Protobuf.{protobuf}
 use Rattle.messages.specs.Operations.{listOpcodes, importKey, operationBody}
-use Rattle.messages.specs.code.Bodies.{fieldMost, keyNumbers}
+use Rattle.messages.specs.code.Bodies.{fieldRoom, keyNumbers, bodyMost}
 
 -- ---- a field's length
 
-number-field-short : (number value : ℕ) → length (numberField number value) ≤ fieldMost
+number-field-within : (number value : ℕ) → length (numberField number value) ≤ length (varint (8 * number)) + length (varint value)
 unfolding numberField
-number-field-short number value =
-    let tag = varint-short (8 * number) in
-    let long : length (varint (8 * number) ++ varint value) ≤ fieldMost
-    = omega (arith, varint-short value, length-append (varint (8 * number)) (varint value)) in
-    either (λ (l : List ℕ). length l ≤ fieldMost) (eqb value 0) (λ _. omega arith) (λ _. long)
+number-field-within number value =
+    let most : ℕ = length (varint (8 * number)) + length (varint value) in
+    let long : length (varint (8 * number) ++ varint value) ≤ most = omega (arith, length-append (varint (8 * number)) (varint value)) in
+    either (λ (l : List ℕ). length l ≤ most) (eqb value 0) (λ _. omega arith) (λ _. long)
 
-bytes-field-short : (number : ℕ) (bytes : List ℕ) → length (bytesField number bytes) ≤ length bytes + fieldMost
-bytes-field-short number [] = omega (arith, ap length (bytes-field-none number [] (omega arith)))
-bytes-field-short number (b ∷ bytes) =
-    omega (arith, bytes-field-length number (b ∷ bytes) (omega arith), varint-short (8 * number + 2), varint-short (length (b ∷ bytes)))
+bytes-field-within : (number : ℕ) (bytes : List ℕ)
+    → length (bytesField number bytes) ≤ length (varint (8 * number + 2)) + length (varint (length bytes)) + length bytes
+bytes-field-within number [] = omega (arith, ap length (bytes-field-none number [] (omega arith)))
+bytes-field-within number (b ∷ bytes) = omega (arith, bytes-field-length number (b ∷ bytes) (omega arith))
 
 module _ {d e : List ℕ} {r : ℕ} where
-  pub number-short : (number value : ℕ) → Wrote (numberField number value) d e r → r ≤ fieldMost
-  number-short number value w = omega (arith, w .count, number-field-short number value)
+  pub number-short : (number value : ℕ) → Wrote (numberField number value) d e r → r ≤ fieldRoom
+  number-short number value w = omega (arith, w .count, number-field-within number value, varint-short (8 * number), varint-short value)
 
-  pub bytes-short : (number : ℕ) (bytes : List ℕ) → Wrote (bytesField number bytes) d e r → r ≤ length bytes + fieldMost
-  bytes-short number bytes w = omega (arith, w .count, bytes-field-short number bytes)
+  pub bytes-short : (number : ℕ) (bytes : List ℕ) → Wrote (bytesField number bytes) d e r → r ≤ length bytes + fieldRoom
+  bytes-short number bytes w = omega (arith, w .count, bytes-field-within number bytes, varint-short (8 * number + 2), varint-short (length bytes))
 
 -- ---- the bodies' fields
 
@@ -59,3 +60,46 @@ pub key-body : (key : Key) → operationBody protobuf (importKey key)
     ≡ (bytesField 1 (key .name) ++ bytesField 2 (key .bytes)) ++ keyNumbers (key .bits) (key .exportAllowed) (key .verifyAllowed)
 unfolding operationBody messageBytes keyNumbers
 key-body key = simp (append-assoc, append-nil)
+
+-- ---- how long the bodies of legal operations are at most
+
+one-byte : (n : ℕ) → n < 128 → length (varint n) ≡ 1
+unfolding varint
+one-byte n h = ap length (ends 9 n h)
+
+two-bytes : (n : ℕ) → n < 128 * 128 → length (varint n) ≤ 2
+unfolding varint
+two-bytes n h = go (ltb n 128) refl
+  where
+    go : (t : Bool) → ltb n 128 ≡ t → length (varintWithin 9 n) ≤ 2
+    go true e = omega (arith, ap length (ends 9 n (ltb-true n 128 e)))
+    go false e =
+        let more : 128 ≤ n = ltb-false n 128 e in
+        let last : n / 128 < 128 = omega arith in
+        omega (arith, ap length (goes-on 8 n more), ap length (ends 8 (n / 128) last))
+
+flag-short : (number : ℕ) (b : Bool) → 8 * number < 128 → length (numberField number (if b then 1 else 0)) ≤ 1 + 1
+flag-short number b h =
+    let value : (if b then 1 else 0) < 128 = either (λ (n : ℕ). n < 128) b (λ _. omega arith) (λ _. omega arith) in
+    omega (arith, number-field-within number (if b then 1 else 0), one-byte (8 * number) h, one-byte (if b then 1 else 0) value)
+
+pub provider-body-short : (provider : ℕ) → length (operationBody protobuf (listOpcodes provider)) ≤ bodyMost
+provider-body-short provider = rw provider-body (omega (arith, number-field-within 1 provider, varint-short (8 * 1), varint-short provider))
+
+name-field-short : (name : List ℕ) → length name ≤ keyNameMost → length (bytesField 1 name) ≤ 1 + 1 + keyNameMost
+name-field-short name h = omega (arith, bytes-field-within 1 name, one-byte (8 * 1 + 2) (omega arith), one-byte (length name) (omega arith))
+
+pub name-body-short : (name : List ℕ) → length name ≤ keyNameMost → length (messageBytes protobuf (octets name ∷ [])) ≤ bodyMost
+name-body-short name h = rw name-body (omega (arith, name-field-short name h))
+
+pub key-body-short : (key : Key) → length (key .name) ≤ keyNameMost → length (key .bytes) ≤ dataMost → key .bits ≤ bitsMost
+    → length (operationBody protobuf (importKey key)) ≤ bodyMost
+unfolding keyNumbers
+key-body-short key n d b =
+    let data′ : length (bytesField 2 (key .bytes)) ≤ 1 + 2 + dataMost
+    = omega (arith, bytes-field-within 2 (key .bytes), one-byte (8 * 2 + 2) (omega arith), two-bytes (length (key .bytes)) (omega arith)) in
+    let bits : length (numberField 3 (key .bits)) ≤ 1 + 2
+    = omega (arith, number-field-within 3 (key .bits), one-byte (8 * 3) (omega arith), two-bytes (key .bits) (omega arith)) in
+    let exported = flag-short 4 (key .exportAllowed) (omega arith) in
+    let verified = flag-short 5 (key .verifyAllowed) (omega arith) in
+    rw key-body (simp length-append (omega (arith, name-field-short (key .name) n)))

@@ -11,7 +11,7 @@ ghost use Rattle.messages.specs.Message.{octets};
 ghost use Rattle.messages.specs.Format.{messageBytes};
 ghost use Rattle.messages.specs.Protobuf.{protobuf};
 ghost use Rattle.messages.specs.Operations.{listOpcodes, importKey, operationBody};
-ghost use Rattle.messages.specs.code.Bodies.{fieldMost, nameBodyMost, keyNumbers, keyNumbersMost, keyBodyMost};
+ghost use Rattle.messages.specs.code.Bodies.{fieldRoom, nameBodyRoom, keyNumbers, keyNumbersRoom, keyBodyRoom};
 
 // A bool as its field's number.
 fn flag_number(b: bool) -> u64
@@ -22,24 +22,24 @@ fn flag_number(b: bool) -> u64
 
 // ListOpcodes' body.
 pub fn write_provider_body(out: &mut [u8], provider: u32) -> usize
-    requires { ⌜ fieldMost ≤ length (now out) ⌝ }
-    ensures { λ r. ⌜ Wrote (operationBody protobuf (listOpcodes provider)) (now (out .entry)) (now (out .exit)) r × (r ≤ fieldMost) ⌝ }
+    requires { ⌜ fieldRoom ≤ length (now out) ⌝ }
+    ensures { λ r. ⌜ Wrote (operationBody protobuf (listOpcodes provider)) (now (out .entry)) (now (out .exit)) r ⌝ }
 {
     write_number_field(out, 1, provider as u64)
 }
 
 // Destroy's and Export's.
 pub fn write_name_body(out: &mut [u8], name: &[u8]) -> usize
-    requires { ⌜ nameBodyMost (now name) ≤ length (now out) ⌝ }
-    ensures { λ r. ⌜ Wrote (messageBytes protobuf (octets (now (name .entry)) ∷ [])) (now (out .entry)) (now (out .exit)) r × (r ≤ nameBodyMost (now (name .entry))) ⌝ }
+    requires { ⌜ nameBodyRoom (now name) ≤ length (now out) ⌝ }
+    ensures { λ r. ⌜ Wrote (messageBytes protobuf (octets (now (name .entry)) ∷ [])) (now (out .entry)) (now (out .exit)) r ⌝ }
 {
     write_bytes_field(out, 1, name)
 }
 
 // The last three fields of Import's.
 fn write_key_numbers(out: &mut [u8], bits: u32, exported: bool, verified: bool) -> usize
-    requires { ⌜ keyNumbersMost ≤ length (now out) ⌝ }
-    ensures { λ r. ⌜ Wrote (keyNumbers bits exported verified) (now (out .entry)) (now (out .exit)) r × (r ≤ keyNumbersMost) ⌝ }
+    requires { ⌜ keyNumbersRoom ≤ length (now out) ⌝ }
+    ensures { λ r. ⌜ Wrote (keyNumbers bits exported verified) (now (out .entry)) (now (out .exit)) r × (r ≤ keyNumbersRoom) ⌝ }
 {
     let first = write_number_field(out, 3, bits as u64);
     let second = write_number_field(&mut out[first..], 4, flag_number(exported));
@@ -57,8 +57,8 @@ pub fn write_key_body(
     exported: bool,
     verified: bool,
 ) -> usize
-    requires { ⌜ keyBodyMost (now name) (now bytes) ≤ length (now out) ⌝ }
-    ensures { λ r. ⌜ Wrote (operationBody protobuf (importKey (record { name = now (name .entry); bytes = now (bytes .entry); bits = bits; exportAllowed = exported; verifyAllowed = verified }))) (now (out .entry)) (now (out .exit)) r × (r ≤ keyBodyMost (now (name .entry)) (now (bytes .entry))) ⌝ }
+    requires { ⌜ keyBodyRoom (now name) (now bytes) ≤ length (now out) ⌝ }
+    ensures { λ r. ⌜ Wrote (operationBody protobuf (importKey (record { name = now (name .entry); bytes = now (bytes .entry); bits = bits; exportAllowed = exported; verifyAllowed = verified }))) (now (out .entry)) (now (out .exit)) r ⌝ }
 {
     let first = write_bytes_field(out, 1, name);
     let second = write_bytes_field(&mut out[first..], 2, bytes);

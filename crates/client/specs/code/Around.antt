@@ -1,10 +1,7 @@
 -- A request around a body that is there.
-use Prim.Native.Nat.{ℕ, _+_, _*_}
+use Prim.Native.Nat.{ℕ}
 use mathlib.Core.List.{List}
 use Rattle.wire.specs.Request.{Request}
-use Rattle.keys.specs.Names.{keyNameMost}
-use Rattle.keys.specs.Key.{dataMost}
-use Rattle.messages.specs.code.Bodies.{fieldMost}
 use Rattle.client.specs.Writing.{Sender, authTypeOf, authOf}
 
 unfoldable pub requestAround : (session : ℕ) → Sender → (provider opcode : ℕ) (body : List ℕ) → Request
@@ -20,7 +17,3 @@ requestAround session sender provider opcode body = record {
   body = body;
   auth = authOf sender;
 }
-
--- no legal operation has a longer body
-abbrev pub bodyMost : ℕ
-bodyMost = keyNameMost + dataMost + 5 * fieldMost

@@ -1,25 +1,32 @@
--- How long the bodies of requests are at most, for those who lend a buffer, and the part of Import's that is written by itself.
+-- How much room the bodies of requests ask for, how long those of legal operations are, and the part of Import's that is
+-- written by itself.
 use Prim.Native.Nat.{ℕ, _+_, _*_}
 use mathlib.Core.Bool.{Bool}
 use mathlib.Core.List.{List, _++_}
 use lib.ListN.{length}
 use Rattle.wire.specs.Choice.{if_then_else_}
+use Rattle.keys.specs.Names.{keyNameMost}
+use Rattle.keys.specs.Key.{dataMost}
 use Rattle.protobuf.specs.Written.{numberField}
 
 -- a number's field, and the tag and length of another
-abbrev pub fieldMost : ℕ
-fieldMost = 20
+abbrev pub fieldRoom : ℕ
+fieldRoom = 20
 
-abbrev pub nameBodyMost : (name : List ℕ) → ℕ
-nameBodyMost name = length name + fieldMost
+abbrev pub nameBodyRoom : (name : List ℕ) → ℕ
+nameBodyRoom name = length name + fieldRoom
 
 -- bits, export allowed, verify allowed
 unfoldable pub keyNumbers : (bits : ℕ) (exported verified : Bool) → List ℕ
 keyNumbers bits exported verified =
     numberField 3 bits ++ (numberField 4 (if exported then 1 else 0) ++ numberField 5 (if verified then 1 else 0))
 
-abbrev pub keyNumbersMost : ℕ
-keyNumbersMost = 3 * fieldMost
+abbrev pub keyNumbersRoom : ℕ
+keyNumbersRoom = 3 * fieldRoom
 
-abbrev pub keyBodyMost : (name bytes : List ℕ) → ℕ
-keyBodyMost name bytes = length name + length bytes + 5 * fieldMost
+abbrev pub keyBodyRoom : (name bytes : List ℕ) → ℕ
+keyBodyRoom name bytes = length name + length bytes + 5 * fieldRoom
+
+-- the longest body of a legal operation is Import's: tag, length and name; tag, length and data; bits; two permissions
+abbrev pub bodyMost : ℕ
+bodyMost = (1 + 1 + keyNameMost) + (1 + 2 + dataMost) + (1 + 2) + 2 * (1 + 1)

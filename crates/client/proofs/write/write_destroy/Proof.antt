@@ -10,7 +10,7 @@ use Rattle.client.specs.Writing.{Sender, senderOf, writeTests}
 use Rattle.client.specs.code.Judged.{judgedAs}
 use Rattle.client.specs.declared.judge.Judged.the-variants.{Legal}
 use Rattle.client.proofs.JudgeLaws.{Passed, passed}
-use Rattle.client.proofs.WritingLaws.{refused-outcome, body-outcome}
+use Rattle.client.proofs.WritingLaws.{written-short, refused-outcome, body-outcome}
 use Rattle.client.proofs.write.write_destroy.Statement.{statement}
 use Rattle.client.proofs.write.write_destroy.Tie as tie
 
@@ -51,10 +51,11 @@ write-name-body-requires : tie.Need-write-name-body-requires
 write-name-body-requires c κs = let p = passes (c .before) in omega (arith, p .room, legal-short keyNameMost _ (p .name))
 
 write-around-requires : tie.Need-write-around-requires
+unfolding operationBody
 write-around-requires c κs =
     let b = c .before .before .before in
     let p = passes (b .before .before) in
-    (omega (arith, p .room), p .legal, omega (arith, b .write-name-body .ensures .1, legal-short keyNameMost _ (p .name)))
+    (omega (arith, p .room), p .legal, written-short p (b .write-name-body .ensures))
 
 same-length : tie.Need-same-length
 same-length c = search needs
@@ -71,7 +72,7 @@ returns-2 c =
     let around = c .before .before in
     let b = around .before .before .before .before in
     let told = b .before .before in
-    body-outcome _ _ _ _ (legal told) (omega (arith, passes told .room)) (b .write-name-body .ensures .0) (around .write-around .ensures)
+    body-outcome _ _ _ _ (legal told) (omega (arith, passes told .room)) (b .write-name-body .ensures) (around .write-around .ensures)
 
 pub write-destroy-spec : {M : Type 1} → statement M
 write-destroy-spec =

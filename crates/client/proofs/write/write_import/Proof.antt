@@ -11,7 +11,7 @@ use Rattle.client.specs.Writing.{Sender, senderOf, writeTests}
 use Rattle.client.specs.code.Judged.{judgedAs}
 use Rattle.client.specs.declared.judge.Judged.the-variants.{Legal}
 use Rattle.client.proofs.JudgeLaws.{Passed, passed}
-use Rattle.client.proofs.WritingLaws.{refused-outcome, body-outcome}
+use Rattle.client.proofs.WritingLaws.{written-short, refused-outcome, body-outcome}
 use Rattle.client.proofs.write.write_import.Statement.{statement}
 use Rattle.client.proofs.write.write_import.Tie as tie
 
@@ -55,7 +55,7 @@ write-around-requires : tie.Need-write-around-requires
 write-around-requires c κs =
     let b = c .before .before .before in
     let p = passes (b .before .before) in
-    (omega (arith, p .room), p .legal, omega (arith, b .write-key-body .ensures .1, legal-short keyNameMost _ (p .name), legal-data _ (p .bytes)))
+    (omega (arith, p .room), p .legal, written-short p (b .write-key-body .ensures))
 
 same-length : tie.Need-same-length
 same-length c = search needs
@@ -71,7 +71,7 @@ returns-2 c =
     let around = c .before .before in
     let b = around .before .before .before .before in
     let told = b .before .before in
-    body-outcome _ _ _ _ (legal told) (omega (arith, passes told .room)) (b .write-key-body .ensures .0) (around .write-around .ensures)
+    body-outcome _ _ _ _ (legal told) (omega (arith, passes told .room)) (b .write-key-body .ensures) (around .write-around .ensures)
 
 pub write-import-spec : {M : Type 1} → statement M
 write-import-spec =

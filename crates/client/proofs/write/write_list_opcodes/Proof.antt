@@ -8,7 +8,7 @@ use Rattle.client.specs.Writing.{Sender, senderOf, writeTests}
 use Rattle.client.specs.code.Judged.{judgedAs}
 use Rattle.client.specs.declared.judge.Judged.the-variants.{Legal}
 use Rattle.client.proofs.JudgeLaws.{Passed, passed}
-use Rattle.client.proofs.WritingLaws.{refused-outcome, body-outcome}
+use Rattle.client.proofs.WritingLaws.{written-short, refused-outcome, body-outcome}
 use Rattle.client.proofs.write.write_list_opcodes.Statement.{statement}
 use Rattle.client.proofs.write.write_list_opcodes.Tie as tie
 
@@ -53,7 +53,7 @@ write-around-requires : tie.Need-write-around-requires
 write-around-requires c κs =
     let b = c .before .before .before in
     let p = passes (b .before .before) in
-    (omega (arith, p .room), p .legal, omega (arith, b .write-provider-body .ensures .1))
+    (omega (arith, p .room), p .legal, written-short p (b .write-provider-body .ensures))
 
 same-length : tie.Need-same-length
 same-length c = search needs
@@ -70,7 +70,7 @@ returns-2 c =
     let around = c .before .before in
     let b = around .before .before .before .before in
     let told = b .before .before in
-    body-outcome _ _ _ _ (legal told) (omega (arith, passes told .room)) (b .write-provider-body .ensures .0) (around .write-around .ensures)
+    body-outcome _ _ _ _ (legal told) (omega (arith, passes told .room)) (b .write-provider-body .ensures) (around .write-around .ensures)
 
 pub write-list-opcodes-spec : {M : Type 1} → statement M
 write-list-opcodes-spec =

@@ -4,7 +4,7 @@ use native.Mathlib.Omega.{arith}
 use borrow.Author.Needs.{needs}
 use lib.ListN.{length}
 use Rattle.wire.proofs.BufferLaws.{wrote-on}
-use Rattle.messages.specs.code.Bodies.{fieldMost}
+use Rattle.messages.specs.code.Bodies.{fieldRoom}
 use Rattle.messages.proofs.WriteLaws.{bytes-short, key-body}
 use Rattle.messages.proofs.write.write_key_body.Statement.{statement}
 use Rattle.messages.proofs.write.write_key_body.Tie as tie
@@ -12,10 +12,10 @@ use Rattle.messages.proofs.write.write_key_body.Tie as tie
 abbrev start : tie.After-write-bytes-field → tie.Start
 start c = c .before .before .before .before .before
 
-first-short : (c : tie.After-write-bytes-field) → c .write-bytes-field .result ≤ length (start c .args .name .now) + fieldMost
+first-short : (c : tie.After-write-bytes-field) → c .write-bytes-field .result ≤ length (start c .args .name .now) + fieldRoom
 first-short c = bytes-short _ _ (c .write-bytes-field .ensures)
 
-second-short : (c : tie.After-write-bytes-field2) → c .write-bytes-field2 .result ≤ length (start (c .before .before .before .before) .args .bytes .now) + fieldMost
+second-short : (c : tie.After-write-bytes-field2) → c .write-bytes-field2 .result ≤ length (start (c .before .before .before .before) .args .bytes .now) + fieldRoom
 second-short c = bytes-short _ _ (c .write-bytes-field2 .ensures)
 
 write-bytes-field-requires : tie.Need-write-bytes-field-requires
@@ -59,10 +59,8 @@ returns c =
     let third = c .before .before in
     let second = third .before .before .before .before in
     let first = second .before .before .before .before in
-    rw key-body (
-      wrote-on (wrote-on (first .write-bytes-field .ensures) (second .write-bytes-field2 .ensures)) (third .write-key-numbers .ensures .0),
-      omega (arith, first-short first, second-short second, third .write-key-numbers .ensures .1),
-    )
+    rw key-body
+    (wrote-on (wrote-on (first .write-bytes-field .ensures) (second .write-bytes-field2 .ensures)) (third .write-key-numbers .ensures .0))
 
 pub write-key-body-spec : {M : Type 1} → statement M
 write-key-body-spec =

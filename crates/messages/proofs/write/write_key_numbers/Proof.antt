@@ -3,18 +3,18 @@ use Prim.Native.Nat.{_≤_}
 use native.Mathlib.Omega.{arith}
 use borrow.Author.Needs.{needs}
 use Rattle.wire.proofs.BufferLaws.{wrote-on}
-use Rattle.messages.specs.code.Bodies.{fieldMost}
+use Rattle.messages.specs.code.Bodies.{fieldRoom}
 use Rattle.messages.proofs.WriteLaws.{number-short, key-numbers}
 use Rattle.messages.proofs.write.write_key_numbers.Statement.{statement}
 use Rattle.messages.proofs.write.write_key_numbers.Tie as tie
 
-first-short : (c : tie.After-write-number-field) → c .write-number-field .result ≤ fieldMost
+first-short : (c : tie.After-write-number-field) → c .write-number-field .result ≤ fieldRoom
 first-short c = number-short _ _ (c .write-number-field .ensures)
 
-second-short : (c : tie.After-write-number-field2) → c .write-number-field2 .result ≤ fieldMost
+second-short : (c : tie.After-write-number-field2) → c .write-number-field2 .result ≤ fieldRoom
 second-short c = number-short _ _ (c .write-number-field2 .ensures)
 
-third-short : (c : tie.After-write-number-field3) → c .write-number-field3 .result ≤ fieldMost
+third-short : (c : tie.After-write-number-field3) → c .write-number-field3 .result ≤ fieldRoom
 third-short c = number-short _ _ (c .write-number-field3 .ensures)
 
 write-number-field-requires : tie.Need-write-number-field-requires
@@ -64,7 +64,8 @@ returns c =
     let third = c .before .before in
     let second = third .before .before .before .before .before in
     let first = second .before .before .before .before .before in
-    rw (key-numbers _ _ _ (second .before .flag-number .ensures) (third .before .flag-number2 .ensures)) (
+    let a = first .before .before .before .args in
+    rw (key-numbers _ (a .exported) (a .verified) (second .before .flag-number .ensures) (third .before .flag-number2 .ensures)) (
       wrote-on (wrote-on (first .write-number-field .ensures) (second .write-number-field2 .ensures)) (third .write-number-field3 .ensures),
       omega (arith, first-short first, second-short second, third-short third),
     )

@@ -1,7 +1,6 @@
 -- `messages::write::write_name_body` meets its contract.
-use native.Mathlib.Omega.{arith}
 use borrow.Author.Needs.{needs}
-use Rattle.messages.proofs.WriteLaws.{bytes-short, name-body}
+use Rattle.messages.proofs.WriteLaws.{name-body}
 use Rattle.messages.proofs.write.write_name_body.Statement.{statement}
 use Rattle.messages.proofs.write.write_name_body.Tie as tie
 
@@ -12,7 +11,7 @@ same-length : tie.Need-same-length
 same-length c = search needs
 
 returns : tie.Need-returns
-returns c = let w = c .before .before .write-bytes-field .ensures in rw name-body (w, bytes-short _ _ w)
+returns c = rw name-body (c .before .before .write-bytes-field .ensures)
 
 pub write-name-body-spec : {M : Type 1} → statement M
 write-name-body-spec = tie.close (tie.spec write-bytes-field-requires same-length returns)

@@ -1,7 +1,6 @@
 -- `messages::write::write_provider_body` meets its contract.
-use native.Mathlib.Omega.{arith}
 use borrow.Author.Needs.{needs}
-use Rattle.messages.proofs.WriteLaws.{number-short, provider-body}
+use Rattle.messages.proofs.WriteLaws.{provider-body}
 use Rattle.messages.proofs.write.write_provider_body.Statement.{statement}
 use Rattle.messages.proofs.write.write_provider_body.Tie as tie
 
@@ -12,7 +11,7 @@ same-length : tie.Need-same-length
 same-length c = search needs
 
 returns : tie.Need-returns
-returns c = let w = c .before .before .write-number-field .ensures in rw provider-body (w, number-short _ _ w)
+returns c = rw provider-body (c .before .before .write-number-field .ensures)
 
 pub write-provider-body-spec : {M : Type 1} → statement M
 write-provider-body-spec = tie.close (tie.spec write-number-field-requires same-length returns)
