@@ -2,3 +2,4 @@ pub mod StateLaws
 pub mod FoundLaws
 pub mod LookLaws
 pub mod ReadLaws
+pub mod CutLaws
