@@ -3,3 +3,4 @@ pub mod FoundLaws
 pub mod LookLaws
 pub mod ReadLaws
 pub mod CutLaws
+pub mod Cases
