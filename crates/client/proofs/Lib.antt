@@ -4,3 +4,5 @@ pub mod LookLaws
 pub mod ReadLaws
 pub mod JudgeLaws
 pub mod WritingLaws
+pub mod CutLaws
+pub mod Cases

@@ -14,8 +14,7 @@ use Rattle.wire.specs.Response.{responseLeast}
 use Rattle.wire.proofs.ListLaws.{length-part, part-of-part}
 use Rattle.messages.specs.Protobuf.{packedOf, protobuf}
 use Rattle.messages.specs.Operations.{Output, nothing, providers, opcodes, exported, outputOf}
-use Rattle.messages.specs.Placed as placed
-use Rattle.messages.specs.Placed.{entriesOf, outputIn, readIn, SpanWithin, OutputWithin}
+use Rattle.messages.specs.Placed.{spanIn, entriesOf, listIn, outputIn, readIn, SpanWithin, OutputWithin}
 use Rattle.messages.specs.declared.read.Span.{Span}
 use Rattle.messages.specs.declared.read.Output.{Output as OutputPlaces}
 use Rattle.messages.specs.declared.read.Output.the-variants.{Nothing, Version, Providers, Opcodes, Data}
@@ -32,10 +31,10 @@ use Rattle.client.specs.declared.look.HeaderCheck.the-variants.{Passed, 
 -- ---- places moved
 
 module _ (n k : ℕ) (m : List ℕ) where
-  span-moved : (span : Span) → SpanWithin n span → placed.bytesIn (take n (drop k m)) span ≡ placed.bytesIn m (spanMoved k span)
+  span-moved : (span : Span) → SpanWithin n span → spanIn (take n (drop k m)) span ≡ spanIn m (spanMoved k span)
   span-moved span w = part-of-part (span .len) (span .start) n (drop k m) w ∙ ap (take (span .len)) (drop-drop (span .start) k m)
 
-  list-moved : (span : Span) → SpanWithin n span → placed.listIn (take n (drop k m)) span ≡ placed.listIn m (spanMoved k span)
+  list-moved : (span : Span) → SpanWithin n span → listIn (take n (drop k m)) span ≡ listIn m (spanMoved k span)
   list-moved span w = ap (λ (l : List ℕ). entriesOf (packedOf l)) (span-moved span w)
 
   -- an output in a part, as one in the whole

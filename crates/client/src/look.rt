@@ -40,6 +40,7 @@ pub struct Response {
     pub output: Output,
 }
 
+// What a call says.
 pub enum Said {
     IllFormed,
     Waiting,
@@ -47,11 +48,13 @@ pub enum Said {
     Refused(ReadRefusal),
 }
 
+// What a header alone decides.
 enum HeaderCheck {
     Passed,
     Refused(ReadRefusal),
 }
 
+// The provider whose the opcode is.
 fn provider_for(opcode: u16) -> u8
     ensures { λ r. ⌜ r ≡ providerFor opcode ⌝ }
 {
@@ -61,6 +64,7 @@ fn provider_for(opcode: u16) -> u8
     1
 }
 
+// Whether opcode, session and provider are the request's.
 fn is_its(opcode: u16, session: u64, h: ResponseHeader) -> bool
     ensures { λ r. ⌜ r ≡ isIts (record { opcode = opcode; session = session }) h ⌝ }
 {
@@ -92,6 +96,7 @@ fn is_invalid_header(h: ResponseHeader) -> bool
     h.content_length == 0
 }
 
+// The answer to the request, or one that is read for any request.
 fn is_answer(opcode: u16, session: u64, h: ResponseHeader) -> bool
     ensures { λ r. ⌜ r ≡ isIts (record { opcode = opcode; session = session }) h || isInvalidHeader h ⌝ }
 {
@@ -101,7 +106,7 @@ fn is_answer(opcode: u16, session: u64, h: ResponseHeader) -> bool
     is_invalid_header(h)
 }
 
-// What a whole header alone decides.
+// The first test that applies.
 fn check_header(opcode: u16, session: u64, h: ResponseHeader) -> HeaderCheck
     ensures { λ r. ⌜ r ≡ checkOf (firstOf (headerTests (record { opcode = opcode; session = session }) h)) ⌝ }
 {

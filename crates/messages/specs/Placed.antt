@@ -19,8 +19,8 @@ use Rattle.messages.specs.declared.read.OutputRead.the-variants.{Read, U
 
 -- ---- places
 
-abbrev pub bytesIn : (bytes : List ℕ) → Span → List ℕ
-bytesIn bytes span = take (span .len) (drop (span .start) bytes)
+abbrev pub spanIn : (bytes : List ℕ) → Span → List ℕ
+spanIn bytes span = take (span .len) (drop (span .start) bytes)
 
 abbrev pub entriesOf : Option Value → List ℕ
 entriesOf none = []
@@ -28,14 +28,14 @@ entriesOf (some value) = numbersOf value
 
 -- the entries of the packed list that lies there
 abbrev pub listIn : (bytes : List ℕ) → Span → List ℕ
-listIn bytes span = entriesOf (packedOf (bytesIn bytes span))
+listIn bytes span = entriesOf (packedOf (spanIn bytes span))
 
 abbrev pub outputIn : (bytes : List ℕ) → OutputPlaces → Output
 outputIn bytes Nothing = nothing
 outputIn bytes (Version major minor) = version major minor
 outputIn bytes (Providers span) = providers (listIn bytes span)
 outputIn bytes (Opcodes span) = opcodes (listIn bytes span)
-outputIn bytes (Data span) = exported (bytesIn bytes span)
+outputIn bytes (Data span) = exported (spanIn bytes span)
 
 abbrev pub readIn : (bytes : List ℕ) → OutputRead → Option Output
 readIn bytes (Read output) = some (outputIn bytes output)
