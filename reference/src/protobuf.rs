@@ -101,6 +101,10 @@ impl<'a> Writer<'a> {
         }
     }
 
+    pub fn write_bool(&mut self, number: u32, value: bool) {
+        self.write_uint32(number, value.into());
+    }
+
     pub fn write_bytes(&mut self, number: u32, value: &[u8]) {
         if !value.is_empty() {
             self.write_varint(number << 3 | 2);

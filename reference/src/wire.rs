@@ -14,6 +14,8 @@ pub const LONGEST_REQUEST: usize = START_LENGTH
     + *HEADER_SIZES.end() as usize
     + MAX_CONTENT_LENGTH as usize
     + MAX_AUTH_LENGTH as usize;
+/// The header of the shortest H, with which the client writes.
+pub const SHORTEST_HEADER_LENGTH: usize = START_LENGTH + *HEADER_SIZES.start() as usize;
 pub const RESPONSE_HEADER_LENGTH: usize = 26;
 
 const MAGIC: u32 = 0x5EC0_A710;
@@ -65,6 +67,20 @@ impl Header {
             auth_length: read_u16(bytes, 24),
             opcode: read_u16(bytes, 26),
         }
+    }
+
+    /// Writes the first 28 bytes of the header and leaves the rest of the buffer alone.
+    pub fn write(&self, request: &mut [u8]) {
+        write_at(request, 0, &MAGIC.to_le_bytes());
+        let header_size = (self.length - START_LENGTH) as u16;
+        write_at(request, 4, &header_size.to_le_bytes());
+        write_at(request, 6, &[self.major, self.minor, self.provider]);
+        write_at(request, 9, &self.session.to_le_bytes());
+        write_at(request, 17, &[self.content_type, self.accept_type]);
+        write_at(request, 19, &[self.auth_type]);
+        write_at(request, 20, &self.content_length.to_le_bytes());
+        write_at(request, 24, &self.auth_length.to_le_bytes());
+        write_at(request, 26, &self.opcode.to_le_bytes());
     }
 
     pub fn is_oversized(&self) -> bool {
