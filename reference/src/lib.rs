@@ -20,7 +20,11 @@ mod wire;
 
 pub use bill::{bill, bill_from_reader, bill_text};
 pub use call::{call, Refusal, Taken, MAX_CHUNK, MIN_RESPONSE_BUFFER};
-pub use client::{write_request, Operation, WriteRefusal, MIN_REQUEST_BUFFER};
+pub use client::{
+    client_begin, client_read, read_response, write_request, IllFormed, Operation, Output,
+    ReadAnswer, ReadRefusal, Reader, Reading, WriteRefusal, WrongSize, CLIENT_SIZE,
+    LONGEST_READABLE_RESPONSE, MIN_REQUEST_BUFFER,
+};
 pub use connection::{connection_is_well_formed, open_connection, CONNECTION_SIZE};
 pub use counters::Counters;
 pub use opcode::{CoreOpcode, KeystoreOpcode, Opcode, Provider};
