@@ -1,10 +1,11 @@
-//! The independent second program: document 01 in ordinary Rust, written from its text alone.
-//! Each module names the heading of document 01 that it follows.
+//! The independent second program: document 01 and what document 02 adds, in ordinary Rust, written
+//! from their text alone. Each module names the heading that it follows.
 #![forbid(unsafe_code)]
 
 mod bill;
 mod bytes;
 mod call;
+mod client;
 mod connection;
 mod counters;
 mod opcode;
@@ -19,8 +20,14 @@ mod wire;
 
 pub use bill::{bill, bill_from_reader, bill_text};
 pub use call::{call, Refusal, Taken, MAX_CHUNK, MIN_RESPONSE_BUFFER};
+pub use client::{
+    client_begin, client_read, read_response, write_request, IllFormed, Operation, Output,
+    ReadAnswer, ReadRefusal, Reader, Reading, WriteRefusal, WrongSize, CLIENT_SIZE,
+    LONGEST_READABLE_RESPONSE, MIN_REQUEST_BUFFER,
+};
 pub use connection::{connection_is_well_formed, open_connection, CONNECTION_SIZE};
 pub use counters::Counters;
+pub use opcode::{CoreOpcode, KeystoreOpcode, Opcode, Provider};
 pub use operation::LONGEST_RESPONSE;
 pub use registry::{registry_is_well_formed, REGISTRY_SIZE};
 pub use roster::{load_roster, RosterFault};

@@ -2,7 +2,7 @@
 //! Document 01, "Operations and their fields".
 
 use crate::opcode::{CoreOpcode, KeystoreOpcode, Provider};
-use crate::protobuf::{fields, Unreadable, Value, Writer};
+use crate::protobuf::{fields, low_32_bits, Unreadable, Value, Writer};
 use crate::registry::{self, key_name_is_legal, Key, Line, Slot, LONGEST_DATA};
 use crate::status::Status;
 use crate::wire::RESPONSE_HEADER_LENGTH;
@@ -147,9 +147,4 @@ fn read_key_input(body: &[u8]) -> Result<Key<'_>, Unreadable> {
         }
     }
     Ok(key)
-}
-
-/// A uint32 is the low 32 bits of its varint.
-fn low_32_bits(value: u64) -> u32 {
-    value as u32
 }

@@ -79,6 +79,21 @@ impl<'a> Fields<'a> {
     }
 }
 
+/// A uint32 is the low 32 bits of its varint.
+pub fn low_32_bits(value: u64) -> u32 {
+    value as u32
+}
+
+/// The entries of a packed list of uint32, each one whole within its bytes.
+pub fn packed_entries(bytes: &[u8]) -> Result<Vec<u32>, Unreadable> {
+    let mut unread = fields(bytes);
+    let mut entries = Vec::new();
+    while !unread.rest.is_empty() {
+        entries.push(low_32_bits(unread.read_varint()?));
+    }
+    Ok(entries)
+}
+
 /// Writes ascending fields to the front of `out`: shortest varints, zero values left out.
 pub struct Writer<'a> {
     out: &'a mut [u8],
@@ -99,6 +114,10 @@ impl<'a> Writer<'a> {
             self.write_varint(number << 3);
             self.write_varint(value);
         }
+    }
+
+    pub fn write_bool(&mut self, number: u32, value: bool) {
+        self.write_uint32(number, value.into());
     }
 
     pub fn write_bytes(&mut self, number: u32, value: &[u8]) {

@@ -60,11 +60,16 @@ pub struct Key<'a> {
 impl Key<'_> {
     /// Are name, data and bits within Import's bounds?
     pub fn is_allowed(&self) -> bool {
-        key_name_is_legal(self.name)
-            && (1..=LONGEST_DATA).contains(&self.data.len())
-            && (1_024..=4_096).contains(&self.bits)
-            && self.bits.is_multiple_of(8)
+        key_name_is_legal(self.name) && data_is_legal(self.data) && bits_are_legal(self.bits)
     }
+}
+
+pub fn data_is_legal(data: &[u8]) -> bool {
+    (1..=LONGEST_DATA).contains(&data.len())
+}
+
+pub fn bits_are_legal(bits: u32) -> bool {
+    (1_024..=4_096).contains(&bits) && bits.is_multiple_of(8)
 }
 
 pub fn application_name_is_legal(name: &[u8]) -> bool {

@@ -4,6 +4,7 @@
 // Every test crate compiles this file and uses some of it.
 #![allow(dead_code)]
 
+pub mod client;
 pub mod generate;
 
 use reference::{

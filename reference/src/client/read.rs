@@ -1,0 +1,245 @@
+//! Reading a response, uncut and in chunks, and what is refused at which byte.
+//! Document 02, "The client's half"; document 01, "Bytes on the wire" and the paragraph on reading.
+
+use crate::opcode::{CoreOpcode, KeystoreOpcode, Opcode};
+use crate::protobuf::{fields, low_32_bits, packed_entries, Unreadable, Value};
+use crate::status::Status;
+use crate::wire::{
+    magic_is_good, response_header_size_is_good, Echo, ResponseHeader, RESPONSE_HEADER_LENGTH,
+    START_LENGTH,
+};
+
+/// A header, and content of the most bytes that are read.
+pub const LONGEST_READABLE_RESPONSE: usize = RESPONSE_HEADER_LENGTH + LONGEST_CONTENT as usize;
+
+const LONGEST_CONTENT: u32 = 998;
+
+/// What a response carries besides its status; any status but 0 carries nothing.
+#[derive(Clone, Debug, PartialEq, Eq)]
+pub enum Output {
+    Nothing,
+    Version { major: u32, minor: u32 },
+    Providers(Vec<u32>),
+    Opcodes(Vec<u32>),
+    Data(Vec<u8>),
+}
+
+/// Why a response is not read; the cases stand in the order in which they are tried.
+#[derive(Clone, Copy, Debug, PartialEq, Eq)]
+pub enum ReadRefusal {
+    WrongMagic,
+    WrongHeaderSize,
+    WrongVersion,
+    WrongContentType,
+    /// Opcode, session or provider is not its request's.
+    NotItsRequests,
+    ContentTooLong,
+    UnreadableBody,
+}
+
+/// What the bytes so far say.
+#[derive(Clone, Debug, PartialEq, Eq)]
+pub enum Reading {
+    Waiting,
+    Response { status: u16, output: Output },
+    Refused(ReadRefusal),
+}
+
+/// How many bytes were taken, and what is said then.
+#[derive(Clone, Debug, PartialEq, Eq)]
+pub struct ReadAnswer {
+    pub taken: usize,
+    pub reading: Reading,
+}
+
+impl ReadAnswer {
+    fn refused(taken: usize, refusal: ReadRefusal) -> ReadAnswer {
+        ReadAnswer {
+            taken,
+            reading: Reading::Refused(refusal),
+        }
+    }
+}
+
+/// The rule on uncut bytes: takes them up to the response's last or the refusal's, or all.
+pub fn read_response(opcode: Opcode, session: u64, bytes: &[u8]) -> ReadAnswer {
+    let waiting = ReadAnswer {
+        taken: bytes.len(),
+        reading: Reading::Waiting,
+    };
+    let Some(start) = bytes.get(..START_LENGTH) else {
+        return waiting;
+    };
+    if let Err(refusal) = judge_start(start) {
+        return ReadAnswer::refused(START_LENGTH, refusal);
+    }
+    let Some(header) = bytes.get(..RESPONSE_HEADER_LENGTH) else {
+        return waiting;
+    };
+    let header = ResponseHeader::read(header);
+    if let Err(refusal) = judge_header(&header, &request_echo(opcode, session)) {
+        return ReadAnswer::refused(RESPONSE_HEADER_LENGTH, refusal);
+    }
+    let length = RESPONSE_HEADER_LENGTH + header.content_length as usize;
+    match bytes.get(RESPONSE_HEADER_LENGTH..length) {
+        Some(body) => ReadAnswer {
+            taken: length,
+            reading: read_whole(opcode, header.status, body),
+        },
+        None => waiting,
+    }
+}
+
+/// What the response must repeat.
+fn request_echo(opcode: Opcode, session: u64) -> Echo {
+    Echo {
+        provider: opcode.provider() as u8,
+        session,
+        opcode: opcode.number(),
+    }
+}
+
+fn judge_start(start: &[u8]) -> Result<(), ReadRefusal> {
+    if !magic_is_good(start) {
+        return Err(ReadRefusal::WrongMagic);
+    }
+    if !response_header_size_is_good(start) {
+        return Err(ReadRefusal::WrongHeaderSize);
+    }
+    Ok(())
+}
+
+fn judge_header(header: &ResponseHeader, request: &Echo) -> Result<(), ReadRefusal> {
+    if (header.major, header.minor) != (1, 0) {
+        return Err(ReadRefusal::WrongVersion);
+    }
+    if header.content_type != 1 {
+        return Err(ReadRefusal::WrongContentType);
+    }
+    if header.echo != *request && !is_invalid_header(header) {
+        return Err(ReadRefusal::NotItsRequests);
+    }
+    if header.content_length > LONGEST_CONTENT {
+        return Err(ReadRefusal::ContentTooLong);
+    }
+    Ok(())
+}
+
+/// Is this the answer to a request of which the service read no provider, session or opcode?
+fn is_invalid_header(header: &ResponseHeader) -> bool {
+    header.status == Status::InvalidHeader.number()
+        && header.echo == Echo::default()
+        && header.content_length == 0
+}
+
+fn read_whole(opcode: Opcode, status: u16, body: &[u8]) -> Reading {
+    let output = if status == Status::Success.number() {
+        read_output(opcode, body)
+    } else {
+        read_nothing(body)
+    };
+    match output {
+        Ok(output) => Reading::Response { status, output },
+        Err(Unreadable) => Reading::Refused(ReadRefusal::UnreadableBody),
+    }
+}
+
+fn read_output(opcode: Opcode, body: &[u8]) -> Result<Output, Unreadable> {
+    match opcode {
+        Opcode::Core(CoreOpcode::Ping) => read_version(body),
+        Opcode::Core(CoreOpcode::ListProviders) => read_list(body).map(Output::Providers),
+        Opcode::Core(CoreOpcode::ListOpcodes) => read_list(body).map(Output::Opcodes),
+        Opcode::Keystore(KeystoreOpcode::Import | KeystoreOpcode::Destroy) => read_nothing(body),
+        Opcode::Keystore(KeystoreOpcode::Export) => read_data(body),
+    }
+}
+
+/// With no output, any field would have an unlisted number: the body must be empty.
+fn read_nothing(body: &[u8]) -> Result<Output, Unreadable> {
+    if body.is_empty() {
+        Ok(Output::Nothing)
+    } else {
+        Err(Unreadable)
+    }
+}
+
+fn read_version(body: &[u8]) -> Result<Output, Unreadable> {
+    let (mut major, mut minor) = (0, 0);
+    for field in fields(body) {
+        let field = field?;
+        match (field.number, field.value) {
+            (1, Value::Varint(value)) => major = low_32_bits(value),
+            (2, Value::Varint(value)) => minor = low_32_bits(value),
+            _ => return Err(Unreadable),
+        }
+    }
+    Ok(Output::Version { major, minor })
+}
+
+/// Each list is read where it stands, and the last one counts: they are not joined.
+fn read_list(body: &[u8]) -> Result<Vec<u32>, Unreadable> {
+    let mut entries = Vec::new();
+    for field in fields(body) {
+        let field = field?;
+        match (field.number, field.value) {
+            (1, Value::Bytes(value)) => entries = packed_entries(value)?,
+            _ => return Err(Unreadable),
+        }
+    }
+    Ok(entries)
+}
+
+/// Data of any length that the content allows: its bounds are Import's.
+fn read_data(body: &[u8]) -> Result<Output, Unreadable> {
+    let mut data: &[u8] = &[];
+    for field in fields(body) {
+        let field = field?;
+        match (field.number, field.value) {
+            (1, Value::Bytes(value)) => data = value,
+            _ => return Err(Unreadable),
+        }
+    }
+    Ok(Output::Data(data.to_vec()))
+}
+
+/// Reads the response to one request from chunks of any length.
+#[derive(Clone, Debug, PartialEq, Eq)]
+pub struct Reader {
+    pub(super) opcode: Opcode,
+    pub(super) session: u64,
+    /// The bytes taken so far, at most those of the longest readable response.
+    pub(super) held: Vec<u8>,
+}
+
+impl Reader {
+    pub fn begin(opcode: Opcode, session: u64) -> Reader {
+        Reader {
+            opcode,
+            session,
+            held: Vec::new(),
+        }
+    }
+
+    /// Takes bytes up to the response's last or the refusal's, or all; after either, none.
+    pub fn read(&mut self, chunk: &[u8]) -> ReadAnswer {
+        let reading = self.reading();
+        if reading != Reading::Waiting {
+            return ReadAnswer { taken: 0, reading };
+        }
+        let held = self.held.len();
+        // Nothing is taken past the longest response, so the rest of the chunk says nothing.
+        let most = chunk.len().min(LONGEST_READABLE_RESPONSE - held);
+        self.held.extend_from_slice(&chunk[..most]);
+        let answer = read_response(self.opcode, self.session, &self.held);
+        self.held.truncate(answer.taken);
+        ReadAnswer {
+            taken: answer.taken - held,
+            reading: answer.reading,
+        }
+    }
+
+    /// What the bytes held say; those behind a response or a refusal are ignored.
+    fn reading(&self) -> Reading {
+        read_response(self.opcode, self.session, &self.held).reading
+    }
+}
