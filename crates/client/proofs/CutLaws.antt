@@ -51,7 +51,7 @@ module _ (asked : Asked) where
   pub read-once : (bytes : List ℕ) → read (responseReader asked) bytes ≡ asRead (callRule (responseReader asked) (responseReader asked .begin) bytes)
   read-once bytes = call-once (responseReader asked) ends (responseReader asked .begin) bytes
 
-  call-fits : (s chunk : List ℕ) → Fits s → Fits (callRule (responseReader asked) s chunk .kept)
+  pub call-fits : (s chunk : List ℕ) → Fits s → Fits (callRule (responseReader asked) s chunk .kept)
   call-fits s chunk f =
       let c = call-facts (responseReader asked) s chunk in
       subst (λ (r : Reading (List ℕ) Reply). Fits (r .kept)) (c .reads)

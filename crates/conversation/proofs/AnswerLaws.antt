@@ -1,12 +1,12 @@
 -- THE ANSWER TO A REQUEST OF THE CLIENT, on any well-formed registry, is read by the client as the result that the rules give.
-use mathlib.Core.Path.{_≡_, refl, sym, ap, _∙_}
+use mathlib.Core.Path.{_≡_, ap, _∙_}
 use Prim.Native.Nat.{ℕ, _≤_}
 use mathlib.Core.Bool.{true}
 use mathlib.Core.Option.{some}
 use mathlib.Core.List.{List, [], _++_}
 use native.Mathlib.Omega.{arith}
 use lib.ListN.{length}
-use Rattle.wire.specs.Request.{requestOf, requestBytes, Request}
+use Rattle.wire.specs.Request.{requestBytes, Request}
 use Rattle.wire.specs.Response.{responseBytes}
 use Rattle.wire.proofs.ResponseLaws.{response-long}
 use Rattle.messages.specs.Protobuf.{protobuf}

@@ -1,28 +1,26 @@
 -- WHAT THE SERVICE WRITES TO A REQUEST OF THE CLIENT, THE CLIENT READS AS THE SAME RESPONSE: status and output, and never a
 -- refusal; and so it does the answer with status 17.
-use mathlib.Core.Path.{_≡_, refl, sym, ap, _∙_, subst}
+use mathlib.Core.Path.{_≡_, refl, ap, _∙_}
 use Prim.Native.Nat.{ℕ, _+_, _≤_, _<_}
-use mathlib.Core.Bool.{Bool, true, false, _&&_, _||_, not}
-use mathlib.Core.Option.{Option, none, some}
-use mathlib.Core.List.{List, [], _∷_, _++_}
+use mathlib.Core.Bool.{Bool, true, false, _||_}
+use mathlib.Core.Option.{none, some}
+use mathlib.Core.List.{List, [], _++_}
 use native.Mathlib.Omega.{arith}
-use borrow.Author.Tests.{eq-eqb, ne-eqb, lt-ltb, le-ltb}
-use lib.ListN.{length, take, drop, getD, length-append}
-use lib.Dec.{ltb, eqb, lit<}
+use borrow.Author.Tests.{eq-eqb, ne-eqb, le-ltb}
+use lib.ListN.{length, take, drop, length-append}
 use Rattle.wire.specs.Choice.{firstOf}
-use Rattle.wire.specs.Request.{magicNumber, magic, headerSize, Request, requestOf, requestBytes}
-use Rattle.wire.specs.Response.{responseHeaderSize, responseLeast, responseOf, responseBytes}
+use Rattle.wire.specs.Request.{magicNumber, magic, headerSize}
+use Rattle.wire.specs.Response.{responseHeaderSize, responseLeast, responseBytes}
 use Rattle.wire.specs.declared.response.ResponseHeader.{ResponseHeader}
-use Rattle.wire.proofs.TestLaws.{either}
 use Rattle.wire.proofs.ResponseLaws.{response-long, response-magic, response-size, response-body, response-back}
 use Rattle.messages.specs.Protobuf.{protobuf}
-use Rattle.messages.specs.Operations.{Operation, ping, listProviders, listOpcodes, importKey, destroyKey, exportPublicKey, opcodeOf, providerOf, Output, nothing, outputBytes, outputOf, Answers, messageOf}
+use Rattle.messages.specs.Operations.{Operation, ping, listProviders, listOpcodes, importKey, destroyKey, exportPublicKey, opcodeOf, providerOf, Output, nothing, outputBytes, Answers, messageOf}
 use Rattle.messages.specs.Message.{AllFit}
 use Rattle.messages.proofs.OperationLaws.{nothing-bytes, answered-back}
 use Rattle.judgement.specs.Status.{statusNumber}
 use Rattle.judgement.specs.Operations.{Result}
 use Rattle.wire.specs.Lists.{oneOf}
-use Rattle.client.specs.Reading.{Asked, providerFor, Reply, answered, contentMost, isIts, isInvalidHeader, headerTests, ofOutput, bodyReply, foundBehind, found}
+use Rattle.client.specs.Reading.{Asked, providerFor, answered, contentMost, isIts, isInvalidHeader, headerTests, bodyReply, foundBehind, found}
 
 -- ---- a response of any status and body that is for the request
 

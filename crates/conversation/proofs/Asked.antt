@@ -2,23 +2,22 @@
 -- fields, the operation, the application.
 use mathlib.Core.Path.{_≡_, refl, sym, ap, _∙_}
 use Prim.Native.Nat.{ℕ, _^_, _≤_, _<_}
-use mathlib.Core.Bool.{Bool, true, false, _||_}
+use mathlib.Core.Bool.{true, false}
 use mathlib.Core.Option.{Option, none, some}
 use mathlib.Core.List.{List, [], _++_, append-nil}
 use native.Mathlib.Omega.{arith}
 use borrow.Author.Tests.{eq-eqb, le-leb, le-ltb}
 use lib.ListN.{length, length-append}
-use lib.Dec.{leb, ltb, eqb}
-use Rattle.wire.specs.Request.{magicNumber, magic, headerSize, contentLength, authLength, requestLength, requestOf, requestBytes}
+use Rattle.wire.specs.Request.{magicNumber, magic, headerSize, contentLength, authLength, requestOf, requestBytes}
 use Rattle.wire.proofs.RequestLaws.{request-magic, request-size, request-content, request-auth, request-long, request-back}
-use Rattle.keys.specs.Names.{applicationNameMost, keyNameMost, legalName}
-use Rattle.keys.specs.Key.{Key, dataMost, legalData, importBits}
+use Rattle.keys.specs.Names.{applicationNameMost, keyNameMost}
+use Rattle.keys.specs.Key.{importBits}
 use Rattle.keys.proofs.NameLaws.{legal-short}
 use Rattle.keys.proofs.KeyLaws.{legal-data, legal-bits}
 use Rattle.messages.specs.Message.{AllFit}
 use Rattle.messages.specs.Protobuf.{protobuf}
 use Rattle.messages.specs.Format.{messageBytes}
-use Rattle.messages.specs.Operations.{Operation, ping, listProviders, listOpcodes, importKey, destroyKey, exportPublicKey, opcodeOf, inputOf, operationBody, operationOf}
+use Rattle.messages.specs.Operations.{Operation, ping, listProviders, listOpcodes, importKey, destroyKey, exportPublicKey, inputOf, operationBody, operationOf}
 use Rattle.messages.proofs.OperationLaws.{asked-back}
 use Rattle.messages.proofs.LengthLaws.{provider-short, destroy-short, export-short, import-short}
 use Rattle.client.specs.Writing.{Sender, authOf, requestFor, legalSender, legalKeyName, legalKeyData, legalKeyBits}

@@ -1,32 +1,31 @@
 -- Request by request: what the service answers is what the client hears.
-use mathlib.Core.Path.{_≡_, refl, sym, ap, ap₂, _∙_, subst}
-use Prim.Native.Nat.{ℕ, _≤_}
+use mathlib.Core.Path.{_≡_, sym, ap, ap₂, _∙_, subst}
+use Prim.Native.Nat.{ℕ}
 use mathlib.Core.Bool.{true}
 use mathlib.Core.Option.{some}
 use mathlib.Core.List.{List, [], _∷_, _++_, map, flatten, append-nil}
 use native.Mathlib.Omega.{arith}
 use lib.ListN.{length, take, drop, length-append}
 use lib.Seq.{take-append-seam, drop-append-seam}
-use Rattle.wire.specs.Request.{requestLength, requestBytes}
-use Rattle.wire.specs.Response.{responseBytes}
+use Rattle.wire.specs.Request.{requestLength}
 use Rattle.wire.proofs.RequestLaws.{request-long}
 use Rattle.messages.specs.Protobuf.{protobuf}
 use Rattle.messages.specs.Operations.{opcodeOf, providerOf, outputBytes}
-use Rattle.reading.specs.Reader.{Reading, read}
+use Rattle.reading.specs.Reader.{read}
 use Rattle.stream.specs.Frame.{legalStart}
 use Rattle.stream.specs.Rules.{Verdict, judge}
-use Rattle.stream.specs.Parts.{Parts, andBefore, heldParts, partsOf, verdictOn, responsesFrom, responsesTo}
-use Rattle.stream.proofs.FrameLaws.{Unfinished, short}
+use Rattle.stream.specs.Parts.{andBefore, heldParts, partsOf, verdictOn, responsesFrom}
+use Rattle.stream.proofs.FrameLaws.{short}
 use Rattle.stream.proofs.PartsLaws.{parts-unfinished, parts-whole}
 use Rattle.registry.specs.WellFormed.{wellFormedRegistry}
 use Rattle.judgement.specs.Status.{statusNumber}
-use Rattle.judgement.specs.Counts.{Counts, noCounts}
+use Rattle.judgement.specs.Counts.{Counts}
 use Rattle.judgement.specs.Operations.{Result}
 use Rattle.judgement.specs.Judgement.{resultOf, verdictOf, judgement}
 use Rattle.judgement.proofs.JudgementLaws.{judge-good}
 use Rattle.client.specs.Writing.{requestFor}
 use Rattle.client.specs.Reading.{Asked, Reply, answered, found, responseReader}
-use Rattle.conversation.specs.Conversation.{Ask, written, askedFor, repliesFrom, repliesTo}
+use Rattle.conversation.specs.Conversation.{Ask, written, askedFor, repliesFrom}
 use Rattle.conversation.proofs.Asked.{Writable, legal}
 use Rattle.conversation.proofs.Answered.{its-own}
 use Rattle.conversation.proofs.AnswerLaws.{result, verdict-is, response-is, short-output, answer-read}

@@ -5,3 +5,5 @@ pub mod AnswerLaws
 pub mod ReadLaws
 pub mod HeardLaws
 pub mod ServiceLaws
+pub mod Together
+pub mod WroteLaws

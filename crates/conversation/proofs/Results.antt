@@ -1,10 +1,10 @@
 -- Every result of a request that the client wrote can be read by it: a status that is not 0 and no output, or 0 and an output of
 -- the operation's kind.
-use mathlib.Core.Path.{_≡_, refl, sym, ap, _∙_, subst}
+use mathlib.Core.Path.{_≡_, refl}
 use Prim.Native.Nat.{ℕ, _*_, _^_, _≤_, _<_}
 use mathlib.Core.Bool.{Bool, true, false}
 use mathlib.Core.Option.{Option, none, some}
-use mathlib.Core.List.{List, [], _∷_}
+use mathlib.Core.List.{List, []}
 use native.Mathlib.Omega.{arith}
 use lib.ListN.{length, getD}
 use lib.Dec.{ltb, eqb, lit<}
@@ -13,26 +13,25 @@ use Rattle.wire.specs.Lists.{all}
 use Rattle.wire.specs.Request.{Request}
 use Rattle.wire.proofs.TestLaws.{either, first-has}
 use Rattle.keys.specs.Names.{keyNameMost, legalName}
-use Rattle.keys.specs.Key.{Key, dataMost}
+use Rattle.keys.specs.Key.{Key}
 use Rattle.messages.specs.Protobuf.{protobuf}
 use Rattle.messages.specs.Opcodes.{opcodesOf}
-use Rattle.messages.specs.Operations.{Operation, ping, listProviders, listOpcodes, importKey, destroyKey, exportPublicKey, ofPing, ofListProviders, ofListOpcodes, ofImport, ofDestroy, ofExport, operationOf}
+use Rattle.messages.specs.Operations.{Operation, ping, listProviders, listOpcodes, importKey, destroyKey, exportPublicKey, ofPing, ofListProviders, ofListOpcodes, ofImport, ofDestroy, ofExport}
 use Rattle.registry.specs.Slots.{Entry, free, held}
 use Rattle.registry.specs.Registry.{slotNamed}
 use Rattle.registry.specs.WellFormed.{wellFormedRegistry}
 use Rattle.registry.specs.declared.Line.{Line}
-use Rattle.registry.specs.declared.Slot.{Slot}
 use Rattle.registry.specs.declared.Found.{Found}
 use Rattle.registry.specs.declared.Found.the-variants.{At, Nothing}
 use Rattle.registry.proofs.SlotLaws.{ShortEntry}
 use Rattle.registry.proofs.WellFormedLaws.{slots-short}
 use Rattle.judgement.specs.Status.{statusNumber}
-use Rattle.judgement.specs.Operations.{Result, success, refuse, importable, performImport, performDestroy, exportOf, performExport, performListOpcodes, perform, operated}
+use Rattle.judgement.specs.Operations.{success, refuse, importable, performImport, performDestroy, exportOf, performExport, performListOpcodes, perform, operated}
 use Rattle.judgement.specs.Judgement.{applicationOf, refusals, askersSlots, resultOf}
 use Rattle.judgement.specs.declared.Status.{Status}
 use Rattle.judgement.proofs.JudgementLaws.{asks}
 use Rattle.client.specs.Writing.{Sender, requestFor}
-use Rattle.conversation.proofs.Asked.{Writable, ReadAsWritten, read-as-written}
+use Rattle.conversation.proofs.Asked.{Writable, read-as-written}
 use Rattle.conversation.proofs.Answered.{Sound, notServed, served}
 
 refused : (operation : Operation) (status : Status) → 0 < statusNumber status → Sound operation (refuse status)

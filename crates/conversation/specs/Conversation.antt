@@ -1,6 +1,6 @@
 -- A conversation: requests that a client writes, and what it is to hear by the rules, request by request.
 use Prim.Native.Nat.{ℕ}
-use mathlib.Core.List.{List, [], _∷_, map, flatten}
+use mathlib.Core.List.{List, [], _∷_}
 use Rattle.wire.specs.Request.{requestBytes}
 use Rattle.messages.specs.Operations.{Operation, opcodeOf}
 use Rattle.judgement.specs.Status.{statusNumber}

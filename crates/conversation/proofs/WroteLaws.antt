@@ -1,0 +1,57 @@
+-- What the code that writes a request leaves in the buffer, by its contract: the request, and it is one that can be heard.
+use mathlib.Core.Path.{_≡_, refl, ap, ap₂, _∙_}
+use Prim.Native.Nat.{ℕ}
+use mathlib.Core.Bool.{Bool}
+use mathlib.Core.Option.{Option, none, some}
+use mathlib.Core.List.{List}
+use native.Mathlib.Omega.{arith}
+use borrow.Author.Tests.{not-false}
+use lib.ListN.{length, take, drop}
+use lib.Seq.{take-append-seam}
+use Rattle.wire.specs.Choice.{firstOf}
+use Rattle.wire.specs.Lists.{over}
+use Rattle.wire.proofs.TestLaws.{none-at}
+use Rattle.client.specs.Writing.{legalSender, legalKeyName, legalKeyData, legalKeyBits, writeTests, WriteOutcome, writeOutcome}
+use Rattle.client.specs.declared.WriteRefusal.{WriteRefusal}
+use Rattle.client.specs.declared.WriteRefusal.the-variants.{BufferTooSmall}
+use Rattle.client.specs.declared.Written.the-variants.{Bytes, Refused}
+use Rattle.conversation.specs.Conversation.{Ask, written}
+use Rattle.conversation.proofs.Asked.{Small, Writable}
+
+-- n bytes were written, and these are the buffer's now
+pub record WroteRequest (ask : Ask) (n : ℕ) (out : List ℕ) : Type 0 where
+  pub bytes : take n out ≡ written ask
+  pub writable : Writable (ask .sender) (ask .operation)
+
+module _ (ask : Ask) (small : Small (ask .operation)) (before : List ℕ) where
+  abbrev tests : List (Bool × WriteRefusal)
+  tests = writeTests before (ask .sender) (ask .operation)
+
+  writable : firstOf tests ≡ none → Writable (ask .sender) (ask .operation)
+  unfolding writeTests
+  writable e = record {
+    sender-legal = not-false (legalSender (ask .sender)) (none-at tests 1 BufferTooSmall e);
+    name-legal = not-false (legalKeyName (ask .operation)) (none-at tests 2 BufferTooSmall e);
+    data-legal = not-false (legalKeyData (ask .operation)) (none-at tests 3 BufferTooSmall e);
+    bits-legal = not-false (legalKeyBits (ask .operation)) (none-at tests 4 BufferTooSmall e);
+    small = small;
+  }
+
+  pub wrote-request : (n : ℕ) (out : List ℕ) → record { answer = Bytes n; out = out } ≡ writeOutcome before (ask .session) (ask .sender) (ask .operation) → WroteRequest ask n out
+  unfolding writeOutcome written
+  wrote-request n out e = go (firstOf tests) refl
+    where
+      go : (o : Option WriteRefusal) → firstOf tests ≡ o → WroteRequest ask n out
+      go (some refusal) t =
+          let q : _≡_ {A = WriteOutcome} (record { answer = Bytes n; out = out }) (record { answer = Refused refusal; out = before }) = rw (t, writeOutcome) at e in
+          let a : Bytes n ≡ Refused refusal = ap (λ (o : WriteOutcome). o .answer) q in
+          absurd (let z : _≡_ {A = ℕ} 0 1 = cc in omega arith)
+      go none t =
+          let b : List ℕ = written ask in
+          let q : _≡_ {A = WriteOutcome} (record { answer = Bytes n; out = out }) (record { answer = Bytes (length b); out = over b before }) = rw (t, writeOutcome) at e in
+          let a : Bytes n ≡ Bytes (length b) = ap (λ (o : WriteOutcome). o .answer) q in
+          let l : n ≡ length b = cc in
+          record {
+            bytes = ap₂ (λ (k : ℕ) (x : List ℕ). take k x) l (ap (λ (o : WriteOutcome). o .out) q) ∙ take-append-seam b (drop (length b) before);
+            writable = writable t;
+          }
