@@ -1,19 +1,18 @@
 -- Laws of a reader's state in memory: stored it is well formed and loaded as it was, and well-formed memory is stored so.
 use mathlib.Core.Path.{_≡_, refl, sym, ap, ap₂, _∙_}
-use Prim.Native.Nat.{ℕ, zero, suc, _+_, _-_, _≤_, _<_}
+use Prim.Native.Nat.{ℕ, suc, _+_, _-_, _≤_, _<_}
 use mathlib.Core.Bool.{Bool, true, false, _&&_}
 use mathlib.Core.List.{List, [], _∷_, _++_, append-assoc}
-use native.Mathlib.Numerals.{unary-clauses}
 use native.Mathlib.Omega.{arith}
-use borrow.Author.Tests.{eq-eqb, ne-eqb, eqb-true, leb-true, le-leb, lt-leb, lt-ltb}
+use borrow.Author.Tests.{eq-eqb, ne-eqb, eqb-true, leb-true, le-leb, lt-leb}
 use borrow.Rule.Slice.PartMut.{putMid}
-use lib.ListN.{length, take, drop, getD, replicate, length-append, length-drop, take-append-drop}
+use lib.ListN.{length, take, drop, replicate, length-append, length-drop, take-append-drop}
 use lib.Dec.{eqb, leb}
 use lib.Seq.{drop-drop, drop-append-add, drop-append-seam, take-append-seam, length-take-le}
 use Rattle.wire.specs.Lists.{all, oneOf, isZero, padded, over}
 use Rattle.wire.specs.Numbers.{littleEndianOf, field}
-use Rattle.wire.proofs.TestLaws.{and-left, and-right, every-at}
-use Rattle.wire.proofs.ListLaws.{length-padded, all-zeros, all-take, all-drop}
+use Rattle.wire.proofs.TestLaws.{every-at}
+use Rattle.wire.proofs.ListLaws.{length-padded, all-zeros, all-take, all-drop, zeros-back, drop-zeros}
 use Rattle.wire.proofs.NumberLaws.{isByte, length-number, field-back, bytes-back}
 use Rattle.wire.proofs.BufferLaws.{onward}
 use Rattle.messages.specs.Opcodes.{coreOpcodes, keystoreOpcodes}
@@ -142,14 +141,6 @@ number-next at more m bytes h =
     ap₂ _++_ (ap (λ (n : ℕ). littleEndianOf n (field at (suc more) m)) (sym long) ∙ back) (sym (drop-drop (suc more) at m))
     ∙ take-append-drop (suc more) (drop at m)
 
-pub all-bytes : (l : List ℕ) → ((i : ℕ) → getD l i 0 < 256) → all isByte l ≡ true
-all-bytes [] h = refl
-all-bytes (b ∷ l) h = ap₂ _&&_ (lt-ltb b 256 (h 0)) (all-bytes l (λ i. h (suc i)))
-
-zeros-back : (l : List ℕ) → all isZero l ≡ true → replicate (length l) 0 ≡ l
-zeros-back [] z = refl
-zeros-back (b ∷ l) z = ap₂ _∷_ (sym (eqb-true b 0 (and-left (isZero b) _ z))) (zeros-back l (and-right (isZero b) _ z))
-
 module _ (m : List ℕ) (w : Well m) where
   held-next : padded responseMost (bytesIn m) ≡ drop bytesAt m
   unfolding bytesIn
@@ -175,11 +166,6 @@ module _ (m : List ℕ) (w : Well m) where
       ∙ number-next 0 1 m bytes (omega arith))
 
 -- ---- a state begun
-
-drop-zeros : (n k : ℕ) → drop {A = ℕ} n (replicate k 0) ≡ replicate (k - n) 0
-drop-zeros zero k = simp unary-clauses
-drop-zeros (suc n) zero = let none : 0 - suc n ≡ 0 = omega arith in rw none
-drop-zeros (suc n) (suc k) = simp unary-clauses (drop-zeros n k)
 
 begun : (asked : Asked) → over (littleEndianOf 2 (asked .opcode) ++ littleEndianOf 8 (asked .session)) (replicate stateSize 0) ≡ stateBytes asked []
 unfolding stateBytes littleEndianOf

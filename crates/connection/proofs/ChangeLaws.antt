@@ -1,12 +1,12 @@
 -- What bytes written into a connection's memory make of it.
 use mathlib.Core.Path.{_≡_, sym, ap, _∙_}
-use Prim.Native.Nat.{ℕ, zero, suc, _+_, _-_, _≤_}
+use Prim.Native.Nat.{ℕ, _+_, _-_, _≤_}
 use mathlib.Core.List.{List, _∷_, _++_, append-assoc, append-nil}
-use native.Mathlib.Numerals.{unary-clauses}
 use native.Mathlib.Omega.{arith}
 use borrow.Rule.Slice.PartMut.{putMid}
 use lib.ListN.{length, take, drop, replicate, length-append, length-take, drop-of-length-le}
 use lib.Seq.{drop-at, drop-append-add, drop-append-seam}
+use Rattle.wire.proofs.ListLaws.{drop-zeros}
 use Rattle.wire.specs.Lists.{padded, over}
 use Rattle.wire.specs.Numbers.{littleEndianOf}
 use Rattle.wire.proofs.BufferLaws.{onward}
@@ -26,11 +26,6 @@ number-put kind before n held memory part e p =
     (ap (λ (l : List ℕ). kind ∷ (littleEndianOf 8 n ++ l)) (drop-at (littleEndianOf 8 before) (padded heldMost held) 8 (length-number 8 before)))
 
 -- ---- bytes behind those that are held
-
-drop-zeros : (n k : ℕ) → drop {A = ℕ} n (replicate k 0) ≡ replicate (k - n) 0
-drop-zeros zero k = simp unary-clauses
-drop-zeros (suc n) zero = let none : 0 - suc n ≡ 0 = omega arith in rw none
-drop-zeros (suc n) (suc k) = simp unary-clauses (drop-zeros n k)
 
 module _ (kind n : ℕ) (held bytes : List ℕ) (fits : length held + length bytes ≤ heldMost) where
   front : List ℕ

@@ -1,10 +1,10 @@
 -- Memory of the right size is a well-formed connection exactly where the tests of its kind pass.
 use mathlib.Core.Path.{_≡_, refl, sym, ap, ap₂, subst, _∙_}
-use Prim.Native.Nat.{ℕ, suc, _+_, _-_, _≤_, _<_}
+use Prim.Native.Nat.{ℕ, _+_, _-_, _≤_, _<_}
 use mathlib.Core.Bool.{Bool, true, false, _&&_}
 use mathlib.Core.List.{List, [], _∷_, _++_}
 use native.Mathlib.Omega.{arith}
-use borrow.Author.Tests.{leb-true, le-leb, lt-ltb, eqb-true, eq-eqb, ne-eqb}
+use borrow.Author.Tests.{leb-true, le-leb, eqb-true, eq-eqb, ne-eqb}
 use lib.ListN.{length, take, drop, getD, replicate, length-take, length-drop, take-append-drop}
 use lib.Seq.{length-take-le, drop-cons, drop-drop, drop-append-seam}
 use lib.Dec.{leb}
@@ -12,7 +12,7 @@ use Rattle.wire.specs.Lists.{all, isZero, padded}
 use Rattle.wire.specs.Numbers.{littleEndianOf, field}
 use Rattle.wire.specs.Request.{contentLength, authLength, headerLength}
 use Rattle.wire.proofs.TestLaws.{and-left, and-right, both}
-use Rattle.wire.proofs.ListLaws.{all-take, all-drop, all-zeros, same-refl}
+use Rattle.wire.proofs.ListLaws.{all-take, all-drop, all-zeros, same-refl, zeros-back}
 use Rattle.wire.proofs.NumberLaws.{isByte, bytes-back}
 use Rattle.stream.specs.Frame.{legalStart, oversized}
 use Rattle.stream.specs.Rules.{Connection, opened, skipping, closed}
@@ -21,16 +21,6 @@ use Rattle.stream.proofs.FrameLaws.{legal-size, Told, told, header-told}
 use Rattle.stream.proofs.ChunkLaws.{well-skipping}
 use Rattle.connection.specs.Connection.{heldMost, connectionSize, laidOut, connectionBytes, connectionOf, wellFormedConnection}
 use Rattle.connection.proofs.ConnectionLaws.{number-there, bytes-there, blank, legal-most, memory-good, store-load}
-
--- ---- bytes and zeros
-
-pub all-bytes : (l : List ℕ) → ((i : ℕ) → getD l i 0 < 256) → all isByte l ≡ true
-all-bytes [] h = refl
-all-bytes (b ∷ l) h = ap₂ _&&_ (lt-ltb b 256 (h 0)) (all-bytes l (λ i. h (suc i)))
-
-zeros-back : (l : List ℕ) → all isZero l ≡ true → replicate (length l) 0 ≡ l
-zeros-back [] z = refl
-zeros-back (b ∷ l) z = ap₂ _∷_ (sym (eqb-true b 0 (and-left (isZero b) _ z))) (zeros-back l (and-right (isZero b) _ z))
 
 -- ---- memory as it is laid out
 

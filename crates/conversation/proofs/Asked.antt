@@ -10,7 +10,7 @@ use borrow.Author.Tests.{eq-eqb, le-leb, le-ltb}
 use lib.ListN.{length, length-append}
 use Rattle.wire.specs.Request.{magicNumber, magic, headerSize, contentLength, authLength, requestOf, requestBytes}
 use Rattle.wire.proofs.RequestLaws.{request-magic, request-size, request-content, request-auth, request-long, request-back}
-use Rattle.keys.specs.Names.{applicationNameMost, keyNameMost}
+use Rattle.keys.specs.Names.{keyNameMost}
 use Rattle.keys.specs.Key.{importBits}
 use Rattle.keys.proofs.NameLaws.{legal-short}
 use Rattle.keys.proofs.KeyLaws.{legal-data, legal-bits}
@@ -19,8 +19,10 @@ use Rattle.messages.specs.Protobuf.{protobuf}
 use Rattle.messages.specs.Format.{messageBytes}
 use Rattle.messages.specs.Operations.{Operation, ping, listProviders, listOpcodes, importKey, destroyKey, exportPublicKey, inputOf, operationBody, operationOf}
 use Rattle.messages.proofs.OperationLaws.{asked-back}
-use Rattle.messages.proofs.LengthLaws.{provider-short, destroy-short, export-short, import-short}
-use Rattle.client.specs.Writing.{Sender, authOf, requestFor, legalSender, legalKeyName, legalKeyData, legalKeyBits}
+use Rattle.messages.specs.code.Bodies.{bodyMost}
+use Rattle.messages.proofs.WriteLaws.{provider-body-short, name-body-short, key-body-short}
+use Rattle.client.proofs.WritingLaws.{auth-short}
+use Rattle.client.specs.Writing.{Sender, requestFor, legalSender, legalKeyName, legalKeyData, legalKeyBits}
 use Rattle.stream.specs.Frame.{contentMost, authMost, legalStart, oversized, whole, next}
 use Rattle.stream.proofs.FrameLaws.{next-whole}
 use Rattle.registry.specs.Registry.{applicationNamed}
@@ -59,19 +61,15 @@ fits sender (importKey key) w =
 fits sender (destroyKey name) w = let n = legal-short keyNameMost name (w .name-legal) in (omega arith, tt)
 fits sender (exportPublicKey name) w = let n = legal-short keyNameMost name (w .name-legal) in (omega arith, tt)
 
-short-body : (sender : Sender) (operation : Operation) → Writable sender operation → length (operationBody protobuf operation) ≤ 1000
-unfolding operationBody messageBytes
+short-body : (sender : Sender) (operation : Operation) → Writable sender operation → length (operationBody protobuf operation) ≤ bodyMost
+unfolding operationBody messageBytes importBits
 short-body sender ping w = omega arith
 short-body sender listProviders w = omega arith
-short-body sender (listOpcodes provider) w = omega (arith, provider-short provider)
+short-body sender (listOpcodes provider) w = provider-body-short provider
 short-body sender (importKey key) w =
-    omega (arith, legal-short keyNameMost (key .name) (w .name-legal), legal-data (key .bytes) (w .data-legal), import-short key)
-short-body sender (destroyKey name) w = omega (arith, legal-short keyNameMost name (w .name-legal), destroy-short name)
-short-body sender (exportPublicKey name) w = omega (arith, legal-short keyNameMost name (w .name-legal), export-short name)
-
-short-auth : (sender : Sender) → legalSender sender ≡ true → length (authOf sender) ≤ applicationNameMost
-short-auth none w = omega arith
-short-auth (some name) w = legal-short applicationNameMost name w
+    key-body-short key (legal-short keyNameMost (key .name) (w .name-legal)) (legal-data (key .bytes) (w .data-legal)) (legal-bits (key .bits) (w .bits-legal))
+short-body sender (destroyKey name) w = name-body-short name (legal-short keyNameMost name (w .name-legal))
+short-body sender (exportPublicKey name) w = name-body-short name (legal-short keyNameMost name (w .name-legal))
 
 -- ---- the claim
 
@@ -116,7 +114,7 @@ module _ (session : ℕ) (sender : Sender) (operation : Operation) (w : Writable
       let a = ap authLength (append-nil bytes) in
       rw (
         le-ltb contentMost (contentLength bytes) (omega (arith, request-content q [], short-body sender operation w)),
-        le-ltb authMost (authLength bytes) (omega (arith, request-auth q [], short-auth sender (w .sender-legal))),
+        le-ltb authMost (authLength bytes) (omega (arith, request-auth q [], auth-short sender (w .sender-legal))),
       )
 
   fields : requestOf bytes ≡ requestFor session sender operation

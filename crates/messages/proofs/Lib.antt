@@ -2,7 +2,6 @@ pub mod RoundTrip
 pub mod ProtobufLaws
 pub mod OperationLaws
 pub mod PlacesLaws
-pub mod LengthLaws
 pub mod OpcodeLaws
 pub mod PackedLaws
 pub mod PlacedLaws

@@ -4,8 +4,9 @@ use mathlib.Core.Bool.{true}
 use mathlib.Core.List.{List}
 use Prim.Native.Nat.{ℕ}
 use borrow.Author.Tests.{not-true, not-false}
+use Rattle.wire.proofs.NumberLaws.{all-bytes}
 use Rattle.client.specs.State.{wellFormedState}
-use Rattle.client.proofs.StateLaws.{all-bytes, well, memory-is}
+use Rattle.client.proofs.StateLaws.{well, memory-is}
 use Rattle.client.proofs.ReadLaws.{not-waiting, told-waiting, outcome-refused, outcome-past}
 use borrow.Author.Needs.{needs}
 use Rattle.client.proofs.read.read.Statement.{statement}

@@ -8,10 +8,11 @@ use borrow.Author.Tests.{le-leb, lt-leb, not-true, not-false}
 use borrow.Author.Needs.{needs}
 use lib.ListN.{take, drop}
 use lib.Dec.{leb}
+use Rattle.wire.proofs.NumberLaws.{all-bytes}
 use Rattle.wire.specs.Lists.{all, isZero}
 use Rattle.stream.specs.Call.{isBeginning}
 use Rattle.connection.specs.Connection.{heldMost, wellFormedConnection}
-use Rattle.connection.proofs.CheckLaws.{all-bytes, open-tests}
+use Rattle.connection.proofs.CheckLaws.{open-tests}
 use Rattle.connection.proofs.check.open_well_formed.Statement.{statement}
 use Rattle.connection.proofs.check.open_well_formed.Tie as tie
 

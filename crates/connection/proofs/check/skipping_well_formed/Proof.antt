@@ -8,6 +8,7 @@ use borrow.Author.Tests.{le-leb, lt-leb, not-true, not-false}
 use borrow.Author.Needs.{needs}
 use lib.ListN.{length, take, drop}
 use lib.Dec.{leb}
+use Rattle.wire.proofs.NumberLaws.{all-bytes}
 use Rattle.wire.specs.Lists.{all, isZero}
 use Rattle.wire.specs.Numbers.{field}
 use Rattle.wire.specs.Request.{contentLength, authLength, headerLength}
@@ -15,7 +16,7 @@ use Rattle.wire.proofs.BufferLaws.{lent}
 use Rattle.stream.specs.Frame.{legalStart, oversized}
 use Rattle.connection.specs.Connection.{heldMost, wellFormedConnection}
 use Rattle.connection.proofs.ConnectionLaws.{legal-most}
-use Rattle.connection.proofs.CheckLaws.{all-bytes, skipping-tests}
+use Rattle.connection.proofs.CheckLaws.{skipping-tests}
 use Rattle.connection.proofs.check.skipping_well_formed.Statement.{statement}
 use Rattle.connection.proofs.check.skipping_well_formed.Tie as tie
 
