@@ -1,0 +1,22 @@
+-- `client_abi::write::razidkot_client_write_list_opcodes` meets its contract.
+use mathlib.Core.Path.{ap}
+use Rattle.client_abi.specs.Numbers.{writtenWith}
+use borrow.Author.Needs.{needs}
+use Rattle.client_abi.proofs.write.razidkot_client_write_list_opcodes.Statement.{statement}
+use Rattle.client_abi.proofs.write.razidkot_client_write_list_opcodes.Tie as tie
+
+write-list-opcodes-requires : tie.Need-write-list-opcodes-requires
+write-list-opcodes-requires c κs = search needs
+
+number-requires : tie.Need-number-requires
+number-requires c κs = search needs
+
+same-length : tie.Need-same-length
+same-length c = search needs
+
+returns : tie.Need-returns
+returns c = rw (c .number .ensures) (ap writtenWith (c .before .before .before .write-list-opcodes .ensures))
+
+pub razidkot-client-write-list-opcodes-spec : {M : Type 1} → statement M
+razidkot-client-write-list-opcodes-spec =
+    tie.close (tie.spec write-list-opcodes-requires number-requires same-length returns)

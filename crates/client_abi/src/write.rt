@@ -1,0 +1,137 @@
+// Requests written ("The client's half").
+use client::WriteRefusal;
+use client::Written;
+use client::write::write_destroy;
+use client::write::write_export;
+use client::write::write_import;
+use client::write::write_list_opcodes;
+use client::write::write_list_providers;
+use client::write::write_ping;
+ghost use mathlib.Core.Path.{_≡_};
+ghost use Rattle.messages.specs.Operations.{ping, listProviders, listOpcodes, importKey, destroyKey, exportPublicKey};
+ghost use Rattle.client.specs.Writing.{writeOutcome, senderOf};
+ghost use Rattle.client_abi.specs.Numbers.{refusalNumber, requestNumbers, writtenWith};
+
+// What writing a request says: 0 if it was written, else why not; and how many bytes it has, 0 where there is none.
+#[repr(C)]
+pub struct Request {
+    pub code: u32,
+    pub written: usize,
+}
+
+fn refusal_number(refusal: WriteRefusal) -> u32
+    ensures { λ r. ⌜ r ≡ refusalNumber refusal ⌝ }
+{
+    match refusal {
+        WriteRefusal::BufferTooSmall => 1,
+        WriteRefusal::ApplicationNameIllegal => 2,
+        WriteRefusal::KeyNameIllegal => 3,
+        WriteRefusal::DataIllegal => 4,
+        WriteRefusal::BitsIllegal => 5,
+    }
+}
+
+fn number(written: Written) -> Request
+    ensures { λ r. ⌜ r ≡ requestNumbers written ⌝ }
+{
+    match written {
+        Written::Bytes(length) => Request {
+            code: 0,
+            written: length,
+        },
+        Written::Refused(refusal) => Request {
+            code: refusal_number(refusal),
+            written: 0,
+        },
+    }
+}
+
+#[no_mangle]
+pub extern "C" fn razidkot_client_write_ping(
+    out: &mut [u8],
+    session: u64,
+    named: bool,
+    application: &[u8],
+) -> Request
+    ensures { λ r. ⌜ (r, now (out .exit)) ≡ writtenWith (writeOutcome (now (out .entry)) session (senderOf named (now (application .entry))) ping) ⌝ }
+{
+    number(write_ping(out, session, named, application))
+}
+
+#[no_mangle]
+pub extern "C" fn razidkot_client_write_list_providers(
+    out: &mut [u8],
+    session: u64,
+    named: bool,
+    application: &[u8],
+) -> Request
+    ensures { λ r. ⌜ (r, now (out .exit)) ≡ writtenWith (writeOutcome (now (out .entry)) session (senderOf named (now (application .entry))) listProviders) ⌝ }
+{
+    number(write_list_providers(out, session, named, application))
+}
+
+#[no_mangle]
+pub extern "C" fn razidkot_client_write_list_opcodes(
+    out: &mut [u8],
+    session: u64,
+    named: bool,
+    application: &[u8],
+    provider: u32,
+) -> Request
+    ensures { λ r. ⌜ (r, now (out .exit)) ≡ writtenWith (writeOutcome (now (out .entry)) session (senderOf named (now (application .entry))) (listOpcodes provider)) ⌝ }
+{
+    number(write_list_opcodes(out, session, named, application, provider))
+}
+
+#[no_mangle]
+pub extern "C" fn razidkot_client_write_import(
+    out: &mut [u8],
+    session: u64,
+    named: bool,
+    application: &[u8],
+    name: &[u8],
+    bytes: &[u8],
+    bits: u32,
+    exported: bool,
+    verified: bool,
+) -> Request
+    ensures { λ r. ⌜ (r, now (out .exit)) ≡ writtenWith (writeOutcome (now (out .entry)) session (senderOf named (now (application .entry))) (importKey (record { name = now (name .entry); bytes = now (bytes .entry); bits = bits; exportAllowed = exported; verifyAllowed = verified }))) ⌝ }
+{
+    number(write_import(
+        out,
+        session,
+        named,
+        application,
+        name,
+        bytes,
+        bits,
+        exported,
+        verified,
+    ))
+}
+
+#[no_mangle]
+pub extern "C" fn razidkot_client_write_destroy(
+    out: &mut [u8],
+    session: u64,
+    named: bool,
+    application: &[u8],
+    name: &[u8],
+) -> Request
+    ensures { λ r. ⌜ (r, now (out .exit)) ≡ writtenWith (writeOutcome (now (out .entry)) session (senderOf named (now (application .entry))) (destroyKey (now (name .entry)))) ⌝ }
+{
+    number(write_destroy(out, session, named, application, name))
+}
+
+#[no_mangle]
+pub extern "C" fn razidkot_client_write_export(
+    out: &mut [u8],
+    session: u64,
+    named: bool,
+    application: &[u8],
+    name: &[u8],
+) -> Request
+    ensures { λ r. ⌜ (r, now (out .exit)) ≡ writtenWith (writeOutcome (now (out .entry)) session (senderOf named (now (application .entry))) (exportPublicKey (now (name .entry)))) ⌝ }
+{
+    number(write_export(out, session, named, application, name))
+}
