@@ -27,6 +27,8 @@
 #ifndef RAZIDKOT_H
 #define RAZIDKOT_H
 
+#include "razidkot_status.h"
+
 #include <stddef.h>
 #include <stdint.h>
 
@@ -53,28 +55,6 @@ extern "C" {
 #define RAZIDKOT_LINES 8
 /* How many statuses a request may be refused with. */
 #define RAZIDKOT_REFUSED_STATUSES 17
-
-/* The status of a response, its last two header bytes (24 and 25), little-endian. */
-enum razidkot_status {
-    RAZIDKOT_SUCCESS = 0,
-    RAZIDKOT_WRONG_PROVIDER_ID = 1,
-    RAZIDKOT_CONTENT_TYPE_NOT_SUPPORTED = 2,
-    RAZIDKOT_ACCEPT_TYPE_NOT_SUPPORTED = 3,
-    RAZIDKOT_WIRE_PROTOCOL_VERSION_NOT_SUPPORTED = 4,
-    RAZIDKOT_PROVIDER_DOES_NOT_EXIST = 6,
-    RAZIDKOT_DESERIALIZING_BODY_FAILED = 7,
-    RAZIDKOT_OPCODE_DOES_NOT_EXIST = 9,
-    RAZIDKOT_AUTHENTICATION_ERROR = 11,
-    RAZIDKOT_AUTHENTICATOR_DOES_NOT_EXIST = 12,
-    RAZIDKOT_INVALID_HEADER = 17,
-    RAZIDKOT_NOT_AUTHENTICATED = 19,
-    RAZIDKOT_BODY_SIZE_EXCEEDS_LIMIT = 20,
-    RAZIDKOT_PSA_ERROR_NOT_PERMITTED = 1133,
-    RAZIDKOT_PSA_ERROR_INVALID_ARGUMENT = 1135,
-    RAZIDKOT_PSA_ERROR_ALREADY_EXISTS = 1139,
-    RAZIDKOT_PSA_ERROR_DOES_NOT_EXIST = 1140,
-    RAZIDKOT_PSA_ERROR_INSUFFICIENT_STORAGE = 1142
-};
 
 /* The counters, which a call changes in place. A call with one above RAZIDKOT_HIGHEST_COUNTER is refused (C5). */
 typedef struct {
