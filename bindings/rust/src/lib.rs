@@ -49,12 +49,11 @@ mod counters;
 mod foreign;
 pub mod raw;
 mod registry;
-mod status;
 
 pub use connection::{Answer, Connection, Refusal};
 pub use counters::Counters;
+pub use razidkot_status::{Status, REFUSED_STATUSES};
 pub use registry::{Registry, RosterFault};
-pub use status::Status;
 
 /// The one size of registry memory.
 pub const REGISTRY_SIZE: usize = 20_968;
@@ -72,5 +71,3 @@ pub const LEAST_BILL_BUFFER: usize = 2_048;
 pub const HIGHEST_COUNTER: u64 = 1 << 62;
 /// How many applications a roster may have.
 pub const LINES: usize = 8;
-/// How many statuses a request may be refused with.
-pub const REFUSED_STATUSES: usize = 17;

@@ -1,6 +1,10 @@
-//! The statuses that a response carries: document 01, "Order of judgement on one request".
+//! The statuses that a response carries: document 01, "Order of judgement on one request". The
+//! service's crate and the client's both hand them on, so that a program with both has one type,
+//! and neither links the other's archive.
+#![no_std]
 
-use crate::REFUSED_STATUSES;
+/// How many statuses a request may be refused with.
+pub const REFUSED_STATUSES: usize = 17;
 
 /// What a response says of its request; `number` gives document 01's number.
 #[derive(Clone, Copy, Debug, PartialEq, Eq, PartialOrd, Ord, Hash)]
@@ -28,7 +32,7 @@ pub enum Status {
 }
 
 impl Status {
-    /// Every status but `Success`, ascending: the order of [`Counters::refused`](crate::Counters).
+    /// Every status but `Success`, ascending: the order in which the service counts them.
     pub const REFUSED: [Status; REFUSED_STATUSES] = [
         Status::WrongProviderID,
         Status::ContentTypeNotSupported,
@@ -55,6 +59,13 @@ impl Status {
     }
 
     /// The status of this number, if document 01 lists it.
+    ///
+    /// ```
+    /// use razidkot_status::Status;
+    ///
+    /// assert_eq!(Status::from_number(1140), Some(Status::PsaErrorDoesNotExist));
+    /// assert_eq!(Status::from_number(5), None);
+    /// ```
     pub fn from_number(number: u16) -> Option<Status> {
         let refused = |status: &Status| status.number() == number;
         match number {
