@@ -1,10 +1,71 @@
-//! The compiled, proved client of the key service, for Rust.
+//! The compiled, proved client of the key service, for Rust. It writes requests and reads their
+//! responses in chunks; the bytes between are sent by the caller. It links no part of the service
+//! and allocates nothing: a [`Request`] is written to a lent buffer, and a [`Reader`] has its memory
+//! in itself.
+//!
+//! ```
+//! use razidkot_client::{Operation, Output, Reader, Reading, Request, LEAST_REQUEST_BUFFER};
+//!
+//! let request = Request {
+//!     session: 9,
+//!     application: None,
+//!     operation: Operation::ListProviders,
+//! };
+//! let mut buffer = [0; LEAST_REQUEST_BUFFER];
+//! let written = request.write(&mut buffer)?;
+//! // Send it.
+//! assert_eq!(&buffer[..written], b"\x10\xA7\xC0\x5E\x16\0\x01\0\0\x09\0\0\0\0\0\0\0\x01\x01\0\0\0\0\0\0\0\x08\0");
+//!
+//! // What comes back, in whatever chunks it comes.
+//! let response = b"\x10\xA7\xC0\x5E\x14\0\x01\0\0\x09\0\0\0\0\0\0\0\x01\x04\0\0\0\x08\0\0\0\x0A\x02\0\x01";
+//! let mut reader = Reader::begin(&request);
+//! for chunk in response.chunks(11) {
+//!     let answer = reader.read(chunk);
+//!     assert_eq!(answer.taken, chunk.len());
+//! }
+//! let Reading::Response(response) = reader.said()? else {
+//!     panic!("it was whole");
+//! };
+//! assert_eq!(response.status, 0);
+//! let Output::Providers(providers) = response.output else {
+//!     panic!("providers were asked for");
+//! };
+//! assert!(providers.eq([0, 1]));
+//! # Ok::<(), Box<dyn std::error::Error>>(())
+//! ```
+#![no_std]
 
 #[allow(unsafe_code)]
 mod foreign;
+mod opcode;
+mod output;
 pub mod raw;
+mod reader;
+mod request;
 
+pub use opcode::{Opcode, Provider};
+pub use output::{Entries, Output};
+pub use razidkot_status::Status;
+pub use reader::{Answer, ReadRefusal, Reader, Reading, Response};
+pub use request::{Import, Operation, Request, WriteRefusal};
+
+/// A shorter request buffer is refused, whatever the request.
+pub const LEAST_REQUEST_BUFFER: usize = 5_120;
+/// No request is longer.
+pub const LONGEST_REQUEST: usize = 736;
 /// The one size of a reader's state.
 pub const STATE_SIZE: usize = 1_036;
-/// A shorter request buffer is refused.
-pub const LEAST_REQUEST_BUFFER: usize = 5_120;
+/// No longer response is read.
+pub const LONGEST_RESPONSE: usize = 1_024;
+/// No list that is read has more entries.
+pub const MOST_ENTRIES: usize = 995;
+/// The most bytes of an application's name; it has at least 1.
+pub const LONGEST_APPLICATION_NAME: usize = 64;
+/// The most bytes of a key's name; it has at least 1.
+pub const LONGEST_KEY_NAME: usize = 32;
+/// The most bytes of a key's data; it has at least 1.
+pub const LONGEST_DATA: usize = 600;
+/// The least bits of a key, which has a multiple of 8.
+pub const LEAST_BITS: u32 = 1_024;
+/// The most bits of a key.
+pub const MOST_BITS: u32 = 4_096;

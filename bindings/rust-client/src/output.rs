@@ -1,0 +1,92 @@
+//! What a response carries besides its status.
+
+use crate::raw;
+use core::{fmt, iter};
+
+/// An output, read where it lies in the reader's memory. Any status but 0 has `Nothing`.
+#[derive(Clone, Debug, PartialEq, Eq)]
+pub enum Output<'a> {
+    /// Of an Import, a Destroy, or a request that was refused.
+    Nothing,
+    /// Of a Ping.
+    Version {
+        /// The first number.
+        major: u32,
+        /// The second.
+        minor: u32,
+    },
+    /// Of a ListProviders.
+    Providers(Entries<'a>),
+    /// Of a ListOpcodes.
+    Opcodes(Entries<'a>),
+    /// Of an Export: the key's data.
+    Data(&'a [u8]),
+}
+
+impl<'a> Output<'a> {
+    /// The output of a response in `state`. The places lie within it: that is proved.
+    pub(crate) fn placed(numbers: raw::OutputNumbers, state: &'a [u8]) -> Output<'a> {
+        let place = &state[numbers.start..numbers.start + numbers.length];
+        match numbers.kind {
+            0 => Output::Nothing,
+            1 => Output::Version {
+                major: numbers.major,
+                minor: numbers.minor,
+            },
+            2 => Output::Providers(Entries { packed: place }),
+            3 => Output::Opcodes(Entries { packed: place }),
+            4 => Output::Data(place),
+            kind => unreachable!("no output has the number {kind}"),
+        }
+    }
+}
+
+/// The entries of a list, in their order. They are read one by one where they lie; a clone begins
+/// where this one is.
+#[derive(Clone)]
+pub struct Entries<'a> {
+    /// Whole varints: the reader has judged them.
+    packed: &'a [u8],
+}
+
+/// The last byte of a varint has its top bit clear.
+fn is_last(byte: &u8) -> bool {
+    *byte < 0x80
+}
+
+impl Iterator for Entries<'_> {
+    type Item = u32;
+
+    fn next(&mut self) -> Option<u32> {
+        let length = self.packed.iter().position(is_last)? + 1;
+        let (varint, rest) = self.packed.split_at(length);
+        self.packed = rest;
+        let mut entry = [0];
+        let read = raw::read_list(varint, &mut entry);
+        assert_eq!(read, 1, "a varint that the reader has judged");
+        Some(entry[0])
+    }
+
+    fn size_hint(&self) -> (usize, Option<usize>) {
+        let count = self.packed.iter().filter(|byte| is_last(byte)).count();
+        (count, Some(count))
+    }
+}
+
+impl ExactSizeIterator for Entries<'_> {}
+impl iter::FusedIterator for Entries<'_> {}
+
+/// The same numbers, however their varints are written.
+impl PartialEq for Entries<'_> {
+    fn eq(&self, other: &Self) -> bool {
+        Iterator::eq(self.clone(), other.clone())
+    }
+}
+
+impl Eq for Entries<'_> {}
+
+impl fmt::Debug for Entries<'_> {
+    fn fmt(&self, out: &mut fmt::Formatter) -> fmt::Result {
+        out.debug_list().entries(self.clone()).finish()
+    }
+}

@@ -1,0 +1,181 @@
+//! A request, and writing it.
+
+use crate::{raw, Opcode};
+use core::fmt;
+
+/// A request: who asks for what, and the session that its response repeats.
+#[derive(Clone, Copy, Debug, PartialEq, Eq)]
+pub struct Request<'a> {
+    /// Any number.
+    pub session: u64,
+    /// The name of the application that asks (auth type 1), or nobody (auth type 0).
+    pub application: Option<&'a [u8]>,
+    /// What is asked for.
+    pub operation: Operation<'a>,
+}
+
+impl Request<'_> {
+    /// Writes the request to the front of `buffer` and says how many bytes it has; bytes past it
+    /// stay. A refused request leaves all of `buffer` as it was.
+    ///
+    /// What the service will not do, a keystore operation for nobody or the opcodes of a provider
+    /// that is not there, is written as asked, and the response's status says so.
+    ///
+    /// ```
+    /// use razidkot_client::{Operation, Request, WriteRefusal, LEAST_REQUEST_BUFFER};
+    ///
+    /// let mut request = Request {
+    ///     session: 0,
+    ///     application: Some(b"scanner"),
+    ///     operation: Operation::ExportPublicKey { name: b"a" },
+    /// };
+    /// let mut buffer = [0; LEAST_REQUEST_BUFFER];
+    /// assert_eq!(request.write(&mut buffer), Ok(28 + 3 + 7));
+    /// assert_eq!(&buffer[28..38], b"\x0A\x01ascanner");
+    ///
+    /// request.operation = Operation::ExportPublicKey { name: b"a key" };
+    /// assert_eq!(request.write(&mut buffer), Err(WriteRefusal::KeyNameIllegal));
+    /// assert_eq!(request.write(&mut buffer[1..]), Err(WriteRefusal::BufferTooSmall));
+    /// ```
+    pub fn write(&self, buffer: &mut [u8]) -> Result<usize, WriteRefusal> {
+        let answer = self.write_raw(buffer);
+        match answer.code {
+            0 => Ok(answer.written),
+            code => Err(WriteRefusal::ALL[code as usize - 1]),
+        }
+    }
+
+    fn write_raw(&self, out: &mut [u8]) -> raw::Request {
+        let session = self.session;
+        let (named, application) = match self.application {
+            Some(name) => (true, name),
+            None => (false, &[][..]),
+        };
+        match self.operation {
+            Operation::Ping => raw::write_ping(out, session, named, application),
+            Operation::ListProviders => raw::write_list_providers(out, session, named, application),
+            Operation::ListOpcodes { provider } => {
+                raw::write_list_opcodes(out, session, named, application, provider)
+            }
+            Operation::ImportKey(key) => raw::write_import(
+                out,
+                session,
+                named,
+                application,
+                key.name,
+                key.data,
+                key.bits,
+                key.export_allowed,
+                key.verify_allowed,
+            ),
+            Operation::DestroyKey { name } => {
+                raw::write_destroy(out, session, named, application, name)
+            }
+            Operation::ExportPublicKey { name } => {
+                raw::write_export(out, session, named, application, name)
+            }
+        }
+    }
+}
+
+/// A listed operation with its input.
+#[derive(Clone, Copy, Debug, PartialEq, Eq)]
+pub enum Operation<'a> {
+    /// Which version of the protocol the service speaks.
+    Ping,
+    /// Which providers there are.
+    ListProviders,
+    /// Which operations a provider has.
+    ListOpcodes {
+        /// A [`Provider`](crate::Provider)'s number, or any other.
+        provider: u32,
+    },
+    /// Keeps a public key under a name.
+    ImportKey(Import<'a>),
+    /// Drops a key.
+    DestroyKey {
+        /// 1 to 32 bytes, each 0x21 to 0x7E.
+        name: &'a [u8],
+    },
+    /// The data of a key.
+    ExportPublicKey {
+        /// 1 to 32 bytes, each 0x21 to 0x7E.
+        name: &'a [u8],
+    },
+}
+
+impl Operation<'_> {
+    /// Its opcode.
+    pub fn opcode(&self) -> Opcode {
+        match self {
+            Operation::Ping => Opcode::Ping,
+            Operation::ListProviders => Opcode::ListProviders,
+            Operation::ListOpcodes { .. } => Opcode::ListOpcodes,
+            Operation::ImportKey(_) => Opcode::PsaImportKey,
+            Operation::DestroyKey { .. } => Opcode::PsaDestroyKey,
+            Operation::ExportPublicKey { .. } => Opcode::PsaExportPublicKey,
+        }
+    }
+}
+
+/// The key that an Import brings.
+#[derive(Clone, Copy, Debug, PartialEq, Eq)]
+pub struct Import<'a> {
+    /// 1 to 32 bytes, each 0x21 to 0x7E.
+    pub name: &'a [u8],
+    /// 1 to 600 bytes, which the service keeps as they are.
+    pub data: &'a [u8],
+    /// The key's length: 1,024 to 4,096, a multiple of 8.
+    pub bits: u32,
+    /// May it be exported?
+    pub export_allowed: bool,
+    /// May it be used to verify?
+    pub verify_allowed: bool,
+}
+
+/// Why a request is not written; the first that applies, in this order.
+#[derive(Clone, Copy, Debug, PartialEq, Eq)]
+#[repr(u32)]
+pub enum WriteRefusal {
+    /// Fewer than [`LEAST_REQUEST_BUFFER`](crate::LEAST_REQUEST_BUFFER) bytes, whatever the request.
+    BufferTooSmall = 1,
+    /// An application's name not of 1 to 64 bytes, or with a byte outside 0x21 to 0x7E.
+    ApplicationNameIllegal = 2,
+    /// A key's name not of 1 to 32 bytes, or with a byte outside 0x21 to 0x7E.
+    KeyNameIllegal = 3,
+    /// Data not of 1 to 600 bytes.
+    DataIllegal = 4,
+    /// Bits that are not 1,024 to 4,096, or no multiple of 8.
+    BitsIllegal = 5,
+}
+
+impl WriteRefusal {
+    /// Every refusal, in the order in which they are judged.
+    pub const ALL: [WriteRefusal; 5] = [
+        WriteRefusal::BufferTooSmall,
+        WriteRefusal::ApplicationNameIllegal,
+        WriteRefusal::KeyNameIllegal,
+        WriteRefusal::DataIllegal,
+        WriteRefusal::BitsIllegal,
+    ];
+
+    /// The number that the archive says, `raw::Request::code`.
+    pub fn number(self) -> u32 {
+        self as u32
+    }
+}
+
+impl fmt::Display for WriteRefusal {
+    fn fmt(&self, out: &mut fmt::Formatter) -> fmt::Result {
+        let why = match self {
+            WriteRefusal::BufferTooSmall => "a buffer below 5,120 bytes",
+            WriteRefusal::ApplicationNameIllegal => "the application's name",
+            WriteRefusal::KeyNameIllegal => "the key's name",
+            WriteRefusal::DataIllegal => "the key's data",
+            WriteRefusal::BitsIllegal => "the key's bits",
+        };
+        write!(out, "request not written: {why}")
+    }
+}
+
+impl core::error::Error for WriteRefusal {}

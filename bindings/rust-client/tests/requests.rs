@@ -1,0 +1,212 @@
+//! Requests written through the safe types: their bytes, their bounds and what is refused.
+
+use razidkot_client::{
+    Import, Opcode, Operation, Request, WriteRefusal, LEAST_BITS, LEAST_REQUEST_BUFFER,
+    LONGEST_APPLICATION_NAME, LONGEST_DATA, LONGEST_KEY_NAME, LONGEST_REQUEST, MOST_BITS,
+};
+
+const SESSION: u64 = 0x0102_0304_0506_0708;
+
+const IMPORT: Import = Import {
+    name: b"a",
+    data: b"\xAA\xBB",
+    bits: 2_048,
+    export_allowed: true,
+    verify_allowed: true,
+};
+
+fn request<'a>(application: Option<&'a [u8]>, operation: Operation<'a>) -> Request<'a> {
+    Request {
+        session: SESSION,
+        application,
+        operation,
+    }
+}
+
+/// Writes to a buffer that had other bytes, and gives it whole.
+fn written(request: &Request) -> (Result<usize, WriteRefusal>, Vec<u8>) {
+    let mut buffer = vec![0xEE; LEAST_REQUEST_BUFFER + 1];
+    let result = request.write(&mut buffer);
+    (result, buffer)
+}
+
+/// Header size, version, provider, session, types, content length, auth length, opcode, body, auth.
+fn expected(provider: u8, auth_type: u8, opcode: u16, body: &[u8], auth: &[u8]) -> Vec<u8> {
+    [
+        &b"\x10\xA7\xC0\x5E\x16\x00\x01\x00"[..],
+        &[provider],
+        &SESSION.to_le_bytes(),
+        &[1, 1, auth_type],
+        &(body.len() as u32).to_le_bytes(),
+        &(auth.len() as u16).to_le_bytes(),
+        &opcode.to_le_bytes(),
+        body,
+        auth,
+    ]
+    .concat()
+}
+
+/// Written as these bytes, and the buffer past them stays.
+fn expect_written(request: Request, bytes: &[u8]) {
+    let (result, buffer) = written(&request);
+    assert_eq!(result, Ok(bytes.len()), "{request:?}");
+    assert_eq!(&buffer[..bytes.len()], bytes, "{request:?}");
+    assert!(buffer[bytes.len()..].iter().all(|&byte| byte == 0xEE));
+}
+
+/// Refused, and the buffer is as it was.
+fn expect_refused(request: Request, refusal: WriteRefusal) {
+    let (result, buffer) = written(&request);
+    assert_eq!(result, Err(refusal), "{request:?}");
+    assert!(buffer.iter().all(|&byte| byte == 0xEE));
+}
+
+#[test]
+fn each_operation_is_written_as_asked() {
+    use Operation::*;
+    let import = b"\x0A\x01a\x12\x02\xAA\xBB\x18\x80\x10\x20\x01\x28\x01";
+    let named: [(Operation, u8, u16, &[u8]); 7] = [
+        (Ping, 0, 1, b""),
+        (ListProviders, 0, 8, b""),
+        (ListOpcodes { provider: 1 }, 0, 9, b"\x08\x01"),
+        (ListOpcodes { provider: 0 }, 0, 9, b""),
+        (ImportKey(IMPORT), 1, 6, import),
+        (DestroyKey { name: b"key" }, 1, 3, b"\x0A\x03key"),
+        (ExportPublicKey { name: b"key" }, 1, 7, b"\x0A\x03key"),
+    ];
+    for (operation, provider, opcode, body) in named {
+        assert_eq!(operation.opcode().number(), opcode);
+        assert_eq!(operation.opcode().provider().number(), provider.into());
+        let by_scanner = expected(provider, 1, opcode, body, b"scanner");
+        expect_written(request(Some(b"scanner"), operation), &by_scanner);
+        let by_nobody = expected(provider, 0, opcode, body, b"");
+        expect_written(request(None, operation), &by_nobody);
+    }
+}
+
+#[test]
+fn each_permission_stands_in_its_own_field() {
+    let body = |export_allowed, verify_allowed| {
+        let import = Import {
+            export_allowed,
+            verify_allowed,
+            ..IMPORT
+        };
+        let (result, buffer) = written(&request(None, Operation::ImportKey(import)));
+        buffer[28..result.unwrap()].to_vec()
+    };
+    let first = b"\x0A\x01a\x12\x02\xAA\xBB\x18\x80\x10";
+    assert_eq!(body(false, false), first);
+    assert_eq!(body(true, false), [&first[..], b"\x20\x01"].concat());
+    assert_eq!(body(false, true), [&first[..], b"\x28\x01"].concat());
+}
+
+#[test]
+fn bounds_themselves_are_written() {
+    let application = vec![b'~'; LONGEST_APPLICATION_NAME];
+    let longest = Import {
+        name: &[b'!'; LONGEST_KEY_NAME],
+        data: &[0; LONGEST_DATA],
+        bits: MOST_BITS,
+        ..IMPORT
+    };
+    let (result, _) = written(&request(Some(&application), Operation::ImportKey(longest)));
+    assert_eq!(result, Ok(LONGEST_REQUEST));
+    let least = Import {
+        data: &[0],
+        bits: LEAST_BITS,
+        ..IMPORT
+    };
+    let (result, _) = written(&request(Some(b"b"), Operation::ImportKey(least)));
+    assert_eq!(result, Ok(28 + 13 + 1));
+}
+
+#[test]
+fn past_the_bounds_requests_are_refused() {
+    use WriteRefusal::*;
+    for name in [&b""[..], &[b'b'; LONGEST_APPLICATION_NAME + 1], b"b b"] {
+        expect_refused(request(Some(name), Operation::Ping), ApplicationNameIllegal);
+    }
+    for name in [&b""[..], &[b'a'; LONGEST_KEY_NAME + 1], b"\x7F", b"a\n"] {
+        let import = Operation::ImportKey(Import { name, ..IMPORT });
+        let destroy = Operation::DestroyKey { name };
+        let export = Operation::ExportPublicKey { name };
+        for operation in [import, destroy, export] {
+            expect_refused(request(Some(b"b"), operation), KeyNameIllegal);
+        }
+    }
+    for data in [&b""[..], &[0; LONGEST_DATA + 1]] {
+        let import = Operation::ImportKey(Import { data, ..IMPORT });
+        expect_refused(request(Some(b"b"), import), DataIllegal);
+    }
+    for bits in [0, LEAST_BITS - 8, LEAST_BITS + 4, MOST_BITS + 8, u32::MAX] {
+        let import = Operation::ImportKey(Import { bits, ..IMPORT });
+        expect_refused(request(Some(b"b"), import), BitsIllegal);
+    }
+}
+
+#[test]
+fn the_first_refusal_that_applies_is_said() {
+    use WriteRefusal::*;
+    let all = Import {
+        name: b"",
+        data: b"",
+        bits: 0,
+        ..IMPORT
+    };
+    let by_none = request(Some(b""), Operation::ImportKey(all));
+    let mut short = [0xEE; LEAST_REQUEST_BUFFER - 1];
+    assert_eq!(by_none.write(&mut short), Err(BufferTooSmall));
+    assert_eq!(short, [0xEE; LEAST_REQUEST_BUFFER - 1]);
+    expect_refused(by_none, ApplicationNameIllegal);
+    expect_refused(
+        request(Some(b"b"), Operation::ImportKey(all)),
+        KeyNameIllegal,
+    );
+    let named = Import { name: b"a", ..all };
+    expect_refused(
+        request(Some(b"b"), Operation::ImportKey(named)),
+        DataIllegal,
+    );
+    let with_data = Import {
+        data: b"\xAA",
+        ..named
+    };
+    expect_refused(
+        request(Some(b"b"), Operation::ImportKey(with_data)),
+        BitsIllegal,
+    );
+}
+
+#[test]
+fn a_buffer_of_exactly_the_least_size_is_taken() {
+    let ping = request(None, Operation::Ping);
+    assert_eq!(ping.write(&mut [0; LEAST_REQUEST_BUFFER]), Ok(28));
+    assert_eq!(ping.write(&mut []), Err(WriteRefusal::BufferTooSmall));
+}
+
+#[test]
+fn write_refusals_are_errors_with_texts_of_their_own() {
+    let texts: Vec<String> = WriteRefusal::ALL
+        .iter()
+        .map(|refusal| {
+            let error: &dyn std::error::Error = refusal;
+            error.to_string()
+        })
+        .collect();
+    for (place, text) in texts.iter().enumerate() {
+        assert!(text.starts_with("request not written: "), "{text}");
+        assert!(!texts[..place].contains(text), "{text}");
+        assert_eq!(WriteRefusal::ALL[place].number(), place as u32 + 1);
+    }
+}
+
+#[test]
+fn opcodes_are_found_by_their_numbers_alone() {
+    for number in 0..=u32::from(u16::MAX) + 9 {
+        let listed = Opcode::ALL
+            .into_iter()
+            .find(|opcode| u32::from(*opcode as u16) == number);
+        assert_eq!(Opcode::from_number(number), listed);
+    }
+}
