@@ -1,0 +1,202 @@
+/*
+ * A client of the key service in C: lists the providers, imports a key, exports it, asks for one that is not there and
+ * destroys the first, and prints what came back. The service is in the same program and stands for the other end of a
+ * socket: send_bytes and receive_bytes are all that a socket would change.
+ *
+ *   rt staticlib abi && rt staticlib client_abi
+ *   cc -std=c99 -Iinclude -o client examples/c/client.c target/staticlib/libclient_abi.a target/staticlib/libabi.a
+ */
+#include "razidkot.h"
+#include "razidkot_client.h"
+
+#include <inttypes.h>
+#include <stdio.h>
+#include <string.h>
+
+/* ---- The other end: the service, and the responses that are not received yet. */
+
+/* One record: tag 1, the length in two bytes, the name. */
+static const uint8_t roster[] = {0x01, 7, 0, 's', 'c', 'a', 'n', 'n', 'e', 'r'};
+
+static uint8_t registry[RAZIDKOT_REGISTRY_SIZE];
+static uint8_t connection[RAZIDKOT_CONNECTION_SIZE];
+static razidkot_counters counters;
+static uint8_t responses[4 * RAZIDKOT_LEAST_RESPONSE_BUFFER];
+static size_t responses_length;
+
+static bool start_service(void)
+{
+    razidkot_clear_counters(&counters);
+    return razidkot_load_roster(roster, sizeof roster, registry, sizeof registry) == RAZIDKOT_ROSTER_LOADED
+        && razidkot_open_connection(connection, sizeof connection) == RAZIDKOT_OPEN_FRESH;
+}
+
+/* Sends all of the bytes. */
+static bool send_bytes(const uint8_t *bytes, size_t length)
+{
+    while (length > 0) {
+        razidkot_answer answer = razidkot_call(bytes, length, connection, sizeof connection, registry, sizeof registry,
+                                               &counters, responses + responses_length,
+                                               sizeof responses - responses_length);
+        if (answer.code != RAZIDKOT_CALL_TAKEN)
+            return false;
+        responses_length += answer.written;
+        bytes += answer.taken;
+        length -= answer.taken;
+    }
+    return true;
+}
+
+/* Receives at most so many bytes and returns how many; 0 if there are none to come. */
+static size_t receive_bytes(uint8_t *bytes, size_t most)
+{
+    size_t length = responses_length < most ? responses_length : most;
+    memcpy(bytes, responses, length);
+    responses_length -= length;
+    memmove(responses, responses + length, responses_length);
+    return length;
+}
+
+/* ---- The client. */
+
+static const uint8_t scanner[] = {'s', 'c', 'a', 'n', 'n', 'e', 'r'};
+static const uint8_t key_a[] = {'a'};
+static const uint8_t key_b[] = {'b'};
+static const uint8_t key_data[] = {0xAA, 0xBB};
+
+static uint8_t request[RAZIDKOT_CLIENT_LEAST_REQUEST_BUFFER];
+
+/* The last chunk; its bytes from `at` to `end` are not taken yet. So small that responses lie across chunks: a socket's
+   would have some thousand bytes. */
+static uint8_t chunk[7];
+static size_t chunk_at, chunk_end;
+
+/* Sends the request that was written, and makes memory the state for its response. */
+static bool send_request(razidkot_client_request written, uint16_t opcode, uint64_t session, uint8_t *state)
+{
+    return written.code == RAZIDKOT_CLIENT_WRITE_WRITTEN
+        && send_bytes(request, written.written)
+        && razidkot_client_begin(state, RAZIDKOT_CLIENT_STATE_SIZE, opcode, session) == RAZIDKOT_CLIENT_BEGIN_FRESH;
+}
+
+/*
+ * Reads one response: what is left of the last chunk first, then as many chunks as it takes. What is left of the last of
+ * these is the next response's. The code is RAZIDKOT_CLIENT_READ_WAITING only if the other end is gone.
+ */
+static razidkot_client_answer read_response(uint8_t *state)
+{
+    for (;;) {
+        razidkot_client_answer answer =
+            razidkot_client_read(state, RAZIDKOT_CLIENT_STATE_SIZE, chunk + chunk_at, chunk_end - chunk_at);
+        chunk_at += answer.taken;
+        if (answer.code != RAZIDKOT_CLIENT_READ_WAITING)
+            return answer;
+        chunk_at = 0;
+        chunk_end = receive_bytes(chunk, sizeof chunk);
+        if (chunk_end == 0)
+            return answer;
+    }
+}
+
+static void print_list(const char *what, const uint8_t *packed, size_t length)
+{
+    static uint32_t entries[RAZIDKOT_CLIENT_MOST_ENTRIES];
+    size_t count = razidkot_client_read_list(packed, length, entries, RAZIDKOT_CLIENT_MOST_ENTRIES);
+    printf(", %s", what);
+    for (size_t at = 0; at < count; at++)
+        printf(" %" PRIu32, entries[at]);
+}
+
+/* What a response carries lies in its state's memory. */
+static void print_output(razidkot_client_output output, const uint8_t *state)
+{
+    const uint8_t *place = state + output.start;
+    switch (output.kind) {
+    case RAZIDKOT_CLIENT_OUTPUT_VERSION:
+        printf(", version %" PRIu32 ".%" PRIu32, output.major, output.minor);
+        break;
+    case RAZIDKOT_CLIENT_OUTPUT_PROVIDERS:
+        print_list("providers", place, output.length);
+        break;
+    case RAZIDKOT_CLIENT_OUTPUT_OPCODES:
+        print_list("opcodes", place, output.length);
+        break;
+    case RAZIDKOT_CLIENT_OUTPUT_DATA:
+        printf(", data");
+        for (size_t at = 0; at < output.length; at++)
+            printf(" %02X", place[at]);
+        break;
+    default: /* RAZIDKOT_CLIENT_OUTPUT_NOTHING */
+        break;
+    }
+}
+
+/* Reads a response and prints it. After a refusal it is not known where the next one begins: the connection is at its
+   end. */
+static bool print_response(const char *what, uint8_t *state)
+{
+    razidkot_client_answer answer = read_response(state);
+    if (answer.code != RAZIDKOT_CLIENT_READ_RESPONSE) {
+        printf("%s: response not read, code %" PRIu32 "\n", what, answer.code);
+        return false;
+    }
+    printf("%s: status %" PRIu32, what, answer.status);
+    print_output(answer.output, state);
+    printf("\n");
+    return true;
+}
+
+static uint8_t first[RAZIDKOT_CLIENT_STATE_SIZE];
+static uint8_t second[RAZIDKOT_CLIENT_STATE_SIZE];
+
+/* A session of its own for each request, so that no response is taken for another's. */
+static bool list_providers(void)
+{
+    razidkot_client_request written =
+        razidkot_client_write_list_providers(request, sizeof request, 1, false, NULL, 0);
+    return send_request(written, RAZIDKOT_CLIENT_OPCODE_LIST_PROVIDERS, 1, first)
+        && print_response("list providers", first);
+}
+
+static razidkot_client_request write_import(uint64_t session, uint32_t bits)
+{
+    return razidkot_client_write_import(request, sizeof request, session, true, scanner, sizeof scanner,
+                                        key_a, sizeof key_a, key_data, sizeof key_data, bits, true, false);
+}
+
+static bool import_key(void)
+{
+    /* What is outside the bounds is refused before a byte is sent. */
+    if (write_import(2, 2050).code == RAZIDKOT_CLIENT_WRITE_BITS_ILLEGAL)
+        printf("import of 2050 bits: request not written: the key's bits\n");
+    return send_request(write_import(3, 2048), RAZIDKOT_CLIENT_OPCODE_PSA_IMPORT_KEY, 3, first)
+        && print_response("import a", first);
+}
+
+static bool export_key(void)
+{
+    razidkot_client_request written = razidkot_client_write_export(
+        request, sizeof request, 4, true, scanner, sizeof scanner, key_a, sizeof key_a);
+    return send_request(written, RAZIDKOT_CLIENT_OPCODE_PSA_EXPORT_PUBLIC_KEY, 4, first)
+        && print_response("export a", first);
+}
+
+/* Two requests sent before a response is read: a state for each, in the same order. */
+static bool export_and_destroy(void)
+{
+    razidkot_client_request written = razidkot_client_write_export(
+        request, sizeof request, 5, true, scanner, sizeof scanner, key_b, sizeof key_b);
+    if (!send_request(written, RAZIDKOT_CLIENT_OPCODE_PSA_EXPORT_PUBLIC_KEY, 5, first))
+        return false;
+    written = razidkot_client_write_destroy(
+        request, sizeof request, 6, true, scanner, sizeof scanner, key_a, sizeof key_a);
+    return send_request(written, RAZIDKOT_CLIENT_OPCODE_PSA_DESTROY_KEY, 6, second)
+        && print_response("export b", first)
+        && print_response("destroy a", second);
+}
+
+int main(void)
+{
+    bool done = start_service() && list_providers() && import_key() && export_key() && export_and_destroy();
+    return done ? 0 : 1;
+}

@@ -1,0 +1,95 @@
+//! A client of the key service in Rust: lists the providers, imports a key, exports it, asks for one
+//! that is not there and destroys the first, and prints what came back. It reads from any stream;
+//! here the service is in the same program (`service.rs`) and stands for a socket.
+//!
+//!     rt staticlib abi && rt staticlib client_abi && cargo run --quiet -p razidkot-client-example
+
+mod client;
+mod service;
+
+use client::Client;
+use razidkot_client::{Import, Operation, Output, Reader, Reading, Request};
+use service::Service;
+use std::error::Error;
+
+/// The application whose keys these are.
+const SCANNER: Option<&[u8]> = Some(b"scanner");
+
+const IMPORT: Import = Import {
+    name: b"a",
+    data: b"\xAA\xBB",
+    bits: 2_048,
+    export_allowed: true,
+    verify_allowed: false,
+};
+
+fn main() -> Result<(), Box<dyn Error>> {
+    // One record: tag 1, the length in two bytes, the name.
+    let mut client = Client::new(Service::start(b"\x01\x07\x00scanner")?);
+
+    // A session of its own for each request, so that no response is taken for another's.
+    let list = request(1, None, Operation::ListProviders);
+    print("list providers", &client.ask(&list)?)?;
+
+    // What is outside the bounds is refused before a byte is sent.
+    let odd = Import {
+        bits: 2_050,
+        ..IMPORT
+    };
+    let odd = request(2, SCANNER, Operation::ImportKey(odd));
+    if let Err(refusal) = client.ask(&odd) {
+        println!("import of 2050 bits: {refusal}");
+    }
+    let import = request(3, SCANNER, Operation::ImportKey(IMPORT));
+    print("import a", &client.ask(&import)?)?;
+    let export = request(4, SCANNER, Operation::ExportPublicKey { name: b"a" });
+    print("export a", &client.ask(&export)?)?;
+
+    // Two requests sent before a response is read: a reader for each, in the same order.
+    let export = request(5, SCANNER, Operation::ExportPublicKey { name: b"b" });
+    let destroy = request(6, SCANNER, Operation::DestroyKey { name: b"a" });
+    let mut exported = client.send(&export)?;
+    let mut destroyed = client.send(&destroy)?;
+    client.receive(&mut exported)?;
+    client.receive(&mut destroyed)?;
+    print("export b", &exported)?;
+    print("destroy a", &destroyed)
+}
+
+fn request<'a>(
+    session: u64,
+    application: Option<&'a [u8]>,
+    operation: Operation<'a>,
+) -> Request<'a> {
+    Request {
+        session,
+        application,
+        operation,
+    }
+}
+
+/// A response: its status, and what it carries.
+fn print(what: &str, reader: &Reader) -> Result<(), Box<dyn Error>> {
+    let Reading::Response(response) = reader.said()? else {
+        return Err("no response yet".into());
+    };
+    print!("{what}: status {}", response.status);
+    match response.output {
+        Output::Nothing => {}
+        Output::Version { major, minor } => print!(", version {major}.{minor}"),
+        Output::Providers(entries) => {
+            print!(", providers");
+            entries.for_each(|provider| print!(" {provider}"));
+        }
+        Output::Opcodes(entries) => {
+            print!(", opcodes");
+            entries.for_each(|opcode| print!(" {opcode}"));
+        }
+        Output::Data(data) => {
+            print!(", data");
+            data.iter().for_each(|byte| print!(" {byte:02X}"));
+        }
+    }
+    println!();
+    Ok(())
+}
