@@ -134,11 +134,23 @@ static void expect_answer(const char *what, razidkot_client_answer answer, uint3
     expect(what, answer.output.length, output.length);
 }
 
+/* By the fields' names: their order is a part of what is tested. */
+static razidkot_client_output output_of(uint32_t kind, uint32_t major, uint32_t minor, size_t start, size_t length)
+{
+    razidkot_client_output output;
+    output.kind = kind;
+    output.major = major;
+    output.minor = minor;
+    output.start = start;
+    output.length = length;
+    return output;
+}
+
 static void expect_outputs(void)
 {
-    const razidkot_client_output nothing = {RAZIDKOT_CLIENT_OUTPUT_NOTHING, 0, 0, 0, 0};
-    const razidkot_client_output version = {RAZIDKOT_CLIENT_OUTPUT_VERSION, 0xFFFFFFFF, 300, 0, 0};
-    const razidkot_client_output exported = {RAZIDKOT_CLIENT_OUTPUT_DATA, 0, 0, 12 + 26 + 2, 3};
+    const razidkot_client_output nothing = output_of(RAZIDKOT_CLIENT_OUTPUT_NOTHING, 0, 0, 0, 0);
+    const razidkot_client_output version = output_of(RAZIDKOT_CLIENT_OUTPUT_VERSION, 0xFFFFFFFF, 300, 0, 0);
+    const razidkot_client_output exported = output_of(RAZIDKOT_CLIENT_OUTPUT_DATA, 0, 0, 12 + 26 + 2, 3);
     expect_answer("version", read_body(0, RAZIDKOT_CLIENT_OPCODE_PING, 0, "\x08\xFF\xFF\xFF\xFF\x0F\x10\xAC\x02", 9),
                   RAZIDKOT_CLIENT_READ_RESPONSE, RAZIDKOT_SUCCESS, 9, version);
     expect_answer("data", read_body(1, RAZIDKOT_CLIENT_OPCODE_PSA_EXPORT_PUBLIC_KEY, 0, "\x0A\x03xyz", 5),
