@@ -5,8 +5,12 @@
 mod programs;
 
 use programs::{compile, printed, printed_by_package, repository, C, CPP};
+use razidkot::{Connection, Counters, Registry, LEAST_RESPONSE_BUFFER};
 use razidkot_client::raw::{self, Answer, OutputNumbers};
-use razidkot_client::{Opcode, Provider, ReadRefusal, Status, WriteRefusal};
+use razidkot_client::{
+    Opcode, Operation, Provider, ReadRefusal, Reader, Reading, Request, Response, Status,
+    WriteRefusal, LEAST_REQUEST_BUFFER,
+};
 use std::collections::BTreeMap;
 use std::fmt::Debug;
 use std::fs;
@@ -334,5 +338,71 @@ fn read_refusals_are_judged_in_the_second_programs_order() {
             (said.code, ours.number()),
             (second as u32 + 3, second as u32 + 3)
         );
+    }
+}
+
+// ---- The client and the service, several requests at once
+
+fn bytes_of(request: &Request) -> Vec<u8> {
+    let mut buffer = [0; LEAST_REQUEST_BUFFER];
+    let written = request.write(&mut buffer).expect("a request in the bounds");
+    buffer[..written].to_vec()
+}
+
+/// All responses of a fresh connection to these bytes, joined.
+fn served(bytes: &[u8]) -> Vec<u8> {
+    let mut registry = Registry::load(b"\x01\x01\x00b").expect("a roster");
+    let (mut connection, mut counters) = (Connection::open(), Counters::default());
+    let (mut rest, mut joined) = (bytes, Vec::new());
+    while !rest.is_empty() {
+        let mut response = [0; LEAST_RESPONSE_BUFFER];
+        let answer = connection.call(&mut registry, &mut counters, rest, &mut response);
+        let answer = answer.expect("a call that is taken");
+        joined.extend_from_slice(&response[..answer.written]);
+        rest = &rest[answer.taken..];
+    }
+    joined
+}
+
+/// Hands the bytes to one reader after the other, in chunks of this length.
+fn read_in_order(readers: &mut [Reader], bytes: &[u8], length: usize) {
+    let mut first = 0;
+    for mut chunk in bytes.chunks(length) {
+        while !chunk.is_empty() {
+            let answer = readers[first].read(chunk);
+            chunk = &chunk[answer.taken..];
+            if answer.said != Ok(Reading::Waiting) {
+                first += 1;
+            }
+        }
+    }
+}
+
+#[test]
+fn status_17_goes_to_the_first_in_line_and_none_behind_it_is_answered() {
+    let operations = [
+        Operation::Ping,
+        Operation::ExportPublicKey { name: b"a" },
+        Operation::DestroyKey { name: b"a" },
+        Operation::Ping,
+    ];
+    let requests = [1, 2, 3, 4].map(|session| Request {
+        session,
+        application: Some(b"b"),
+        operation: operations[session as usize - 1],
+    });
+    let mut sent = requests.map(|request| bytes_of(&request));
+    // The first byte of the third is damaged on the way.
+    sent[2][0] ^= 1;
+    let responses = served(&sent.concat());
+    for length in 1..=responses.len() {
+        let mut readers = requests.map(|request| Reader::begin(&request));
+        read_in_order(&mut readers, &responses, length);
+        let statuses = readers.each_ref().map(|reader| match reader.said() {
+            Ok(Reading::Response(Response { status, .. })) => Some(status),
+            Ok(Reading::Waiting) => None,
+            Err(refusal) => panic!("{refusal}"),
+        });
+        assert_eq!(statuses, [Some(0), Some(1140), Some(17), None]);
     }
 }

@@ -1,5 +1,18 @@
 //! The archive's functions with their numbers, on any memory. The safe types of the crate are built
 //! on them; they are for callers that keep a reader's state themselves.
+//!
+//! ```
+//! use razidkot_client::{raw, Opcode, STATE_SIZE};
+//!
+//! let mut state = [0; STATE_SIZE];
+//! assert_eq!(raw::read(&mut state, b"\x10").code, 2, "no state was begun there");
+//! assert_eq!(raw::begin(&mut state, Opcode::PsaDestroyKey.number(), 5), 0);
+//! assert_eq!(raw::begin(&mut state, 2, 5), 2, "no opcode that is listed");
+//!
+//! let response = b"\x10\xA7\xC0\x5E\x14\0\x01\0\x01\x05\0\0\0\0\0\0\0\x01\0\0\0\0\x03\0\x74\x04";
+//! let answer = raw::read(&mut state, response);
+//! assert_eq!((answer.code, answer.status, answer.taken), (1, 1140, 26));
+//! ```
 
 pub use crate::foreign::{
     begin, read, read_list, write_destroy, write_export, write_import, write_list_opcodes,
