@@ -74,8 +74,11 @@ static size_t chunk_at, chunk_end;
 /* Sends the request that was written, and makes memory the state for its response. */
 static bool send_request(razidkot_client_request written, uint16_t opcode, uint64_t session, uint8_t *state)
 {
-    return written.code == RAZIDKOT_CLIENT_WRITE_WRITTEN
-        && send_bytes(request, written.written)
+    if (written.code != RAZIDKOT_CLIENT_WRITE_WRITTEN) {
+        printf("request not written, code %" PRIu32 "\n", written.code);
+        return false;
+    }
+    return send_bytes(request, written.written)
         && razidkot_client_begin(state, RAZIDKOT_CLIENT_STATE_SIZE, opcode, session) == RAZIDKOT_CLIENT_BEGIN_FRESH;
 }
 
