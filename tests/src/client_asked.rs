@@ -1,0 +1,288 @@
+//! A request that a client is asked to write, from a seed and with faults: document 02, "The
+//! client's half", its last sentence.
+
+use crate::ask::{DESTROY, EXPORT, IMPORT, LIST_OPCODES, LIST_PROVIDERS, OPCODES, PING};
+use crate::generate::Random;
+use crate::oracle::key_name_is_legal;
+use razidkot_client::raw::{self, Request};
+use reference::Operation;
+
+/// The numbers of the refusals, in the order in which they are tried.
+pub const BUFFER_TOO_SMALL: u32 = 1;
+pub const APPLICATION_NAME_ILLEGAL: u32 = 2;
+pub const KEY_NAME_ILLEGAL: u32 = 3;
+pub const DATA_ILLEGAL: u32 = 4;
+pub const BITS_ILLEGAL: u32 = 5;
+
+/// Either side of each bound and step, and numbers whose low 16 bits would be allowed.
+pub const BITS: [u32; 22] = [
+    0,
+    1,
+    8,
+    1_016,
+    1_020,
+    1_023,
+    1_024,
+    1_025,
+    1_028,
+    1_031,
+    1_032,
+    2_048,
+    4_088,
+    4_095,
+    4_096,
+    4_097,
+    4_104,
+    0xFFFF,
+    0x1_0400,
+    0x8000_0400,
+    u32::MAX - 7,
+    u32::MAX,
+];
+
+pub const SESSIONS: [u64; 5] = [0, 1, 0x0807_0605_0403_0201, 1 << 63, u64::MAX];
+
+/// What it is asked: an operation's fields are those that its opcode has.
+#[derive(Clone, Debug, PartialEq, Eq)]
+pub struct Asked {
+    pub session: u64,
+    /// Is an application named? The name of one that is not is no matter.
+    pub named: bool,
+    pub application: Vec<u8>,
+    pub opcode: u16,
+    pub provider: u32,
+    pub name: Vec<u8>,
+    pub data: Vec<u8>,
+    pub bits: u32,
+    pub export_allowed: bool,
+    pub verify_allowed: bool,
+}
+
+impl Asked {
+    /// One without a fault.
+    pub fn good(opcode: u16) -> Asked {
+        Asked {
+            session: 0x0102_0304_0506_0708,
+            named: true,
+            application: b"application".to_vec(),
+            opcode,
+            provider: 1,
+            name: b"key".to_vec(),
+            data: b"data".to_vec(),
+            bits: 2_048,
+            export_allowed: true,
+            verify_allowed: false,
+        }
+    }
+
+    /// Most often within the bounds, at either end of them, and for nobody as often as named.
+    pub fn generate(random: &mut Random) -> Asked {
+        Asked {
+            session: some_session(random),
+            named: random.once_in(2),
+            application: some_name(random, 64),
+            opcode: random.pick(&OPCODES),
+            provider: random.number() as u32,
+            name: some_name(random, 32),
+            data: some_data(random),
+            bits: match random.below(6) {
+                0 => random.pick(&BITS),
+                1 => random.word() as u32,
+                _ => 1_024 + 8 * random.below(385) as u32,
+            },
+            export_allowed: random.once_in(2),
+            verify_allowed: random.once_in(2),
+        }
+    }
+
+    /// The same with the fault of this number, where it can have it.
+    pub fn with_fault(mut self, random: &mut Random, refusal: u32) -> Asked {
+        match refusal {
+            APPLICATION_NAME_ILLEGAL => {
+                self.named = true;
+                self.application = bad_name(random, 64);
+            }
+            KEY_NAME_ILLEGAL => self.name = bad_name(random, 32),
+            DATA_ILLEGAL => {
+                let length = random.pick(&[0, 601, 1_000]);
+                self.data = random.bytes(length);
+            }
+            BITS_ILLEGAL => self.bits = random.pick(&[0, 1_016, 1_028, 4_104, 0x1_0400]),
+            _ => {}
+        }
+        self
+    }
+
+    pub fn has_key_name(&self) -> bool {
+        matches!(self.opcode, IMPORT | DESTROY | EXPORT)
+    }
+
+    fn operation(&self) -> Operation<'_> {
+        let name = &self.name;
+        match self.opcode {
+            PING => Operation::Ping,
+            LIST_PROVIDERS => Operation::ListProviders,
+            LIST_OPCODES => Operation::ListOpcodes {
+                provider: self.provider,
+            },
+            IMPORT => Operation::ImportKey {
+                name,
+                data: &self.data,
+                bits: self.bits,
+                export_allowed: self.export_allowed,
+                verify_allowed: self.verify_allowed,
+            },
+            DESTROY => Operation::DestroyKey { name },
+            EXPORT => Operation::ExportPublicKey { name },
+            opcode => panic!("no operation {opcode}"),
+        }
+    }
+
+    pub fn write_proved(&self, out: &mut [u8]) -> Request {
+        let (session, named, application) = (self.session, self.named, &self.application[..]);
+        match self.opcode {
+            PING => raw::write_ping(out, session, named, application),
+            LIST_PROVIDERS => raw::write_list_providers(out, session, named, application),
+            LIST_OPCODES => {
+                raw::write_list_opcodes(out, session, named, application, self.provider)
+            }
+            IMPORT => raw::write_import(
+                out,
+                session,
+                named,
+                application,
+                &self.name,
+                &self.data,
+                self.bits,
+                self.export_allowed,
+                self.verify_allowed,
+            ),
+            DESTROY => raw::write_destroy(out, session, named, application, &self.name),
+            EXPORT => raw::write_export(out, session, named, application, &self.name),
+            opcode => panic!("no operation {opcode}"),
+        }
+    }
+
+    pub fn write_reference(&self, out: &mut [u8]) -> Request {
+        let application = self.named.then_some(&self.application[..]);
+        match reference::write_request(out, self.session, application, &self.operation()) {
+            Ok(written) => Request { code: 0, written },
+            Err(refusal) => Request {
+                code: refusal_number(refusal),
+                written: 0,
+            },
+        }
+    }
+
+    /// The refusals that apply, not the first one alone.
+    pub fn applying(&self, buffer_length: usize) -> Vec<u32> {
+        let imports = self.opcode == IMPORT;
+        let bits_are_legal = (1_024..=4_096).contains(&self.bits) && self.bits.is_multiple_of(8);
+        let applies = [
+            buffer_length < 5_120,
+            self.named && !application_name_is_legal(&self.application),
+            self.has_key_name() && !key_name_is_legal(&self.name),
+            imports && !(1..=600).contains(&self.data.len()),
+            imports && !bits_are_legal,
+        ];
+        (BUFFER_TOO_SMALL..)
+            .zip(applies)
+            .filter_map(|(refusal, applies)| applies.then_some(refusal))
+            .collect()
+    }
+
+    /// Requests that are a step shorter or simpler.
+    pub fn shorter(&self) -> Vec<Asked> {
+        let good = Asked::good(self.opcode);
+        let half = |bytes: &[u8]| bytes[..bytes.len() / 2].to_vec();
+        let less = |bytes: &[u8]| bytes[..bytes.len().saturating_sub(1)].to_vec();
+        let mut shorter = vec![self.clone(); 10];
+        shorter[0].session = 0;
+        shorter[1].named = false;
+        shorter[2].application = half(&self.application);
+        shorter[3].application = less(&self.application);
+        shorter[4].name = half(&self.name);
+        shorter[5].name = less(&self.name);
+        shorter[6].data = half(&self.data);
+        shorter[7].data = less(&self.data);
+        shorter[8].bits = good.bits;
+        shorter[9].provider = 0;
+        shorter.retain(|asked| asked != self);
+        shorter
+    }
+}
+
+pub fn each_with_each<A: Copy, B: Copy>(first: &[A], second: &[B]) -> Vec<(A, B)> {
+    let pairs = |&a: &A| second.iter().map(move |&b| (a, b));
+    first.iter().flat_map(pairs).collect()
+}
+
+/// The refusals that a request of this opcode can have.
+pub fn refusals_of(opcode: u16) -> Vec<u32> {
+    let last = match opcode {
+        IMPORT => BITS_ILLEGAL,
+        DESTROY | EXPORT => KEY_NAME_ILLEGAL,
+        _ => APPLICATION_NAME_ILLEGAL,
+    };
+    (BUFFER_TOO_SMALL..=last).collect()
+}
+
+fn refusal_number(refusal: reference::WriteRefusal) -> u32 {
+    use reference::WriteRefusal::*;
+    match refusal {
+        BufferTooSmall => BUFFER_TOO_SMALL,
+        BadApplicationName => APPLICATION_NAME_ILLEGAL,
+        BadKeyName => KEY_NAME_ILLEGAL,
+        BadData => DATA_ILLEGAL,
+        BadBits => BITS_ILLEGAL,
+    }
+}
+
+/// "an application name, 1 to 64 bytes, each 0x21 to 0x7E"
+fn application_name_is_legal(name: &[u8]) -> bool {
+    (1..=64).contains(&name.len()) && name.iter().all(|byte| (0x21..=0x7E).contains(byte))
+}
+
+pub fn some_session(random: &mut Random) -> u64 {
+    match random.below(2) {
+        0 => random.pick(&SESSIONS),
+        _ => random.word(),
+    }
+}
+
+/// Of any byte that may stand in a name, the first and last of them often.
+pub fn legal_name(random: &mut Random, length: usize) -> Vec<u8> {
+    (0..length)
+        .map(|_| match random.below(4) {
+            0 => random.pick(b"!~"),
+            _ => 0x21 + random.byte() % 0x5E,
+        })
+        .collect()
+}
+
+fn some_name(random: &mut Random, longest: usize) -> Vec<u8> {
+    if random.once_in(8) {
+        return bad_name(random, longest);
+    }
+    let length = random.pick(&[1, 2, longest / 2, longest - 1, longest]);
+    legal_name(random, length)
+}
+
+/// Too short, too long, or with one byte outside the range.
+fn bad_name(random: &mut Random, longest: usize) -> Vec<u8> {
+    let length = random.pick(&[0, longest + 1, 2 * longest, 1, 2, longest]);
+    let mut name = legal_name(random, length);
+    if (1..=longest).contains(&length) {
+        let place = random.below(length);
+        name[place] = random.pick(&[0, 1, 0x20, 0x7F, 0x80, 0xA1, 0xFF]);
+    }
+    name
+}
+
+fn some_data(random: &mut Random) -> Vec<u8> {
+    let length = match random.below(3) {
+        0 => random.pick(&[0, 1, 127, 128, 599, 600, 601]),
+        _ => 1 + random.below(600),
+    };
+    random.bytes(length)
+}
