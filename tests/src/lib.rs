@@ -6,6 +6,7 @@ pub mod ask;
 pub mod bill;
 pub mod case;
 pub mod client_asked;
+pub mod client_conversation;
 pub mod client_program;
 pub mod client_reached;
 pub mod client_responses;
