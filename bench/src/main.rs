@@ -3,6 +3,8 @@
 
 mod calls;
 mod check;
+#[cfg(feature = "client")]
+mod client;
 mod registries;
 mod rows;
 mod table;

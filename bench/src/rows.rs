@@ -23,7 +23,19 @@ pub fn all() -> Vec<Row> {
     let checks = ALL.into_iter().chain(ALIKE).map(check::row);
     let pings = ALL.into_iter().map(calls::pings);
     let exports = [FULL, ONE_KEY].into_iter().map(calls::exports);
-    checks.chain(pings).chain(exports).collect()
+    let calls = pings.chain(exports);
+    checks.chain(calls).chain(client()).collect()
+}
+
+#[cfg(feature = "client")]
+fn client() -> Vec<Row> {
+    crate::client::rows()
+}
+
+/// Of a commit that has no client.
+#[cfg(not(feature = "client"))]
+fn client() -> Vec<Row> {
+    Vec::new()
 }
 
 /// FNV-1a of 64 bits.
