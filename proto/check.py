@@ -1,22 +1,28 @@
 """Google's Protocol Buffers library against the compiled, proved readers and writers.
 
-    check.py LIBPROBE LIBABI      two shared objects; razidkot_pb2, made by protoc, is importable
+    check.py LIBPROBE LIBABI LIBCLIENT_ABI
+
+The arguments are shared objects; razidkot_pb2, made by protoc, is importable.
 
 What Google's library serialises is read here as the same message; what is written here parses there
-as the same message and is the same bytes; and whole requests are answered by bodies that parse.
-`proto/test` runs it. Messages are generated from a fixed seed.
+as the same message and is the same bytes; and whole requests are answered by bodies that parse. The
+client's requests have such bodies, and it reads responses that have them. `proto/test` runs it.
+Messages are generated from a fixed seed.
 """
 
 import random
 import struct
 import sys
+from dataclasses import dataclass
+from typing import Any
 
 import google.protobuf
 import razidkot_pb2 as messages
 from google.protobuf.descriptor import FieldDescriptor
 from google.protobuf.internal import api_implementation
 from google.protobuf.message import DecodeError
-from proved import Bodies, Service
+from proved import DATA, NOTHING, OPCODES, PROVIDERS, VERSION
+from proved import RESPONSE, RESPONSE_HEADER, UNREADABLE_BODY, Bodies, Client, Service
 
 SEED = 20
 RUNS = 2_500
@@ -39,6 +45,61 @@ CORE, KEYSTORE = 0, 1
 PING, DESTROY, IMPORT, EXPORT, LIST_PROVIDERS, LIST_OPCODES = 1, 3, 6, 7, 8, 9
 SUCCESS, PROVIDER_DOES_NOT_EXIST, NOT_PERMITTED = 0, 6, 1133
 APPLICATION = b"recon-a"
+MAGIC = 0x5EC0A710
+CONTENT_MOST = 998
+
+
+@dataclass(frozen=True)
+class Operation:
+    """One of the client's, with the fields that it takes and gives, in the order of its arguments."""
+
+    name: str
+    opcode: int
+    provider: int
+    output: int
+    # None where the body is empty.
+    request: Any = None
+    takes: tuple = ()
+    response: Any = None
+    gives: tuple = ()
+
+
+OPERATIONS = [
+    Operation(
+        *("ping", PING, CORE, VERSION),
+        response=messages.PingResponse,
+        gives=("major", "minor"),
+    ),
+    Operation(
+        *("list_providers", LIST_PROVIDERS, CORE, PROVIDERS),
+        response=messages.ListProvidersResponse,
+        gives=("providers",),
+    ),
+    Operation(
+        *("list_opcodes", LIST_OPCODES, CORE, OPCODES),
+        request=messages.ListOpcodesRequest,
+        takes=("provider",),
+        response=messages.ListOpcodesResponse,
+        gives=("opcodes",),
+    ),
+    Operation(
+        *("import", IMPORT, KEYSTORE, NOTHING),
+        request=messages.PsaImportKeyRequest,
+        takes=("name", "data", "bits", "export_allowed", "verify_allowed"),
+    ),
+    Operation(
+        *("destroy", DESTROY, KEYSTORE, NOTHING),
+        request=messages.PsaDestroyKeyRequest,
+        takes=("name",),
+    ),
+    Operation(
+        *("export", EXPORT, KEYSTORE, DATA),
+        request=messages.PsaExportPublicKeyRequest,
+        takes=("name",),
+        response=messages.PsaExportPublicKeyResponse,
+        gives=("data",),
+    ),
+]
 
 
 # ---- generated messages
@@ -66,6 +127,11 @@ def some_value(chance, field):
 
 def some_message(chance, kind):
     return kind(**{field.name: some_value(chance, field) for field in kind.DESCRIPTOR.fields})
+
+
+def values_of(message, names):
+    values = [getattr(message, name) for name in names]
+    return [value if isinstance(value, (bytes, int)) else list(value) for value in values]
 
 
 # ---- the same message in other forms than Google's library writes
@@ -101,6 +167,16 @@ def some_body(chance, kind):
     """Listed fields in any order, left out or repeated; every other body is cut somewhere."""
     fields = chance.choices(kind.DESCRIPTOR.fields, k=chance.randrange(8))
     body = b"".join(some_field(chance, field) for field in fields)
+    return body if chance.random() < 0.5 else body[: chance.randrange(len(body) + 1)]
+
+
+def some_list_body(chance, kind):
+    """One packed list or none; every other body is cut somewhere."""
+    (field,) = kind.DESCRIPTOR.fields
+    numbers = (chance.getrandbits(64) >> chance.randrange(65) for _ in range(chance.randrange(20)))
+    packed = b"".join(longer_varint(chance, number, NUMBER_MOST) for number in numbers)
+    tag = longer_varint(chance, field.number << 3 | 2, TAG_MOST)
+    body = tag + longer_varint(chance, len(packed), LENGTH_MOST) + packed
     return body if chance.random() < 0.5 else body[: chance.randrange(len(body) + 1)]
 
 
@@ -151,7 +227,7 @@ def exchange(service, chance, opcode, provider, message=None):
     body = message.SerializeToString() if message else b""
     session = chance.getrandbits(64)
     lengths = (len(body), len(APPLICATION))
-    header = (0x5EC0A710, 22, 1, 0, provider, session, 1, 1, 1, *lengths, opcode)
+    header = (MAGIC, 22, 1, 0, provider, session, 1, 1, 1, *lengths, opcode)
     request = struct.pack("<IHBBBQBBBIHH", *header) + body + APPLICATION
     (*repeated, length, opcode_back, status), answer = service.ask(request)
     expect(repeated, [20, 1, 0, provider, session, 1])
@@ -159,10 +235,14 @@ def exchange(service, chance, opcode, provider, message=None):
     return status, answer
 
 
+def some_name(chance, most):
+    return bytes(chance.randint(0x21, 0x7E) for _ in range(chance.randint(1, most)))
+
+
 def some_key(chance):
     """A key that Import allows."""
     return messages.PsaImportKeyRequest(
-        name=bytes(chance.randint(0x21, 0x7E) for _ in range(chance.randint(1, 32))),
+        name=some_name(chance, 32),
         data=chance.randbytes(chance.randint(1, 600)),
         bits=chance.randrange(1_024, 4_097, 8),
         export_allowed=chance.random() < 0.8,
@@ -170,12 +250,60 @@ def some_key(chance):
     )
 
 
+# ---- the client's requests and responses
+
+
+def some_input(chance, kind):
+    """A request that the client writes, or None if its body is empty."""
+    if kind is None:
+        return None
+    if kind is messages.ListOpcodesRequest:
+        return some_message(chance, kind)
+    key = some_key(chance)
+    return key if kind is messages.PsaImportKeyRequest else kind(name=key.name)
+
+
+def some_chunks(chance, stream):
+    """The stream, uncut or cut anywhere."""
+    cuts = sorted(chance.randrange(len(stream) + 1) for _ in range(chance.randrange(4)))
+    return [stream[start:end] for start, end in zip([0, *cuts], [*cuts, len(stream)])]
+
+
+def read_by_client(client, chance, operation, body):
+    """The values of the output in a response with this body, or None if it is unreadable."""
+    session = chance.getrandbits(64)
+    repeated = (20, 1, 0, operation.provider, session, 1)
+    header = (MAGIC, *repeated, len(body), operation.opcode, SUCCESS)
+    chunks = some_chunks(chance, struct.pack(RESPONSE_HEADER, *header) + body)
+    code, status, output, values = client.read(operation.opcode, session, chunks)
+    if code == UNREADABLE_BODY:
+        return None
+    expect((code, status, output), (RESPONSE, SUCCESS, operation.output))
+    return values
+
+
+def short_enough(generate, chance, kind):
+    """A body that a response may have."""
+    while True:
+        body = generate(chance, kind)
+        if len(body) <= CONTENT_MOST:
+            return body
+
+
 # ---- the checks: each is one run
+
+
+class Compared:
+    """How many messages, bodies and answers were compared; an unreadable body is none."""
+
+    count = 0
 
 
 def expect(found, expected):
     if found != expected:
         raise AssertionError(f"found {found!r}, expected {expected!r}")
+    if found is not None:
+        Compared.count += 1
 
 
 def serialised_there_is_read_here(bodies, chance, kind):
@@ -223,14 +351,57 @@ def key_comes_back(service, chance):
     expect(exchange(service, chance, DESTROY, KEYSTORE, gone), (SUCCESS, b""))
 
 
+def written_by_the_client_is_read_there(client, chance, operation):
+    message = some_input(chance, operation.request)
+    application = chance.choice([None, some_name(chance, 64)])
+    session = chance.getrandbits(64)
+    values = values_of(message, operation.takes)
+    header, body, auth = client.write(operation.name, session, application, *values)
+    types = (1, 1, int(application is not None))
+    lengths = (len(body), len(application or b""))
+    sent = (operation.provider, session, *types, *lengths, operation.opcode)
+    expect(header, (MAGIC, 22, 1, 0, *sent))
+    expect(auth, application or b"")
+    if message is None:
+        expect(body, b"")
+        return
+    read = read_there(operation.request, body)
+    expect(read, message)
+    expect(read.SerializeToString(), body)
+
+
+def serialised_there_is_read_by_the_client(client, chance, operation):
+    if operation.response is None:
+        expect(read_by_client(client, chance, operation, b""), [])
+        return
+    body = short_enough(
+        lambda *given: some_message(*given).SerializeToString(), chance, operation.response
+    )
+    values = values_of(operation.response.FromString(body), operation.gives)
+    expect(read_by_client(client, chance, operation, body), values)
+
+
+def any_form_is_read_alike_by_the_client(client, chance, operation):
+    kind = operation.response
+    is_list = operation.output in (PROVIDERS, OPCODES)
+    body = short_enough(some_list_body if is_list else some_body, chance, kind)
+    message = read_there(kind, body)
+    expected = None if message is None else values_of(message, operation.gives)
+    expect(read_by_client(client, chance, operation, body), expected)
+
+
 def repeat(check, subject, *kind):
-    name = " ".join([check.__name__.replace("_", " ")] + [k.DESCRIPTOR.name for k in kind])
+    titles = [k.name if isinstance(k, Operation) else k.DESCRIPTOR.name for k in kind]
+    name = " ".join([check.__name__.replace("_", " "), *titles])
+    before = Compared.count
     for run in range(RUNS):
         seed = f"{SEED} {name} {run}"
         try:
             check(subject, random.Random(seed), *kind)
         except Exception as error:
             sys.exit(f"failed: {name}, run {run}, seed {seed!r}: {error!r}")
+    if Compared.count - before < max(RUNS // 10, 1):
+        sys.exit(f"failed: {name}: hardly anything was compared")
     print(f"{name}: {RUNS} runs")
 
 
@@ -238,6 +409,7 @@ def main():
     bodies = Bodies(sys.argv[1])
     roster = b"\x01" + struct.pack("<H", len(APPLICATION)) + APPLICATION
     service = Service(sys.argv[2], roster)
+    client = Client(sys.argv[3])
     print(f"google.protobuf {google.protobuf.__version__}, {api_implementation.Type()}")
     for kind in REQUESTS:
         repeat(serialised_there_is_read_here, bodies, kind)
@@ -246,6 +418,12 @@ def main():
         repeat(written_here_is_read_there, bodies, kind)
     repeat(core_answers_parse, service)
     repeat(key_comes_back, service)
+    expect({operation.name for operation in OPERATIONS}, set(Client.ARGUMENTS))
+    for operation in OPERATIONS:
+        repeat(written_by_the_client_is_read_there, client, operation)
+        repeat(serialised_there_is_read_by_the_client, client, operation)
+        if operation.response is not None:
+            repeat(any_form_is_read_alike_by_the_client, client, operation)
     print("proto: passed")
 
 

@@ -1,7 +1,7 @@
 """The compiled, proved functions, called through shared objects made from their archives.
 
 A slice is passed as its pointer and its length. `crates/probe` exports the readers and writers of
-bodies, `crates/abi` the service.
+bodies, `crates/abi` the service, `crates/client_abi` the client.
 """
 
 import ctypes
@@ -16,6 +16,13 @@ CONNECTION_SIZE = 4_431
 COUNTERS = 3 + 8 + 1 + 17
 RESPONSE_BUFFER = 1_024
 RESPONSE_HEADER = "<IHBBBQBIHH"
+
+REQUEST_BUFFER = 5_120
+REQUEST_HEADER = "<IHBBBQBBBIHH"
+STATE_SIZE = 1_036
+# Numbers of the client's answers.
+WAITING, RESPONSE, UNREADABLE_BODY = 0, 1, 9
+NOTHING, VERSION, PROVIDERS, OPCODES, DATA = range(5)
 
 
 class Bodies:
@@ -104,3 +111,102 @@ class Service:
         written = response.raw[: answer.written]
         header = struct.calcsize(RESPONSE_HEADER)
         return struct.unpack(RESPONSE_HEADER, written[:header])[1:], written[header:]
+
+
+class Request(ctypes.Structure):
+    _fields_ = [("code", ctypes.c_uint32), ("written", ctypes.c_size_t)]
+
+
+class OutputNumbers(ctypes.Structure):
+    _fields_ = [
+        ("kind", ctypes.c_uint32),
+        ("major", ctypes.c_uint32),
+        ("minor", ctypes.c_uint32),
+        ("start", ctypes.c_size_t),
+        ("length", ctypes.c_size_t),
+    ]
+
+
+class ClientAnswer(ctypes.Structure):
+    _fields_ = [
+        ("code", ctypes.c_uint32),
+        ("status", ctypes.c_uint32),
+        ("taken", ctypes.c_size_t),
+        ("output", OutputNumbers),
+    ]
+
+
+class Client:
+    """Writes requests and reads responses."""
+
+    # What an operation's function takes behind session and application.
+    ARGUMENTS = {
+        "ping": [],
+        "list_providers": [],
+        "list_opcodes": [ctypes.c_uint32],
+        "import": SLICE + SLICE + [ctypes.c_uint32, ctypes.c_bool, ctypes.c_bool],
+        "destroy": SLICE,
+        "export": SLICE,
+    }
+
+    def __init__(self, path):
+        library = ctypes.CDLL(path)
+        self._writers = {}
+        for operation, arguments in self.ARGUMENTS.items():
+            writer = getattr(library, f"razidkot_client_write_{operation}")
+            writer.argtypes = SLICE + [ctypes.c_uint64, ctypes.c_bool] + SLICE + arguments
+            writer.restype = Request
+            self._writers[operation] = writer
+        self._begin = library.razidkot_client_begin
+        self._begin.argtypes = SLICE + [ctypes.c_uint16, ctypes.c_uint64]
+        self._begin.restype = ctypes.c_uint32
+        self._read = library.razidkot_client_read
+        self._read.argtypes = SLICE + SLICE
+        self._read.restype = ClientAnswer
+        self._read_list = library.razidkot_client_read_list
+        self._read_list.argtypes = SLICE + [ctypes.POINTER(ctypes.c_uint32), ctypes.c_size_t]
+        self._read_list.restype = ctypes.c_size_t
+
+    def write(self, operation, session, application, *values):
+        """The header's fields, the body and the auth bytes of a request; without application, nobody's."""
+        out = ctypes.create_string_buffer(REQUEST_BUFFER)
+        name = application or b""
+        spread = []
+        for value in values:
+            spread += [value, len(value)] if isinstance(value, bytes) else [value]
+        sender = (session, application is not None, name, len(name))
+        request = self._writers[operation](out, REQUEST_BUFFER, *sender, *spread)
+        if request.code != 0:
+            raise ValueError(f"a request refused: {request.code}")
+        written = out.raw[: request.written]
+        start = struct.calcsize(REQUEST_HEADER)
+        header = struct.unpack(REQUEST_HEADER, written[:start])
+        end = start + header[-3]
+        return header, written[start:end], written[end:]
+
+    def read(self, opcode, session, chunks):
+        """The code, the status, the output's kind and its values, once there is more than to wait."""
+        state = ctypes.create_string_buffer(STATE_SIZE)
+        if self._begin(state, STATE_SIZE, opcode, session) != 0:
+            raise ValueError("a state not begun")
+        for chunk in chunks:
+            answer = self._read(state, STATE_SIZE, chunk, len(chunk))
+            if answer.code != WAITING:
+                break
+            if answer.taken != len(chunk):
+                raise ValueError("it waits, and has not taken all")
+        output = answer.output
+        return answer.code, answer.status, output.kind, self._values(state.raw, output)
+
+    def _values(self, memory, output):
+        if output.kind == NOTHING:
+            return []
+        if output.kind == VERSION:
+            return [output.major, output.minor]
+        placed = memory[output.start : output.start + output.length]
+        if output.kind == DATA:
+            return [placed]
+        # Each entry has at least one byte.
+        entries = (ctypes.c_uint32 * len(placed))()
+        count = self._read_list(placed, len(placed), entries, len(placed))
+        return [entries[:count]]
