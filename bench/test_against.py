@@ -1,7 +1,9 @@
 """bench/against with workers that make up their seconds, and the words that the scripts here take."""
 
+import contextlib
 import importlib.machinery
 import importlib.util
+import io
 import subprocess
 import sys
 import tempfile
@@ -71,6 +73,23 @@ class Against(unittest.TestCase):
     def test_a_worker_that_ends_is_a_failure(self):
         with self.assertRaises(self.against.Failed):
             self.against.Worker([sys.executable, "-c", "pass"])
+
+    def test_a_commit_without_client_has_no_archive_of_it(self):
+        with contextlib.redirect_stderr(io.StringIO()) as said:
+            self.assertEqual(self.against.archives(self.folder), ["abi", "probe"])
+        self.assertEqual(said.getvalue(), "against: there is no client there: its rows are left out\n")
+        (self.folder / "bindings/rust-client").mkdir(parents=True)
+        self.assertEqual(self.against.archives(self.folder), ["abi", "probe", "client_abi"])
+
+    def test_the_client_is_left_out_of_this_benchmark(self):
+        manifest = self.folder / "Cargo.toml"
+        before = AGAINST.with_name("Cargo.toml").read_text()
+        manifest.write_text(before)
+        self.against.leave_client_out(manifest)
+        removed = [line for line in before.splitlines() if line not in manifest.read_text().splitlines()]
+        self.assertEqual(removed, ['razidkot-client = { path = "../bindings/rust-client" }', 'default = ["client"]'])
+        with self.assertRaises(self.against.Failed):
+            self.against.leave_client_out(manifest)
 
     def status(self, *words):
         return subprocess.run(words, check=False, capture_output=True).returncode
