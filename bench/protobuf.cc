@@ -10,29 +10,10 @@
 #include <vector>
 
 #include "razidkot.pb.h"
+#include "razidkot_client.h"
 
-extern "C" {
-struct razidkot_client_request {
-  uint32_t code;
-  size_t written;
-};
-struct razidkot_client_output {
-  uint32_t kind, major, minor;
-  size_t start, length;
-};
-struct razidkot_client_answer {
-  uint32_t code, status;
-  size_t taken;
-  razidkot_client_output output;
-};
-razidkot_client_request razidkot_client_write_import(uint8_t *out, size_t out_length, uint64_t session, bool named,
-                                                     const uint8_t *application, size_t application_length, const uint8_t *name,
-                                                     size_t name_length, const uint8_t *bytes, size_t bytes_length, uint32_t bits,
-                                                     bool exported, bool verified);
-uint32_t razidkot_client_begin(uint8_t *state, size_t state_length, uint16_t opcode, uint64_t session);
-razidkot_client_answer razidkot_client_read(uint8_t *state, size_t state_length, const uint8_t *chunk, size_t chunk_length);
-void probe_read_body(const uint8_t *body, size_t body_length, uint8_t schema, uint64_t out[16]);
-}
+// Of crates/probe.
+extern "C" void probe_read_body(const uint8_t *body, size_t body_length, uint8_t schema, uint64_t out[16]);
 
 namespace {
 

@@ -2,7 +2,7 @@
 // and they (docs/LAYOUT.md).
 use crate::Begun;
 use messages::opcodes::is_listed;
-use wire::bytes::all_zero;
+use wire::bytes::all_zero_long;
 use wire::bytes::clear;
 use wire::bytes::copy_into;
 use wire::number::bytes_of_u16;
@@ -47,7 +47,7 @@ pub fn is_well_formed(memory: &[u8]) -> bool
         return false;
     }
     let end = BYTES_AT + count;
-    all_zero(&memory[end..])
+    all_zero_long(&memory[end..], end)
 }
 
 // Makes memory of the exact size a fresh state for the response to a request; any other memory stays as it came.

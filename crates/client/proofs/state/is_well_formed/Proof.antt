@@ -45,17 +45,17 @@ returns-3 c =
 add-end : tie.Need-add-end
 add-end c = search needs
 
-sub-all-zero : tie.Need-sub-all-zero
-sub-all-zero c = search needs
+sub-all-zero-long : tie.Need-sub-all-zero-long
+sub-all-zero-long c = search needs
 
-part-all-zero-start : tie.Need-part-all-zero-start
-part-all-zero-start c = search needs
+part-all-zero-long-start : tie.Need-part-all-zero-long-start
+part-all-zero-long-start c = search needs
 
-part-all-zero-end : tie.Need-part-all-zero-end
-part-all-zero-end c = search needs
+part-all-zero-long-end : tie.Need-part-all-zero-long-end
+part-all-zero-long-end c = search needs
 
-all-zero-requires : tie.Need-all-zero-requires
-all-zero-requires c κs = search needs
+all-zero-long-requires : tie.Need-all-zero-long-requires
+all-zero-long-requires c κs = search needs
 
 returns-4 : tie.Need-returns-4
 returns-4 c =
@@ -64,7 +64,7 @@ returns-4 c =
     let n = c .before .before .before .read-u162 in
     let e : n .result ≡ field countAt 2 m = n .ensures in
     let few : field countAt 2 m ≤ responseMost = omega arith in
-    c .all-zero .ensures ∙ ap (all isZero) (lent (bytesAt + n .result) m) ∙ rw e (sym (zeros-decide m (l .before .before .before .if1 .left) (listed l) few))
+    c .all-zero-long .ensures ∙ ap (all isZero) (lent (bytesAt + n .result) m) ∙ rw e (sym (zeros-decide m (l .before .before .before .if1 .left) (listed l) few))
 
 pub is-well-formed-spec : {M : Type 1} → statement M
 is-well-formed-spec =
@@ -78,8 +78,8 @@ is-well-formed-spec =
     cast-count
     returns-3
     add-end
-    sub-all-zero
-    part-all-zero-start
-    part-all-zero-end
-    all-zero-requires
+    sub-all-zero-long
+    part-all-zero-long-start
+    part-all-zero-long-end
+    all-zero-long-requires
     returns-4)
