@@ -1,6 +1,6 @@
 //! A connection, and the call on it.
 
-use crate::{raw, Counters, Registry, CONNECTION_SIZE, LEAST_BILL_BUFFER};
+use crate::{raw, Counters, Held, Registry, CONNECTION_SIZE, LEAST_BILL_BUFFER};
 use std::fmt;
 
 /// A connection, well formed always: only calls change it.
@@ -64,6 +64,26 @@ impl Connection {
     /// Has a request with a wrong start closed it? Later bytes are taken and dropped.
     pub fn is_closed(&self) -> bool {
         self.memory[0] == CLOSED
+    }
+
+    /// What it holds of a request that is not finished.
+    ///
+    /// ```
+    /// use razidkot::{Connection, Counters, Held, Registry};
+    ///
+    /// let mut connection = Connection::open();
+    /// assert_eq!(connection.held(), Held::Beginning(b""));
+    ///
+    /// let mut registry = Registry::load(b"")?;
+    /// let mut counters = Counters::default();
+    /// let mut response = [0; razidkot::LEAST_RESPONSE_BUFFER];
+    /// connection.call(&mut registry, &mut counters, b"\x10\xA7\xC0", &mut response)?;
+    /// assert_eq!(connection.held(), Held::Beginning(b"\x10\xA7\xC0"));
+    /// assert_eq!(connection.held().count(), 3, "as the bill says");
+    /// # Ok::<(), Box<dyn std::error::Error>>(())
+    /// ```
+    pub fn held(&self) -> Held<'_> {
+        Held::of(&self.memory)
     }
 
     /// The bill: bytes taken, requests served for each application and with auth type 0, requests

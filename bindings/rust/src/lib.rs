@@ -43,17 +43,21 @@
 //! # Ok::<(), Box<dyn std::error::Error>>(())
 //! ```
 
+mod application;
 mod connection;
 mod counters;
 #[allow(unsafe_code)]
 mod foreign;
+mod held;
 pub mod raw;
 mod registry;
 
+pub use application::{Application, Key, SLOTS};
 pub use connection::{Answer, Connection, Refusal};
 pub use counters::Counters;
+pub use held::Held;
 pub use razidkot_status::{Status, REFUSED_STATUSES};
-pub use registry::{Registry, RosterFault};
+pub use registry::{IllFormed, Registry, RosterFault};
 
 /// The one size of registry memory.
 pub const REGISTRY_SIZE: usize = 20_968;

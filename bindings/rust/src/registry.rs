@@ -1,6 +1,7 @@
 //! The registry: an application for each roster line, and the public keys of each.
 
-use crate::{raw, REGISTRY_SIZE};
+use crate::application::{applications, Application};
+use crate::{raw, Counters, CONNECTION_SIZE, LEAST_RESPONSE_BUFFER, REGISTRY_SIZE};
 use std::fmt;
 
 /// A registry of public keys, well formed always: only calls change it.
@@ -29,6 +30,55 @@ impl Registry {
         Ok(Registry { memory })
     }
 
+    /// The registry whose [`memory`](Registry::memory) was saved, keys included. The compiled
+    /// service judges the bytes, as it does on every call; bytes that were changed into another
+    /// well-formed registry are not told apart.
+    ///
+    /// ```
+    /// use razidkot::{IllFormed, Registry};
+    ///
+    /// let registry = Registry::load(b"\x01\x07\x00scanner")?;
+    /// let mut saved = registry.memory().to_vec();
+    /// assert_eq!(Registry::from_bytes(&saved), Ok(registry));
+    ///
+    /// saved[0] = 6; // The name's length: its last byte would be left over.
+    /// assert_eq!(Registry::from_bytes(&saved), Err(IllFormed));
+    /// # Ok::<(), razidkot::RosterFault>(())
+    /// ```
+    pub fn from_bytes(bytes: &[u8]) -> Result<Registry, IllFormed> {
+        let mut memory = Box::<[u8]>::from(bytes);
+        let connection = &mut [0; CONNECTION_SIZE];
+        let response = &mut [0; LEAST_RESPONSE_BUFFER];
+        // An empty chunk alters nothing; all else is as it should be, so that no other code is said.
+        let judged = raw::call(
+            b"",
+            connection,
+            &mut memory,
+            &mut Counters::default(),
+            response,
+        );
+        match judged.result() {
+            Ok(_) => Ok(Registry { memory }),
+            Err(_) => Err(IllFormed),
+        }
+    }
+
+    /// The applications of the roster, line 0 first, with the keys of each.
+    ///
+    /// ```
+    /// use razidkot::Registry;
+    ///
+    /// let registry = Registry::load(b"\x01\x07\x00scanner\x01\x06\x00viewer")?;
+    /// for (line, application) in registry.applications().enumerate() {
+    ///     assert_eq!(application.name, [&b"scanner"[..], b"viewer"][line]);
+    ///     assert!(application.slots.iter().all(Option::is_none), "no keys yet");
+    /// }
+    /// # Ok::<(), razidkot::RosterFault>(())
+    /// ```
+    pub fn applications(&self) -> impl Iterator<Item = Application<'_>> {
+        applications(&self.memory)
+    }
+
     /// The registry's bytes, in the layout of docs/LAYOUT.md.
     pub fn memory(&self) -> &[u8] {
         &self.memory
@@ -44,6 +94,18 @@ impl fmt::Debug for Registry {
         out.debug_struct("Registry").finish_non_exhaustive()
     }
 }
+
+/// Bytes that are no registry: of another size than [`REGISTRY_SIZE`], or ill formed.
+#[derive(Clone, Copy, Debug, PartialEq, Eq)]
+pub struct IllFormed;
+
+impl fmt::Display for IllFormed {
+    fn fmt(&self, out: &mut fmt::Formatter) -> fmt::Result {
+        write!(out, "registry ill formed")
+    }
+}
+
+impl std::error::Error for IllFormed {}
 
 /// Why a roster file is refused: document 01's R0 to R5.
 #[derive(Clone, Copy, Debug, PartialEq, Eq)]
