@@ -1,0 +1,295 @@
+//! `ask`: one request over a Unix socket, written and its response read by the proved client.
+
+use crate::arguments::{number, Arguments};
+use crate::key::{self, PublicKey};
+use crate::{output, Failure};
+use razidkot_client::{Import, Opcode, Operation, Output, Provider, Reader, Reading, Request};
+use razidkot_client::{Response, WriteRefusal, LEAST_REQUEST_BUFFER};
+use std::error::Error;
+use std::fmt::Debug;
+use std::fs;
+use std::io::{self, ErrorKind, Read, Write};
+use std::os::unix::ffi::OsStringExt;
+use std::os::unix::net::UnixStream;
+use std::path::{Path, PathBuf};
+
+/// What the command line asks for.
+struct Ask {
+    socket: PathBuf,
+    application: Option<Vec<u8>>,
+    session: u64,
+    asked: Asked,
+}
+
+enum Asked {
+    Ping,
+    Providers,
+    Opcodes(u32),
+    Import(KeyFile),
+    Export {
+        name: Vec<u8>,
+        destination: Option<PathBuf>,
+    },
+    Destroy {
+        name: Vec<u8>,
+    },
+}
+
+/// A key to be imported, and the file it is from.
+struct KeyFile {
+    name: Vec<u8>,
+    file: PathBuf,
+    data: Vec<u8>,
+    bits: u32,
+    export_allowed: bool,
+    verify_allowed: bool,
+}
+
+/// Does `ask ..`.
+pub fn run(arguments: Arguments, out: &mut dyn Write) -> Result<(), Failure> {
+    let ask = Ask::parse(arguments)?;
+    let request = ask.request();
+    // What the client refuses to write needs no service.
+    let mut buffer = [0; LEAST_REQUEST_BUFFER];
+    let written = request.write(&mut buffer);
+    let written = written.map_err(|refusal| ask.not_written(refusal))?;
+    let mut reader = Reader::begin(&request);
+    converse(&ask.socket, &buffer[..written], &mut reader)
+        .map_err(|reason| Failure::at(&ask.socket, reason))?;
+    match reader.said() {
+        Ok(Reading::Response(response)) => ask.print(response, out),
+        Ok(Reading::Waiting) => Err(Failure::at(&ask.socket, "no response")),
+        Err(refusal) => Err(Failure::at(&ask.socket, refusal)),
+    }
+}
+
+// ---- what is asked
+
+impl Ask {
+    fn parse(mut arguments: Arguments) -> Result<Ask, Failure> {
+        let socket = PathBuf::from(arguments.word("ask", "SOCKET")?);
+        let application = arguments.value("--app").map(OsStringExt::into_vec);
+        let session = arguments.number("ask", "--session")?.unwrap_or(0);
+        let operation = arguments.word("ask", "an operation")?;
+        let asked = match operation.to_str() {
+            Some("ping") => without("ask ping", Asked::Ping, arguments),
+            Some("providers") => without("ask providers", Asked::Providers, arguments),
+            Some("opcodes") => opcodes(arguments),
+            Some("import") => import(arguments),
+            Some("export") => export(arguments),
+            Some("destroy") => destroy(arguments),
+            _ => Err(Failure::unknown("ask", "operation", &operation)),
+        }?;
+        Ok(Ask {
+            socket,
+            application,
+            session,
+            asked,
+        })
+    }
+
+    fn request(&self) -> Request<'_> {
+        Request {
+            session: self.session,
+            application: self.application.as_deref(),
+            operation: self.asked.operation(),
+        }
+    }
+}
+
+impl Asked {
+    fn operation(&self) -> Operation<'_> {
+        match self {
+            Asked::Ping => Operation::Ping,
+            Asked::Providers => Operation::ListProviders,
+            Asked::Opcodes(provider) => Operation::ListOpcodes {
+                provider: *provider,
+            },
+            Asked::Import(key) => Operation::ImportKey(Import {
+                name: &key.name,
+                data: &key.data,
+                bits: key.bits,
+                export_allowed: key.export_allowed,
+                verify_allowed: key.verify_allowed,
+            }),
+            Asked::Export { name, .. } => Operation::ExportPublicKey { name },
+            Asked::Destroy { name } => Operation::DestroyKey { name },
+        }
+    }
+
+    /// The name of a key; empty where none is asked about.
+    fn name(&self) -> &[u8] {
+        match self {
+            Asked::Import(KeyFile { name, .. })
+            | Asked::Export { name, .. }
+            | Asked::Destroy { name } => name,
+            Asked::Ping | Asked::Providers | Asked::Opcodes(_) => b"",
+        }
+    }
+}
+
+/// An operation without input.
+fn without(command: &'static str, asked: Asked, arguments: Arguments) -> Result<Asked, Failure> {
+    arguments.end(command)?;
+    Ok(asked)
+}
+
+fn opcodes(mut arguments: Arguments) -> Result<Asked, Failure> {
+    const COMMAND: &str = "ask opcodes";
+    let provider = arguments.word(COMMAND, "PROVIDER")?;
+    arguments.end(COMMAND)?;
+    Ok(Asked::Opcodes(number(COMMAND, "PROVIDER", &provider)?))
+}
+
+fn import(mut arguments: Arguments) -> Result<Asked, Failure> {
+    const COMMAND: &str = "ask import";
+    let name = arguments.name(COMMAND)?;
+    let file = PathBuf::from(arguments.word(COMMAND, "FILE")?);
+    let bits = arguments.number(COMMAND, "--bits")?;
+    let export_allowed = arguments.flag("--export");
+    let verify_allowed = arguments.flag("--verify");
+    arguments.end(COMMAND)?;
+
+    let bytes = fs::read(&file).map_err(|error| Failure::at(&file, error))?;
+    let key = key::read(&bytes).map_err(|fault| Failure::at(&file, fault))?;
+    let bits = bits_of(&key, bits).map_err(|reason| Failure::at(&file, reason))?;
+    Ok(Asked::Import(KeyFile {
+        name,
+        file,
+        data: key.data,
+        bits,
+        export_allowed,
+        verify_allowed,
+    }))
+}
+
+/// A key's bits: a modulus says them, and what is said besides must agree.
+fn bits_of(key: &PublicKey, said: Option<u32>) -> Result<u32, String> {
+    match (key.bits, said) {
+        (Some(bits), Some(said)) if bits != said => {
+            Err(format!("the modulus has {bits} bits, not {said}"))
+        }
+        (Some(bits), _) | (None, Some(bits)) => Ok(bits),
+        (None, None) => Err("no RSA public key whose modulus says its bits: say --bits".into()),
+    }
+}
+
+fn export(mut arguments: Arguments) -> Result<Asked, Failure> {
+    const COMMAND: &str = "ask export";
+    let name = arguments.name(COMMAND)?;
+    let destination = arguments.path("-o");
+    arguments.end(COMMAND)?;
+    Ok(Asked::Export { name, destination })
+}
+
+fn destroy(mut arguments: Arguments) -> Result<Asked, Failure> {
+    const COMMAND: &str = "ask destroy";
+    let name = arguments.name(COMMAND)?;
+    arguments.end(COMMAND)?;
+    Ok(Asked::Destroy { name })
+}
+
+// ---- the conversation
+
+/// Sends a request and reads until its response is whole or refused, in whatever chunks it comes.
+fn converse(socket: &Path, request: &[u8], reader: &mut Reader) -> Result<(), Box<dyn Error>> {
+    let mut stream = UnixStream::connect(socket)?;
+    stream.write_all(request)?;
+    let mut chunk = [0; 4_096];
+    let mut received = 0;
+    loop {
+        let length = read(&mut stream, &mut chunk)?;
+        if length == 0 {
+            let cut = format!("the connection ended at byte {received} of the response");
+            return Err(format!("{cut}; the request may have been served").into());
+        }
+        received += length;
+        if reader.read(&chunk[..length]).said != Ok(Reading::Waiting) {
+            return Ok(());
+        }
+    }
+}
+
+fn read(stream: &mut impl Read, chunk: &mut [u8]) -> io::Result<usize> {
+    loop {
+        match stream.read(chunk) {
+            Err(error) if error.kind() == ErrorKind::Interrupted => {}
+            result => return result,
+        }
+    }
+}
+
+// ---- what came of it
+
+impl Ask {
+    /// The request that the client refuses, by what of the command line is at fault.
+    fn not_written(&self, refusal: WriteRefusal) -> Failure {
+        let quoted = |name: &[u8]| format!("\"{}\"", name.escape_ascii());
+        let reason = match (refusal, &self.asked) {
+            (WriteRefusal::ApplicationNameIllegal, _) => {
+                let name = quoted(self.application.as_deref().unwrap_or_default());
+                format!("--app {name}: not 1 to 64 bytes, each 0x21 to 0x7E")
+            }
+            (WriteRefusal::KeyNameIllegal, asked) => {
+                let name = quoted(asked.name());
+                format!("NAME {name}: not 1 to 32 bytes, each 0x21 to 0x7E")
+            }
+            (WriteRefusal::DataIllegal, Asked::Import(key)) => {
+                let (file, length) = (key.file.display(), key.data.len());
+                format!("{file}: {length} bytes of data, not 1 to 600")
+            }
+            (WriteRefusal::BitsIllegal, Asked::Import(key)) => {
+                let (file, bits) = (key.file.display(), key.bits);
+                format!("{file}: {bits} bits, not 1024 to 4096 in multiples of 8")
+            }
+            (other, _) => other.to_string(),
+        };
+        Failure::Failed(reason)
+    }
+
+    fn print(&self, response: Response, out: &mut dyn Write) -> Result<(), Failure> {
+        if response.status != 0 {
+            return Err(Failure::at(&self.socket, refused(&response)));
+        }
+        match response.output {
+            Output::Nothing => Ok(()),
+            Output::Version { major, minor } => writeln!(out, "{major}.{minor}"),
+            Output::Providers(entries) => list(entries, Provider::from_number, out),
+            Output::Opcodes(entries) => list(entries, Opcode::from_number, out),
+            Output::Data(data) => return output::write(data, self.asked.destination(), out),
+        }
+        .map_err(Failure::output)
+    }
+}
+
+impl Asked {
+    fn destination(&self) -> Option<&Path> {
+        match self {
+            Asked::Export { destination, .. } => destination.as_deref(),
+            _ => None,
+        }
+    }
+}
+
+fn refused(response: &Response) -> String {
+    let number = response.status;
+    match response.listed_status() {
+        Some(status) => format!("refused: {status:?} (status {number})"),
+        None => format!("refused: status {number}, which is not listed"),
+    }
+}
+
+/// The entries, a line each: the number, and the name where it is known.
+fn list<N: Debug>(
+    entries: impl Iterator<Item = u32>,
+    named: impl Fn(u32) -> Option<N>,
+    out: &mut dyn Write,
+) -> io::Result<()> {
+    for entry in entries {
+        match named(entry) {
+            Some(name) => writeln!(out, "{entry} {name:?}")?,
+            None => writeln!(out, "{entry}")?,
+        }
+    }
+    Ok(())
+}

@@ -1,0 +1,142 @@
+//! `capture show`: a captured stream, handed to the compiled service and shown request by request.
+
+use crate::arguments::Arguments;
+use crate::request::Request;
+use crate::{roster, Failure};
+use razidkot::{Connection, Counters, Held, Registry, Status};
+use razidkot::{LEAST_RESPONSE_BUFFER, LONGEST_CHUNK};
+use std::fs::File;
+use std::io::{self, ErrorKind, Read, Write};
+use std::path::PathBuf;
+
+const SHOW: &str = "capture show";
+
+/// The longest request that is read; of a longer one no more is kept.
+const LONGEST_REQUEST: usize = 4_422;
+
+/// Does `capture ..`.
+pub fn run(mut arguments: Arguments, out: &mut dyn Write) -> Result<(), Failure> {
+    let command = arguments.word("capture", "a command")?;
+    if command != "show" {
+        return Err(Failure::unknown("capture", "command", &command));
+    }
+    let file = PathBuf::from(arguments.word(SHOW, "FILE")?);
+    let roster = arguments.path("--roster");
+    let roster = roster.ok_or_else(|| Failure::usage(SHOW, "--roster FILE is missing"))?;
+    arguments.end(SHOW)?;
+
+    let mut capture = Capture::new(roster::load(&roster)?);
+    let failed = |error| Failure::at(&file, error);
+    let mut stream = File::open(&file).map_err(failed)?;
+    let mut chunk = vec![0; LONGEST_CHUNK];
+    heading(out).map_err(Failure::output)?;
+    loop {
+        match stream.read(&mut chunk) {
+            Ok(0) => return capture.end(out).map_err(Failure::output),
+            Ok(length) => capture
+                .show(&chunk[..length], out)
+                .map_err(Failure::output)?,
+            Err(error) if error.kind() == ErrorKind::Interrupted => {}
+            Err(error) => return Err(failed(error)),
+        }
+    }
+}
+
+/// The service, and what is needed to show the request that it is at.
+struct Capture {
+    registry: Registry,
+    connection: Connection,
+    counters: Counters,
+    /// The first bytes of that request.
+    request: Vec<u8>,
+}
+
+impl Capture {
+    fn new(registry: Registry) -> Capture {
+        Capture {
+            registry,
+            connection: Connection::open(),
+            counters: Counters::default(),
+            request: Vec::new(),
+        }
+    }
+
+    /// Shows the requests that this chunk finishes.
+    fn show(&mut self, chunk: &[u8], out: &mut dyn Write) -> io::Result<()> {
+        let mut response = [0; LEAST_RESPONSE_BUFFER];
+        let mut rest = chunk;
+        while !rest.is_empty() {
+            let offset = self.counters.answered;
+            let answer = self
+                .connection
+                .call(&mut self.registry, &mut self.counters, rest, &mut response)
+                .expect("room, a chunk in bounds, and counters of fewer than 2^62 bytes");
+            let (taken, behind) = rest.split_at(answer.taken);
+            let room = LONGEST_REQUEST - self.request.len();
+            self.request.extend(&taken[..taken.len().min(room)]);
+            if answer.written > 0 {
+                let status = u16::from_le_bytes([response[24], response[25]]);
+                self.show_request(offset, status, out)?;
+            }
+            rest = behind;
+        }
+        Ok(())
+    }
+
+    /// Shows the request that was just answered, and begins the next.
+    fn show_request(&mut self, offset: u64, status: u16, out: &mut dyn Write) -> io::Result<()> {
+        let length = self.counters.answered - offset;
+        let name = Status::from_number(status).map_or("-".into(), |status| format!("{status:?}"));
+        // One with a wrong start has no header whose fields could be told.
+        let request = Request::new(&self.request);
+        let operation = request.as_ref().map(Request::operation);
+        let application = request.as_ref().and_then(Request::application);
+        let [operation, application] =
+            [operation, application].map(|field| field.unwrap_or_else(|| "unread".into()));
+        self.request.clear();
+        writeln!(
+            out,
+            "{offset:>10} {length:>10} {status:>7} {name:<31} {operation:<18} {application}"
+        )
+    }
+
+    /// Shows what is behind the last request.
+    fn end(&self, out: &mut dyn Write) -> io::Result<()> {
+        let (offset, held) = (self.counters.answered, self.connection.held());
+        let length = held.count();
+        if length > 0 {
+            let what = said(held);
+            writeln!(out, "{offset:>10} {length:>10}    held {what}")?;
+        }
+        let length = self.counters.dropped;
+        if length > 0 {
+            writeln!(out, "{offset:>10} {length:>10} dropped behind a close")?;
+        }
+        Ok(())
+    }
+}
+
+fn heading(out: &mut dyn Write) -> io::Result<()> {
+    let [offset, length, status, name] = ["offset", "length", "status", ""];
+    let [operation, application] = ["operation", "application"];
+    writeln!(
+        out,
+        "{offset:>10} {length:>10} {status:>7} {name:<31} {operation:<18} {application}"
+    )
+}
+
+/// The beginning of a request, in words.
+fn said(held: Held) -> String {
+    let (what, bytes) = match held {
+        Held::Skipping { header, .. } => ("an oversized request", header),
+        Held::Beginning(bytes) => ("a request", bytes),
+        Held::Closed => ("nothing", &[][..]),
+    };
+    match (Request::new(bytes), held.to_go()) {
+        (Some(request), Some(to_go)) => {
+            let operation = request.operation();
+            format!("{what} not finished: {operation}, {to_go} bytes to go")
+        }
+        _ => format!("{what} not finished: its header is not whole"),
+    }
+}

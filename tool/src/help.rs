@@ -1,0 +1,178 @@
+//! The help of each command.
+
+use crate::Failure;
+use std::ffi::OsStr;
+use std::io::Write;
+
+const TOP: &str = "\
+razidkot: roster files, a key service's client, and captured streams
+
+  razidkot roster make NAME.. [-o FILE]         write a roster file
+  razidkot roster show FILE                     print a roster file's names
+  razidkot ask SOCKET OPERATION ..              ask a key service on a Unix socket
+  razidkot capture show FILE --roster FILE      print a captured stream request by request
+
+Each command has a --help of its own. `--` ends the options, for names that begin with a dash.
+The status is 0 if all is well, 1 if something failed or was refused, 2 if the command line is
+not understood.
+";
+
+const ROSTER: &str = "\
+razidkot roster make NAME.. [-o FILE]     write a roster file
+razidkot roster show FILE                 print a roster file's names
+";
+
+const ROSTER_MAKE: &str = "\
+razidkot roster make NAME.. [-o FILE]
+
+Writes a roster file of these applications, in this order, to FILE or standard output. At most 8
+names, each once and of 1 to 64 bytes from 0x21 to 0x7E; no name at all makes an empty file, the
+roster of nobody. A roster that the service would refuse is not written.
+
+  -o FILE     where to write
+";
+
+const ROSTER_SHOW: &str = "\
+razidkot roster show FILE
+
+Prints the names of a roster file, a line each, in the file's order: the words that `roster make`
+takes. A file that the service refuses is refused with its R number.
+";
+
+const ASK: &str = "\
+razidkot ask SOCKET OPERATION .. [--app NAME] [--session N]
+
+Sends one request to the key service at the Unix socket SOCKET, and prints what comes back.
+
+  ping                    the version of the protocol
+  providers               the providers: number and name
+  opcodes PROVIDER        the operations of the provider of this number: number and name
+  import NAME FILE [--bits N] [--export] [--verify]
+                          keep FILE's public key under this name
+  export NAME [-o FILE]   the data of a key, to FILE or standard output
+  destroy NAME            drop a key
+
+  --app NAME              the application that asks; without it nobody does
+  --session N             the session that the response has to repeat, 0 if not said
+
+A status other than 0 is said on standard error by name and number, and the program's status is 1.
+";
+
+const ASK_PING: &str = "\
+razidkot ask SOCKET ping [--app NAME] [--session N]
+
+Prints the version of the protocol that the service speaks, as 1.0.
+";
+
+const ASK_PROVIDERS: &str = "\
+razidkot ask SOCKET providers [--app NAME] [--session N]
+
+Prints the providers, a line each: number and name.
+";
+
+const ASK_OPCODES: &str = "\
+razidkot ask SOCKET opcodes PROVIDER [--app NAME] [--session N]
+
+Prints the operations of the provider of this number, a line each: number and name.
+";
+
+const ASK_IMPORT: &str = "\
+razidkot ask SOCKET import NAME FILE --app NAME [--bits N] [--export] [--verify] [--session N]
+
+Keeps the public key of FILE under this name, for the application.
+
+  --bits N     the key's length; may be left out where FILE has an RSA public key, whose modulus
+               says it, and must not say otherwise there
+  --export     it may be exported
+  --verify     it may be used to verify
+
+FILE is one of these; what is sent is the DER of the RSAPublicKey (PKCS#1):
+  PEM, RSA PUBLIC KEY          its content
+  PEM, PUBLIC KEY              the RSAPublicKey in the SubjectPublicKeyInfo
+  DER, an RSAPublicKey         as it is
+  DER, SubjectPublicKeyInfo    the RSAPublicKey in it
+Any other file is sent as it is, and needs --bits. PEM with another label, and DER that begins like
+a private key, are refused.
+";
+
+const ASK_EXPORT: &str = "\
+razidkot ask SOCKET export NAME --app NAME [-o FILE] [--session N]
+
+Writes the data of the application's key to FILE or standard output, as it is: of a key that
+`import` took from PEM or DER it is the DER of its RSAPublicKey. FILE is written only if the
+service hands the key out.
+
+  -o FILE     where to write
+";
+
+const ASK_DESTROY: &str = "\
+razidkot ask SOCKET destroy NAME --app NAME [--session N]
+
+Drops the application's key.
+";
+
+const CAPTURE: &str = "\
+razidkot capture show FILE --roster FILE     print a captured stream request by request
+";
+
+const CAPTURE_SHOW: &str = "\
+razidkot capture show FILE --roster FILE
+
+Hands the stream in FILE to the compiled service, which starts with the roster's applications and
+no keys, and prints a line for each request:
+
+  offset, length, status (number and name), operation, application
+
+The operation is `opcode-N` where no operation has that number. The application is the name in
+quotes, `nobody` for auth type 0, `auth-type-N` for one that does not exist. `unread` is what the
+service did not read: all of a request with a wrong start, and the auth bytes of an oversized one.
+Behind the last request, `held` says what is there of one that is not finished, and `dropped` how
+many bytes came behind a close. Refused requests do not change the program's status.
+
+  --roster FILE     the roster file
+";
+
+/// The words of each command, and its help.
+const TEXTS: [(&str, &str); 13] = [
+    ("", TOP),
+    ("roster", ROSTER),
+    ("roster make", ROSTER_MAKE),
+    ("roster show", ROSTER_SHOW),
+    ("ask", ASK),
+    ("ask ping", ASK_PING),
+    ("ask providers", ASK_PROVIDERS),
+    ("ask opcodes", ASK_OPCODES),
+    ("ask import", ASK_IMPORT),
+    ("ask export", ASK_EXPORT),
+    ("ask destroy", ASK_DESTROY),
+    ("capture", CAPTURE),
+    ("capture show", CAPTURE_SHOW),
+];
+
+/// Prints the help of the command that these words begin.
+pub fn print<'a>(
+    words: impl Iterator<Item = &'a OsStr>,
+    out: &mut dyn Write,
+) -> Result<(), Failure> {
+    let words: Vec<_> = words.map(OsStr::to_string_lossy).collect();
+    let text = match &words[..] {
+        [] => Some(TOP),
+        // `ask SOCKET ping`, and `ask ping`, where only help is wanted.
+        [ask, rest @ ..] if ask == "ask" => {
+            let mut operations = rest.iter().take(2).rev();
+            operations
+                .find_map(|word| text(&format!("ask {word}")))
+                .or(Some(ASK))
+        }
+        [one] => text(one),
+        [one, other, ..] => text(&format!("{one} {other}")),
+    };
+    let unknown = || Failure::usage("", format!("unknown command {}", words.join(" ")));
+    let text = text.ok_or_else(unknown)?;
+    out.write_all(text.as_bytes()).map_err(Failure::output)
+}
+
+fn text(command: &str) -> Option<&'static str> {
+    let found = TEXTS.iter().find(|(words, _)| *words == command);
+    found.map(|(_, text)| *text)
+}
