@@ -2,13 +2,13 @@
 
 use crate::arguments::{number, Arguments};
 use crate::key::{self, PublicKey};
-use crate::{output, Failure};
+use crate::{input, output, Failure};
 use razidkot_client::{Import, Opcode, Operation, Output, Provider, Reader, Reading, Request};
 use razidkot_client::{Response, WriteRefusal, LEAST_REQUEST_BUFFER};
 use std::error::Error;
 use std::fmt::Debug;
 use std::fs;
-use std::io::{self, ErrorKind, Read, Write};
+use std::io::{self, Write};
 use std::os::unix::ffi::OsStringExt;
 use std::os::unix::net::UnixStream;
 use std::path::{Path, PathBuf};
@@ -198,7 +198,7 @@ fn converse(socket: &Path, request: &[u8], reader: &mut Reader) -> Result<(), Bo
     let mut chunk = [0; 4_096];
     let mut received = 0;
     loop {
-        let length = read(&mut stream, &mut chunk)?;
+        let length = input::read(&mut stream, &mut chunk)?;
         if length == 0 {
             let cut = format!("the connection ended at byte {received} of the response");
             return Err(format!("{cut}; the request may have been served").into());
@@ -206,15 +206,6 @@ fn converse(socket: &Path, request: &[u8], reader: &mut Reader) -> Result<(), Bo
         received += length;
         if reader.read(&chunk[..length]).said != Ok(Reading::Waiting) {
             return Ok(());
-        }
-    }
-}
-
-fn read(stream: &mut impl Read, chunk: &mut [u8]) -> io::Result<usize> {
-    loop {
-        match stream.read(chunk) {
-            Err(error) if error.kind() == ErrorKind::Interrupted => {}
-            result => return result,
         }
     }
 }

@@ -2,11 +2,11 @@
 
 use crate::arguments::Arguments;
 use crate::request::Request;
-use crate::{roster, Failure};
+use crate::{input, roster, Failure};
 use razidkot::{Connection, Counters, Held, Registry, Status};
 use razidkot::{LEAST_RESPONSE_BUFFER, LONGEST_CHUNK};
 use std::fs::File;
-use std::io::{self, ErrorKind, Read, Write};
+use std::io::{self, Write};
 use std::path::PathBuf;
 
 const SHOW: &str = "capture show";
@@ -29,17 +29,14 @@ pub fn run(mut arguments: Arguments, out: &mut dyn Write) -> Result<(), Failure>
     let failed = |error| Failure::at(&file, error);
     let mut stream = File::open(&file).map_err(failed)?;
     let mut chunk = vec![0; LONGEST_CHUNK];
+    let mut length = input::read(&mut stream, &mut chunk).map_err(failed)?;
     heading(out).map_err(Failure::output)?;
-    loop {
-        match stream.read(&mut chunk) {
-            Ok(0) => return capture.end(out).map_err(Failure::output),
-            Ok(length) => capture
-                .show(&chunk[..length], out)
-                .map_err(Failure::output)?,
-            Err(error) if error.kind() == ErrorKind::Interrupted => {}
-            Err(error) => return Err(failed(error)),
-        }
+    while length > 0 {
+        let shown = capture.show(&chunk[..length], out);
+        shown.map_err(Failure::output)?;
+        length = input::read(&mut stream, &mut chunk).map_err(failed)?;
     }
+    capture.end(out).map_err(Failure::output)
 }
 
 /// The service, and what is needed to show the request that it is at.

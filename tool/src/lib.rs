@@ -7,6 +7,7 @@ mod ask;
 mod capture;
 mod failure;
 mod help;
+mod input;
 pub mod key;
 mod output;
 mod pem;

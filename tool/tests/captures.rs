@@ -1,0 +1,309 @@
+//! `capture show` against the bill: what it shows of each request adds up to the counters.
+
+mod common;
+
+use common::{folder, razidkot, sample};
+use razidkot_tests::ask::{registry_of, request, IMPORT, PING};
+use razidkot_tests::bill::{printed, roster_of, text};
+use razidkot_tests::generate::name;
+use razidkot_tests::requests::{applications, requests, with_header_size, with_lengths};
+use razidkot_tests::run::{for_seeds, Outcomes};
+use reference::rules;
+use std::collections::BTreeMap;
+use std::path::Path;
+
+/// What `capture show` prints, without its heading.
+fn shown(stream: &Path, roster: &Path) -> String {
+    let text = razidkot(words!["capture", "show", stream, "--roster", roster]).text();
+    let (heading, rows) = text.split_once('\n').expect("a heading");
+    let words: Vec<_> = heading.split_whitespace().collect();
+    assert_eq!(
+        words,
+        ["offset", "length", "status", "operation", "application"]
+    );
+    rows.into()
+}
+
+/// What is shown, added up.
+#[derive(Default)]
+struct Sums {
+    taken: u64,
+    /// The requests' statuses, in their order.
+    statuses: Vec<u16>,
+    /// Served, by what is shown of the application.
+    served: BTreeMap<String, u64>,
+    refused: BTreeMap<u16, u64>,
+    held: u64,
+    dropped: u64,
+}
+
+impl Sums {
+    /// Each line has to begin at the byte where the one before it ended.
+    fn of(shown: &str) -> Sums {
+        let mut sums = Sums::default();
+        for line in shown.lines() {
+            let words: Vec<_> = line.split_whitespace().collect();
+            let number = |place: usize| words[place].parse::<u64>().expect("a number");
+            assert_eq!(number(0), sums.taken, "{line}");
+            sums.taken += number(1);
+            match words[2] {
+                "held" => sums.held += number(1),
+                "dropped" => sums.dropped += number(1),
+                status => sums.count(status.parse().expect("a status"), words[5]),
+            }
+        }
+        sums
+    }
+
+    fn count(&mut self, status: u16, application: &str) {
+        self.statuses.push(status);
+        match status {
+            0 => *self.served.entry(application.into()).or_default() += 1,
+            _ => *self.refused.entry(status).or_default() += 1,
+        }
+    }
+
+    /// The bill of a roster with these names.
+    fn bill(mut self, names: &[Vec<u8>]) -> String {
+        let mut bill = format!("taken {}\n", self.taken);
+        for (line, name) in names.iter().enumerate() {
+            let shown = format!("\"{}\"", name.escape_ascii());
+            let served = self.served.remove(&shown).unwrap_or(0);
+            let name = String::from_utf8_lossy(name);
+            bill += &format!("line {line} {name} {served}\n");
+        }
+        let open = self.served.remove("nobody").unwrap_or(0);
+        assert!(
+            self.served.is_empty(),
+            "others were served: {:?}",
+            self.served
+        );
+        bill += &format!("open {open}\n");
+        for (status, count) in self.refused {
+            bill += &format!("refused {status} {count}\n");
+        }
+        bill + &format!("dropped {}\nheld {}\n", self.dropped, self.held)
+    }
+}
+
+#[test]
+fn the_samples_are_shown_as_they_are_billed() {
+    for (roster, stream) in [
+        ("servers.roster", "day.stream"),
+        ("servers.roster", "closed.stream"),
+        ("worked.roster", "worked.stream"),
+        ("worked.roster", "day.stream"),
+    ] {
+        let (roster, stream) = (sample(roster), sample(stream));
+        let names = razidkot(words!["roster", "show", roster]).text();
+        let names: Vec<_> = names.lines().map(|name| name.as_bytes().to_vec()).collect();
+        let bill = Sums::of(&shown(&stream, &roster)).bill(&names);
+        assert_eq!(bill, text(printed(&[roster, stream])));
+    }
+}
+
+#[test]
+fn any_stream_is_shown_as_the_reference_has_it() {
+    let folder = folder("any_capture");
+    let mut outcomes = Outcomes::default();
+    for_seeds(200, |random| {
+        let count = random.below(9);
+        let names: Vec<_> = (0..count)
+            .map(|number| {
+                let length = random.pick(&[1, 2, 64]);
+                name(random, number, length)
+            })
+            .collect();
+        let registry = registry_of(&names);
+        let stream = requests(random, &applications(&registry), 30).concat();
+        let roster = roster_of(&names);
+        let sums = Sums::of(&shown(
+            &folder.file("stream", &stream),
+            &folder.file("roster", &roster),
+        ));
+
+        let expected = rules::run(&registry, &stream);
+        let status = |response: &Vec<u8>| u16::from_le_bytes([response[24], response[25]]);
+        assert!(sums
+            .statuses
+            .iter()
+            .copied()
+            .eq(expected.responses.iter().map(status)));
+        sums.statuses
+            .iter()
+            .for_each(|status| outcomes.count(status));
+        outcomes.count(if sums.held > 0 { "held" } else { "none held" });
+        outcomes.count(if sums.dropped > 0 {
+            "dropped"
+        } else {
+            "none dropped"
+        });
+        let bill = text(reference::bill(Some(&roster), Some(&stream)));
+        assert_eq!(sums.bill(&names), bill);
+    });
+    outcomes.assert_often(&["held", "none held", "dropped", "none dropped"], 10);
+    outcomes.assert_often(
+        &[0, 1, 2, 3, 4, 6, 7, 9, 11, 12, 17, 19, 20, 1_135, 1_140],
+        10,
+    );
+}
+
+// ---- what is shown of a request
+
+/// The rows of this stream, on a roster of `b`.
+fn rows(test: &str, stream: &[&[u8]]) -> String {
+    let folder = folder(test);
+    let roster = folder.file("roster", b"\x01\x01\x00b");
+    shown(&folder.file("stream", &stream.concat()), &roster)
+}
+
+fn with_byte(mut request: Vec<u8>, place: usize, byte: u8) -> Vec<u8> {
+    request[place] = byte;
+    request
+}
+
+#[test]
+fn operations_and_applications_are_shown() {
+    let ping = request(PING, None, b"");
+    let rows = rows(
+        "fields",
+        &[
+            &ping,
+            &request(PING, Some(b"b"), b""),
+            &request(PING, Some(b"a \"quoted\" one\n"), b""),
+            &request(PING, Some(b""), b""),
+            &with_byte(ping.clone(), 19, 7),
+            &request(513, Some(b"b"), b""),
+            &with_header_size(request(IMPORT, Some(b"b"), b"\x0A\x01k"), 30),
+        ],
+    );
+    let expected = r#"
+         0         28       0 Success                         Ping               nobody
+        28         29       0 Success                         Ping               "b"
+        57         43      11 AuthenticationError             Ping               "a \"quoted\" one\n"
+       100         28      11 AuthenticationError             Ping               ""
+       128         28      12 AuthenticatorDoesNotExist       Ping               auth-type-7
+       156         29       9 OpcodeDoesNotExist              opcode-513         "b"
+       185         40    1135 PsaErrorInvalidArgument         PsaImportKey       "b"
+"#;
+    assert_eq!(rows, expected[1..]);
+}
+
+#[test]
+fn an_oversized_request_is_shown_whole_and_its_name_is_not() {
+    let named = request(PING, Some(b"b"), b"");
+    // Longer than a chunk, and as short as can be: the name is read of neither.
+    let long = with_lengths(&named, 200_000, 1);
+    let short = with_lengths(&named, 4_097, 1);
+    let auth = with_lengths(&named, 0, 257);
+    let open = with_lengths(&request(PING, None, b""), 4_097, 0);
+    let read = with_lengths(&named, 4_096, 256);
+    let rows = rows("oversized", &[&long, &short, &auth, &open, &read, &named]);
+    let lines: Vec<_> = rows
+        .lines()
+        .map(|line| line.split_whitespace().collect::<Vec<_>>())
+        .collect();
+    let oversized = "BodySizeExceedsLimit";
+    assert_eq!(lines[0], ["0", "200029", "20", oversized, "Ping", "unread"]);
+    assert_eq!(
+        lines[1],
+        ["200029", "4126", "20", oversized, "Ping", "unread"]
+    );
+    assert_eq!(
+        lines[2],
+        [
+            "204155",
+            "285",
+            "11",
+            "AuthenticationError",
+            "Ping",
+            "unread"
+        ]
+    );
+    assert_eq!(
+        lines[3],
+        ["204440", "4125", "20", oversized, "Ping", "nobody"]
+    );
+    assert_eq!(
+        lines[4][..5],
+        ["208565", "4380", "11", "AuthenticationError", "Ping"]
+    );
+    assert!(lines[4][5].starts_with('"'), "{:?}", lines[4]);
+    assert_eq!(lines[5], ["212945", "29", "0", "Success", "Ping", "\"b\""]);
+    assert_eq!(lines.len(), 6);
+}
+
+#[test]
+fn what_is_held_and_dropped_is_shown() {
+    let import = request(IMPORT, Some(b"b"), b"\x0A\x01k");
+    let long = with_lengths(&import, 4_097, 1);
+    for (stream, expected) in [
+        (&b""[..], ""),
+        (
+            &import[..5],
+            "0 5 held a request not finished: its header is not whole",
+        ),
+        (
+            &import[..27],
+            "0 27 held a request not finished: its header is not whole",
+        ),
+        (
+            &import[..28],
+            "0 28 held a request not finished: PsaImportKey, 4 bytes to go",
+        ),
+        (
+            &import[..31],
+            "0 31 held a request not finished: PsaImportKey, 1 bytes to go",
+        ),
+        (
+            &long[..100],
+            "0 100 held an oversized request not finished: PsaImportKey, 4026 bytes to go",
+        ),
+        (b"GET / ", "0 6 17 InvalidHeader unread unread"),
+        (
+            b"GET / HTTP",
+            "0 6 17 InvalidHeader unread unread|6 4 dropped behind a close",
+        ),
+    ] {
+        let rows = rows("rests", &[stream]);
+        let words = |line: &str| line.split_whitespace().collect::<Vec<_>>().join(" ");
+        assert_eq!(
+            rows.lines().map(words).collect::<Vec<_>>().join("|"),
+            expected
+        );
+    }
+}
+
+/// A wrong start may be followed by bytes that look like a header.
+#[test]
+fn a_wrong_start_has_no_fields() {
+    let ping = with_byte(request(PING, Some(b"b"), b""), 0, 0);
+    let rows = rows("wrong_start", &[&ping]);
+    let first = rows.lines().next().expect("a row");
+    assert!(first.ends_with(" unread             unread"), "{first}");
+}
+
+// ---- bad input
+
+#[test]
+fn a_file_that_cannot_be_read_is_named() {
+    let (folder, good) = (folder("no_capture"), sample("servers.roster"));
+    let (missing, stream) = (folder.missing(), sample("day.stream"));
+    let show = |stream: &Path, roster: &Path| {
+        razidkot(words!["capture", "show", stream, "--roster", roster])
+    };
+    let not_there = format!(
+        "{}: No such file or directory (os error 2)",
+        missing.display()
+    );
+    show(&missing, &good).assert_failed(&not_there);
+    show(&stream, &missing).assert_failed(&not_there);
+
+    let refused = folder.file("refused.roster", b"\x01\x01\x00");
+    let said = format!("{}: roster R1: a record is cut", refused.display());
+    show(&stream, &refused).assert_failed(&said);
+
+    let said = format!("{}: Is a directory (os error 21)", folder.path().display());
+    show(&stream, folder.path()).assert_failed(&said);
+    show(folder.path(), &good).assert_failed(&said);
+}

@@ -1,0 +1,198 @@
+//! Help, and command lines that are not understood.
+
+mod common;
+
+use common::{ended, program, razidkot, sample};
+use std::fs::File;
+
+/// The words of each command, and how its help begins.
+const COMMANDS: [(&[&str], &str); 15] = [
+    (&[], "razidkot: "),
+    (&["roster"], "razidkot roster make NAME.. [-o FILE] "),
+    (
+        &["roster", "make"],
+        "razidkot roster make NAME.. [-o FILE]\n",
+    ),
+    (&["roster", "show"], "razidkot roster show FILE\n"),
+    (&["ask"], "razidkot ask SOCKET OPERATION .."),
+    (&["ask", "keys.socket"], "razidkot ask SOCKET OPERATION .."),
+    (&["ask", "keys.socket", "ping"], "razidkot ask SOCKET ping "),
+    (
+        &["ask", "keys.socket", "providers"],
+        "razidkot ask SOCKET providers ",
+    ),
+    (
+        &["ask", "keys.socket", "opcodes"],
+        "razidkot ask SOCKET opcodes PROVIDER ",
+    ),
+    (
+        &["ask", "keys.socket", "import"],
+        "razidkot ask SOCKET import NAME FILE ",
+    ),
+    (
+        &["ask", "keys.socket", "export"],
+        "razidkot ask SOCKET export NAME ",
+    ),
+    (
+        &["ask", "keys.socket", "destroy"],
+        "razidkot ask SOCKET destroy NAME ",
+    ),
+    (&["ask", "import"], "razidkot ask SOCKET import NAME FILE "),
+    (&["capture"], "razidkot capture show FILE --roster FILE "),
+    (
+        &["capture", "show"],
+        "razidkot capture show FILE --roster FILE\n",
+    ),
+];
+
+#[test]
+fn each_command_has_help() {
+    for (command, start) in COMMANDS {
+        for option in ["--help", "-h"] {
+            let behind = [command, &[option]].concat();
+            let text = razidkot(&behind).text();
+            assert!(text.starts_with(start), "{behind:?}: {text}");
+            let before = [&[option], command].concat();
+            assert_eq!(razidkot(&before).text(), text, "{before:?}");
+            assert!(text.lines().all(|line| line.len() <= 100), "{text}");
+        }
+    }
+}
+
+#[test]
+fn the_help_of_all_names_each_command() {
+    let text = razidkot(&["--help"]).text();
+    for command in ["roster make", "roster show", "ask", "capture show"] {
+        assert!(text.contains(&format!("razidkot {command} ")), "{command}");
+    }
+    let text = razidkot(&["ask", "--help"]).text();
+    for operation in [
+        "ping",
+        "providers",
+        "opcodes",
+        "import",
+        "export",
+        "destroy",
+    ] {
+        assert!(text.contains(&format!("\n  {operation} ")), "{operation}");
+    }
+}
+
+#[test]
+fn what_is_not_understood_has_status_2() {
+    for (line, said, help) in [
+        ("", "a command is missing", ""),
+        ("keys", "unknown command keys", ""),
+        ("keys --help", "unknown command keys", ""),
+        ("roster drop --help", "unknown command roster drop", ""),
+        ("roster", "a command is missing", " roster"),
+        ("roster drop", "unknown command drop", " roster"),
+        ("roster show", "FILE is missing", " roster show"),
+        ("roster show a b", "b is one word too many", " roster show"),
+        ("roster show a -o b", "-o is no option here", " roster show"),
+        (
+            "roster make a --app b",
+            "--app is no option here",
+            " roster make",
+        ),
+        ("roster make a -o", "-o needs a value", ""),
+        ("roster make a -o b -o c", "-o is said twice", ""),
+        ("roster make a --quiet", "unknown option --quiet", ""),
+        ("roster make a --quiet=1", "unknown option --quiet", ""),
+        ("ask", "SOCKET is missing", " ask"),
+        ("ask s", "an operation is missing", " ask"),
+        ("ask s sign", "unknown operation sign", " ask"),
+        ("ask s ping a", "a is one word too many", " ask ping"),
+        (
+            "ask s ping --bits 8",
+            "--bits is no option here",
+            " ask ping",
+        ),
+        (
+            "ask s ping --session x",
+            "--session x: no number, or too large",
+            " ask",
+        ),
+        (
+            "ask s ping --session=-1",
+            "--session -1: no number, or too large",
+            " ask",
+        ),
+        (
+            "ask s ping --session 18446744073709551616",
+            "--session 18446744073709551616: no number, or too large",
+            " ask",
+        ),
+        (
+            "ask s providers --export",
+            "--export is no option here",
+            " ask providers",
+        ),
+        ("ask s opcodes", "PROVIDER is missing", " ask opcodes"),
+        (
+            "ask s opcodes 4294967296",
+            "PROVIDER 4294967296: no number, or too large",
+            " ask opcodes",
+        ),
+        ("ask s import", "NAME is missing", " ask import"),
+        ("ask s import k", "FILE is missing", " ask import"),
+        (
+            "ask s import k f -o g",
+            "-o is no option here",
+            " ask import",
+        ),
+        ("ask s import k f --verify=no", "--verify has no value", ""),
+        (
+            "ask s import k f --bits 1k",
+            "--bits 1k: no number, or too large",
+            " ask import",
+        ),
+        ("ask s export", "NAME is missing", " ask export"),
+        (
+            "ask s destroy k -o f",
+            "-o is no option here",
+            " ask destroy",
+        ),
+        ("capture", "a command is missing", " capture"),
+        ("capture hide", "unknown command hide", " capture"),
+        ("capture show", "FILE is missing", " capture show"),
+        (
+            "capture show f",
+            "--roster FILE is missing",
+            " capture show",
+        ),
+        (
+            "capture show f g --roster r",
+            "g is one word too many",
+            " capture show",
+        ),
+    ] {
+        let words: Vec<_> = line.split_whitespace().collect();
+        razidkot(&words).assert_usage(said, help);
+    }
+}
+
+#[test]
+fn two_dashes_end_the_options() {
+    razidkot(&["roster", "show", "--", "--help"])
+        .assert_failed("--help: No such file or directory (os error 2)");
+}
+
+#[test]
+fn a_full_standard_output_is_said() {
+    let (roster, stream) = (sample("servers.roster"), sample("day.stream"));
+    let lines = [
+        words!["roster", "show", roster],
+        words!["roster", "make", "a"],
+        words!["capture", "show", stream, "--roster", roster],
+        words!["--help"],
+    ];
+    for line in lines {
+        let full = File::options()
+            .write(true)
+            .open("/dev/full")
+            .expect("/dev/full");
+        let ended = ended(program().args(line).stdout(full));
+        ended.assert_failed("standard output: No space left on device (os error 28)");
+    }
+}
