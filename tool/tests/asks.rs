@@ -191,55 +191,56 @@ fn what_the_client_refuses_needs_no_service() {
     }
 }
 
+/// The file is named, and why it is not sent.
+fn assert_not_sent(file: &Path, more: &[&OsStr], reason: &str) {
+    let said = format!("{}: {reason}", file.display());
+    let import = [words!["import", "k", file], more].concat();
+    ask(Path::new("no socket"), &import).assert_failed(&said);
+}
+
 #[test]
 fn a_key_file_that_will_not_do_is_named() {
-    let (socket, folder) = (socket_path("files"), folder("key_files"));
-    let refused = |file: &Path, more: &[&OsStr], reason: &str| {
-        let said = format!("{}: {reason}", file.display());
-        ask(&socket, &[words!["import", "k", file], more].concat()).assert_failed(&said);
-    };
-    refused(
-        &folder.missing(),
-        &[],
-        "No such file or directory (os error 2)",
-    );
-    refused(folder.path(), &[], "Is a directory (os error 21)");
+    let folder = folder("key_files");
+    let missing = folder.missing();
+    assert_not_sent(&missing, &[], "No such file or directory (os error 2)");
+    assert_not_sent(folder.path(), &[], "Is a directory (os error 21)");
     let file = folder.file("data", b"\xAA\xBB");
-    refused(
-        &file,
-        &[],
-        "no RSA public key whose modulus says its bits: say --bits",
-    );
-    let file = folder.file("key.pem", PEM.as_bytes());
-    refused(
-        &file,
-        words!["--bits", "2048"],
-        "the modulus has 1024 bits, not 2048",
-    );
-    let private = PEM.replace("RSA PUBLIC", "PRIVATE");
-    let file = folder.file("private.pem", private.as_bytes());
-    refused(
-        &file,
-        words!["--bits", "1024"],
-        "PEM of PRIVATE KEY, not of RSA PUBLIC KEY or PUBLIC KEY",
-    );
+    let reason = "no RSA public key whose modulus says its bits: say --bits";
+    assert_not_sent(&file, &[], reason);
     let file = folder.file("private.der", b"\x30\x06\x02\x01\x00\x02\x01\x05");
-    refused(
-        &file,
-        words!["--bits", "1024"],
-        "DER that begins like a private key",
-    );
-    let file = folder.file("cut.pem", &PEM.as_bytes()[..90]);
-    refused(&file, &[], "a PEM block that is not whole");
-    let file = folder.file("odd.pem", PEM.replace("MIGJ", "MIG!").as_bytes());
-    refused(&file, &[], "PEM that is not base64");
-    let file = folder.file("wrong.pem", PEM.replace("RSA PUBLIC", "PUBLIC").as_bytes());
-    refused(&file, &[], "PEM without a DER SubjectPublicKeyInfo of RSA");
-    let file = folder.file("two.pem", [PEM, PEM].concat().as_bytes());
-    refused(&file, &[], "more than one PEM block");
+    let bits = words!["--bits", "1024"];
+    assert_not_sent(&file, bits, "DER that begins like a private key");
     // A modulus of nine bits says so, and the client refuses them.
     let file = folder.file("small.der", b"\x30\x07\x02\x02\x01\x0D\x02\x01\x03");
-    refused(&file, &[], "9 bits, not 1024 to 4096 in multiples of 8");
+    let reason = "9 bits, not 1024 to 4096 in multiples of 8";
+    assert_not_sent(&file, &[], reason);
+    assert_not_sent(&file, words!["--bits", "9"], reason);
+}
+
+#[test]
+fn pem_that_will_not_do_is_named() {
+    let folder = folder("pem_files");
+    let file = folder.file("key.pem", PEM.as_bytes());
+    let bits = words!["--bits", "2048"];
+    assert_not_sent(&file, bits, "the modulus has 1024 bits, not 2048");
+    let bits = words!["--bits", "1024"];
+    for (text, reason) in [
+        (
+            PEM.replace("RSA PUBLIC", "PRIVATE"),
+            "PEM of PRIVATE KEY, not of RSA PUBLIC KEY or PUBLIC KEY",
+        ),
+        (
+            PEM.replace("RSA PUBLIC", "PUBLIC"),
+            "PEM without a DER SubjectPublicKeyInfo of RSA",
+        ),
+        (PEM[..90].into(), "a PEM block that is not whole"),
+        (PEM.replace("MIGJ", "MIG!"), "PEM that is not base64"),
+        ([PEM, PEM].concat(), "more than one PEM block"),
+    ] {
+        let file = folder.file("other.pem", text.as_bytes());
+        assert_not_sent(&file, &[], reason);
+        assert_not_sent(&file, bits, reason);
+    }
 }
 
 #[test]
@@ -322,108 +323,112 @@ fn a_response_is_read_in_whatever_chunks_it_comes() {
     }
 }
 
+/// The request that is sent for these words.
+fn assert_sent(test: &str, words: &[&OsStr], request: Request) {
+    let mut expected = [0; LEAST_REQUEST_BUFFER];
+    let written = request.write(&mut expected).expect("a good request");
+    let other = Other::start(test, Vec::new());
+    let (ended, sent) = other.asked(words);
+    assert_eq!(sent, expected[..written], "{words:?}");
+    assert_eq!(ended.status, 1, "no response came");
+}
+
 #[test]
 fn the_request_is_what_the_command_line_says() {
-    let folder = folder("sent");
-    let forms = Forms::fixed();
-    let file = folder.file("key.pem", &forms.info_pem);
-    let import = |export_allowed, verify_allowed| Import {
-        name: b"a",
-        data: &forms.der,
-        bits: 1_024,
-        export_allowed,
-        verify_allowed,
-    };
-    let both = words!["import", "a", file, "--export", "--verify"];
-    let named = words![
-        "export",
-        "a",
-        "--app",
-        "scanner",
-        "--session",
-        "72623859790382856"
-    ];
+    let name = b"a";
+    let provider = u32::MAX;
     let cases = [
-        (
-            words!["import", "a", file],
-            Operation::ImportKey(import(false, false)),
-        ),
-        (
-            words!["import", "a", file, "--export"],
-            Operation::ImportKey(import(true, false)),
-        ),
-        (
-            words!["import", "a", file, "--verify"],
-            Operation::ImportKey(import(false, true)),
-        ),
-        (
-            words!["import", "a", file, "--bits=1024"],
-            Operation::ImportKey(import(false, false)),
-        ),
-        (both, Operation::ImportKey(import(true, true))),
         (words!["ping"], Operation::Ping),
         (words!["providers"], Operation::ListProviders),
         (
             words!["opcodes", "4294967295"],
-            Operation::ListOpcodes { provider: u32::MAX },
+            Operation::ListOpcodes { provider },
         ),
-        (words!["destroy", "a"], Operation::DestroyKey { name: b"a" }),
-        (named, Operation::ExportPublicKey { name: b"a" }),
+        (words!["destroy", "a"], Operation::DestroyKey { name }),
+        (words!["export", "a"], Operation::ExportPublicKey { name }),
     ];
-    for (number, (words, operation)) in cases.into_iter().enumerate() {
-        let is_named = words == named;
-        let request = Request {
-            session: if is_named { 0x0102_0304_0506_0708 } else { 0 },
-            application: is_named.then_some(b"scanner"),
+    for (words, operation) in cases {
+        let nobody = Request {
+            session: 0,
+            application: None,
             operation,
         };
-        let mut expected = [0; LEAST_REQUEST_BUFFER];
-        let written = request.write(&mut expected).expect("a good request");
-        let other = Other::start(&format!("sent-{number}"), Vec::new());
-        let (ended, sent) = other.asked(words);
-        assert_eq!(sent, expected[..written], "{words:?}");
-        assert_eq!(ended.status, 1, "no response came");
+        assert_sent("sent", words, nobody);
+        let named = Request {
+            session: 0x0102_0304_0506_0708,
+            application: Some(b"scanner"),
+            operation,
+        };
+        let more = words!["--app", "scanner", "--session", "72623859790382856"];
+        assert_sent("sent", &[words, more].concat(), named);
     }
 }
 
 #[test]
-fn a_response_that_is_not_whole_or_not_read_is_said() {
-    let pong = response(5, 1, 0, b"\x08\x01");
-    let other_session = response(6, 1, 0, b"\x08\x01");
-    let [cut, header] = [&pong[..27], &pong[..26]];
-    let ended = |place: usize| {
-        let cut = format!("the connection ended at byte {place} of the response");
-        format!("{cut}; the request may have been served")
-    };
-    let not_its_own = "response not read: opcode, session or provider not its request's";
-    for (number, (bytes, reason)) in [
-        (&b""[..], ended(0)),
-        (header, ended(26)),
-        (cut, ended(27)),
-        (
-            b"HTTP/1.0 400 Bad Request\r\n",
-            "response not read: no magic number".into(),
-        ),
-        (&other_session, not_its_own.into()),
-        (
-            &response(5, 1, 0, b"\x08"),
-            "response not read: an unreadable body".into(),
-        ),
-        (
-            &response(5, 1, 77, b""),
-            "refused: status 77, which is not listed".into(),
-        ),
-        (
-            &response(0, 0, 17, b""),
-            "refused: InvalidHeader (status 17)".into(),
-        ),
-    ]
-    .into_iter()
-    .enumerate()
-    {
-        let other = Other::start(&format!("bad-{number}"), vec![bytes.to_vec()]);
-        let said = format!("{}: {reason}", other.socket.display());
-        let (ended, _) = other.asked(words!["ping", "--session", "5"]);
-        ended.assert_failed(&said);
+fn an_import_sends_the_key_and_what_it_may_be_used_for() {
+    let (folder, forms) = (folder("sent"), Forms::fixed());
+    let file = folder.file("key.pem", &forms.info_pem);
+    let cases = [
+        (&[][..], false, false),
+        (words!["--bits=1024"], false, false),
+        (words!["--export"], true, false),
+        (words!["--verify"], false, true),
+        (words!["--export", "--verify"], true, true),
+    ];
+    for (more, export_allowed, verify_allowed) in cases {
+        let key = Import {
+            name: b"a",
+            data: &forms.der,
+            bits: 1_024,
+            export_allowed,
+            verify_allowed,
+        };
+        let request = Request {
+            session: 0,
+            application: None,
+            operation: Operation::ImportKey(key),
+        };
+        let words = [words!["import", "a", file], more].concat();
+        assert_sent("imported", &words, request);
     }
+}
+
+/// What is said of this response to a Ping with session 5.
+fn assert_said(test: &str, response: &[u8], reason: &str) {
+    let other = Other::start(test, vec![response.to_vec()]);
+    let said = format!("{}: {reason}", other.socket.display());
+    let (ended, _) = other.asked(words!["ping", "--session", "5"]);
+    ended.assert_failed(&said);
+}
+
+#[test]
+fn a_response_that_is_not_whole_is_said() {
+    let pong = response(5, 1, 0, b"\x08\x01");
+    for length in [0, 1, 6, 26, 27] {
+        let cut = format!("the connection ended at byte {length} of the response");
+        let reason = format!("{cut}; the request may have been served");
+        assert_said("cut", &pong[..length], &reason);
+    }
+}
+
+#[test]
+fn a_response_that_is_not_read_is_said() {
+    let said = |response: &[u8], reason: &str| {
+        assert_said("unread", response, &format!("response not read: {reason}"));
+    };
+    said(b"HTTP/1.0 400 Bad Request\r\n", "no magic number");
+    let other_session = response(6, 1, 0, b"\x08\x01");
+    said(
+        &other_session,
+        "opcode, session or provider not its request's",
+    );
+    said(&response(5, 1, 0, b"\x08"), "an unreadable body");
+}
+
+#[test]
+fn any_status_is_said() {
+    let unlisted = "refused: status 77, which is not listed";
+    assert_said("status", &response(5, 1, 77, b""), unlisted);
+    let closed = "refused: InvalidHeader (status 17)";
+    assert_said("status", &response(0, 0, 17, b""), closed);
 }

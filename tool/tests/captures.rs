@@ -5,7 +5,7 @@ mod common;
 use common::{folder, razidkot, sample};
 use razidkot_tests::ask::{registry_of, request, IMPORT, PING};
 use razidkot_tests::bill::{printed, roster_of, text};
-use razidkot_tests::generate::name;
+use razidkot_tests::generate::{name, Random};
 use razidkot_tests::requests::{applications, requests, with_header_size, with_lengths};
 use razidkot_tests::run::{for_seeds, Outcomes};
 use reference::rules;
@@ -102,50 +102,41 @@ fn the_samples_are_shown_as_they_are_billed() {
     }
 }
 
+fn some_names(random: &mut Random) -> Vec<Vec<u8>> {
+    let count = random.below(9);
+    let some_name = |number| {
+        let length = random.pick(&[1, 2, 64]);
+        name(random, number, length)
+    };
+    (0..count).map(some_name).collect()
+}
+
 #[test]
 fn any_stream_is_shown_as_the_reference_has_it() {
     let folder = folder("any_capture");
     let mut outcomes = Outcomes::default();
     for_seeds(200, |random| {
-        let count = random.below(9);
-        let names: Vec<_> = (0..count)
-            .map(|number| {
-                let length = random.pick(&[1, 2, 64]);
-                name(random, number, length)
-            })
-            .collect();
-        let registry = registry_of(&names);
+        let names = some_names(random);
+        let (roster, registry) = (roster_of(&names), registry_of(&names));
         let stream = requests(random, &applications(&registry), 30).concat();
-        let roster = roster_of(&names);
-        let sums = Sums::of(&shown(
-            &folder.file("stream", &stream),
-            &folder.file("roster", &roster),
-        ));
+        let [roster_file, stream_file] = [("roster", &roster), ("stream", &stream)]
+            .map(|(name, bytes)| folder.file(name, bytes));
+        let sums = Sums::of(&shown(&stream_file, &roster_file));
 
-        let expected = rules::run(&registry, &stream);
+        let responses = rules::run(&registry, &stream).responses;
         let status = |response: &Vec<u8>| u16::from_le_bytes([response[24], response[25]]);
-        assert!(sums
-            .statuses
-            .iter()
-            .copied()
-            .eq(expected.responses.iter().map(status)));
-        sums.statuses
-            .iter()
-            .for_each(|status| outcomes.count(status));
-        outcomes.count(if sums.held > 0 { "held" } else { "none held" });
-        outcomes.count(if sums.dropped > 0 {
-            "dropped"
-        } else {
-            "none dropped"
-        });
+        let statuses: Vec<_> = responses.iter().map(status).collect();
+        assert_eq!(sums.statuses, statuses);
+        statuses.iter().for_each(|status| outcomes.count(status));
+        outcomes.count(format!("held {}", sums.held > 0));
+        outcomes.count(format!("dropped {}", sums.dropped > 0));
         let bill = text(reference::bill(Some(&roster), Some(&stream)));
         assert_eq!(sums.bill(&names), bill);
     });
-    outcomes.assert_often(&["held", "none held", "dropped", "none dropped"], 10);
-    outcomes.assert_often(
-        &[0, 1, 2, 3, 4, 6, 7, 9, 11, 12, 17, 19, 20, 1_135, 1_140],
-        10,
-    );
+    outcomes.assert_often(&["held true", "held false"], 10);
+    outcomes.assert_often(&["dropped true", "dropped false"], 10);
+    let statuses = [0, 1, 2, 3, 4, 6, 7, 9, 11, 12, 17, 19, 20, 1_135, 1_140];
+    outcomes.assert_often(&statuses, 10);
 }
 
 // ---- what is shown of a request
@@ -155,6 +146,12 @@ fn rows(test: &str, stream: &[&[u8]]) -> String {
     let folder = folder(test);
     let roster = folder.file("roster", b"\x01\x01\x00b");
     shown(&folder.file("stream", &stream.concat()), &roster)
+}
+
+/// The lines, with one space between words.
+fn squeezed(rows: &str) -> Vec<String> {
+    let squeeze = |line: &str| line.split_whitespace().collect::<Vec<_>>().join(" ");
+    rows.lines().map(squeeze).collect()
 }
 
 fn with_byte(mut request: Vec<u8>, place: usize, byte: u8) -> Vec<u8> {
@@ -197,40 +194,25 @@ fn an_oversized_request_is_shown_whole_and_its_name_is_not() {
     let short = with_lengths(&named, 4_097, 1);
     let auth = with_lengths(&named, 0, 257);
     let open = with_lengths(&request(PING, None, b""), 4_097, 0);
-    let read = with_lengths(&named, 4_096, 256);
-    let rows = rows("oversized", &[&long, &short, &auth, &open, &read, &named]);
-    let lines: Vec<_> = rows
-        .lines()
-        .map(|line| line.split_whitespace().collect::<Vec<_>>())
-        .collect();
-    let oversized = "BodySizeExceedsLimit";
-    assert_eq!(lines[0], ["0", "200029", "20", oversized, "Ping", "unread"]);
-    assert_eq!(
-        lines[1],
-        ["200029", "4126", "20", oversized, "Ping", "unread"]
-    );
-    assert_eq!(
-        lines[2],
-        [
-            "204155",
-            "285",
-            "11",
-            "AuthenticationError",
-            "Ping",
-            "unread"
-        ]
-    );
-    assert_eq!(
-        lines[3],
-        ["204440", "4125", "20", oversized, "Ping", "nobody"]
-    );
-    assert_eq!(
-        lines[4][..5],
-        ["208565", "4380", "11", "AuthenticationError", "Ping"]
-    );
-    assert!(lines[4][5].starts_with('"'), "{:?}", lines[4]);
-    assert_eq!(lines[5], ["212945", "29", "0", "Success", "Ping", "\"b\""]);
-    assert_eq!(lines.len(), 6);
+    let stream = [&long[..], &short, &auth, &open, &named];
+    let expected = [
+        "0 200029 20 BodySizeExceedsLimit Ping unread",
+        "200029 4126 20 BodySizeExceedsLimit Ping unread",
+        "204155 285 11 AuthenticationError Ping unread",
+        "204440 4125 20 BodySizeExceedsLimit Ping nobody",
+        "208565 29 0 Success Ping \"b\"",
+    ];
+    assert_eq!(squeezed(&rows("oversized", &stream)), expected);
+}
+
+#[test]
+fn the_name_of_the_longest_request_that_is_read_is_shown() {
+    let named = request(PING, Some(b"b"), b"");
+    let longest = with_lengths(&with_header_size(named, 64), 4_096, 256);
+    let rows = rows("longest", &[&longest]);
+    let auth = longest[longest.len() - 256..].escape_ascii();
+    let expected = format!("0 4422 11 AuthenticationError Ping \"{auth}\"");
+    assert_eq!(squeezed(&rows), [expected]);
 }
 
 #[test]
@@ -265,12 +247,7 @@ fn what_is_held_and_dropped_is_shown() {
             "0 6 17 InvalidHeader unread unread|6 4 dropped behind a close",
         ),
     ] {
-        let rows = rows("rests", &[stream]);
-        let words = |line: &str| line.split_whitespace().collect::<Vec<_>>().join(" ");
-        assert_eq!(
-            rows.lines().map(words).collect::<Vec<_>>().join("|"),
-            expected
-        );
+        assert_eq!(squeezed(&rows("rests", &[stream])).join("|"), expected);
     }
 }
 

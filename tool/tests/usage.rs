@@ -78,95 +78,98 @@ fn the_help_of_all_names_each_command() {
     }
 }
 
+/// A command line, what is said of it, and whose help to read.
+const NOT_UNDERSTOOD: [(&str, &str, &str); 37] = [
+    ("", "a command is missing", ""),
+    ("keys", "unknown command keys", ""),
+    ("keys --help", "unknown command keys", ""),
+    ("roster drop --help", "unknown command roster drop", ""),
+    ("roster", "a command is missing", " roster"),
+    ("roster drop", "unknown command drop", " roster"),
+    ("roster show", "FILE is missing", " roster show"),
+    ("roster show a b", "b is one word too many", " roster show"),
+    ("roster show a -o b", "-o is no option here", " roster show"),
+    (
+        "roster make a --app b",
+        "--app is no option here",
+        " roster make",
+    ),
+    ("roster make a -o", "-o needs a value", ""),
+    ("roster make a -o b -o c", "-o is said twice", ""),
+    ("roster make a --quiet", "unknown option --quiet", ""),
+    ("roster make a --quiet=1", "unknown option --quiet", ""),
+    ("ask", "SOCKET is missing", " ask"),
+    ("ask s", "an operation is missing", " ask"),
+    ("ask s sign", "unknown operation sign", " ask"),
+    ("ask s ping a", "a is one word too many", " ask ping"),
+    (
+        "ask s ping --bits 8",
+        "--bits is no option here",
+        " ask ping",
+    ),
+    (
+        "ask s ping --session x",
+        "--session x: no number, or too large",
+        " ask",
+    ),
+    (
+        "ask s ping --session=-1",
+        "--session -1: no number, or too large",
+        " ask",
+    ),
+    (
+        "ask s ping --session 18446744073709551616",
+        "--session 18446744073709551616: no number, or too large",
+        " ask",
+    ),
+    (
+        "ask s providers --export",
+        "--export is no option here",
+        " ask providers",
+    ),
+    ("ask s opcodes", "PROVIDER is missing", " ask opcodes"),
+    (
+        "ask s opcodes 4294967296",
+        "PROVIDER 4294967296: no number, or too large",
+        " ask opcodes",
+    ),
+    ("ask s import", "NAME is missing", " ask import"),
+    ("ask s import k", "FILE is missing", " ask import"),
+    (
+        "ask s import k f -o g",
+        "-o is no option here",
+        " ask import",
+    ),
+    ("ask s import k f --verify=no", "--verify has no value", ""),
+    (
+        "ask s import k f --bits 1k",
+        "--bits 1k: no number, or too large",
+        " ask import",
+    ),
+    ("ask s export", "NAME is missing", " ask export"),
+    (
+        "ask s destroy k -o f",
+        "-o is no option here",
+        " ask destroy",
+    ),
+    ("capture", "a command is missing", " capture"),
+    ("capture hide", "unknown command hide", " capture"),
+    ("capture show", "FILE is missing", " capture show"),
+    (
+        "capture show f",
+        "--roster FILE is missing",
+        " capture show",
+    ),
+    (
+        "capture show f g --roster r",
+        "g is one word too many",
+        " capture show",
+    ),
+];
+
 #[test]
 fn what_is_not_understood_has_status_2() {
-    for (line, said, help) in [
-        ("", "a command is missing", ""),
-        ("keys", "unknown command keys", ""),
-        ("keys --help", "unknown command keys", ""),
-        ("roster drop --help", "unknown command roster drop", ""),
-        ("roster", "a command is missing", " roster"),
-        ("roster drop", "unknown command drop", " roster"),
-        ("roster show", "FILE is missing", " roster show"),
-        ("roster show a b", "b is one word too many", " roster show"),
-        ("roster show a -o b", "-o is no option here", " roster show"),
-        (
-            "roster make a --app b",
-            "--app is no option here",
-            " roster make",
-        ),
-        ("roster make a -o", "-o needs a value", ""),
-        ("roster make a -o b -o c", "-o is said twice", ""),
-        ("roster make a --quiet", "unknown option --quiet", ""),
-        ("roster make a --quiet=1", "unknown option --quiet", ""),
-        ("ask", "SOCKET is missing", " ask"),
-        ("ask s", "an operation is missing", " ask"),
-        ("ask s sign", "unknown operation sign", " ask"),
-        ("ask s ping a", "a is one word too many", " ask ping"),
-        (
-            "ask s ping --bits 8",
-            "--bits is no option here",
-            " ask ping",
-        ),
-        (
-            "ask s ping --session x",
-            "--session x: no number, or too large",
-            " ask",
-        ),
-        (
-            "ask s ping --session=-1",
-            "--session -1: no number, or too large",
-            " ask",
-        ),
-        (
-            "ask s ping --session 18446744073709551616",
-            "--session 18446744073709551616: no number, or too large",
-            " ask",
-        ),
-        (
-            "ask s providers --export",
-            "--export is no option here",
-            " ask providers",
-        ),
-        ("ask s opcodes", "PROVIDER is missing", " ask opcodes"),
-        (
-            "ask s opcodes 4294967296",
-            "PROVIDER 4294967296: no number, or too large",
-            " ask opcodes",
-        ),
-        ("ask s import", "NAME is missing", " ask import"),
-        ("ask s import k", "FILE is missing", " ask import"),
-        (
-            "ask s import k f -o g",
-            "-o is no option here",
-            " ask import",
-        ),
-        ("ask s import k f --verify=no", "--verify has no value", ""),
-        (
-            "ask s import k f --bits 1k",
-            "--bits 1k: no number, or too large",
-            " ask import",
-        ),
-        ("ask s export", "NAME is missing", " ask export"),
-        (
-            "ask s destroy k -o f",
-            "-o is no option here",
-            " ask destroy",
-        ),
-        ("capture", "a command is missing", " capture"),
-        ("capture hide", "unknown command hide", " capture"),
-        ("capture show", "FILE is missing", " capture show"),
-        (
-            "capture show f",
-            "--roster FILE is missing",
-            " capture show",
-        ),
-        (
-            "capture show f g --roster r",
-            "g is one word too many",
-            " capture show",
-        ),
-    ] {
+    for (line, said, help) in NOT_UNDERSTOOD {
         let words: Vec<_> = line.split_whitespace().collect();
         razidkot(&words).assert_usage(said, help);
     }
