@@ -132,7 +132,7 @@ fn said(held: Held) -> String {
     match (Request::new(bytes), held.to_go()) {
         (Some(request), Some(to_go)) => {
             let operation = request.operation();
-            format!("{what} not finished: {operation}, {to_go} bytes to go")
+            format!("{what} not finished: {operation}, bytes to go: {to_go}")
         }
         _ => format!("{what} not finished: its header is not whole"),
     }

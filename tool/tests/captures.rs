@@ -231,15 +231,15 @@ fn what_is_held_and_dropped_is_shown() {
         ),
         (
             &import[..28],
-            "0 28 held a request not finished: PsaImportKey, 4 bytes to go",
+            "0 28 held a request not finished: PsaImportKey, bytes to go: 4",
         ),
         (
             &import[..31],
-            "0 31 held a request not finished: PsaImportKey, 1 bytes to go",
+            "0 31 held a request not finished: PsaImportKey, bytes to go: 1",
         ),
         (
             &long[..100],
-            "0 100 held an oversized request not finished: PsaImportKey, 4026 bytes to go",
+            "0 100 held an oversized request not finished: PsaImportKey, bytes to go: 4026",
         ),
         (b"GET / ", "0 6 17 InvalidHeader unread unread"),
         (
