@@ -1,5 +1,6 @@
 //! How a connection ended, and what was lost with it.
 
+use crate::Say;
 use razidkot::Refusal;
 use std::fmt;
 use std::io;
@@ -38,14 +39,16 @@ pub enum Fault {
 }
 
 impl Ended {
-    /// Says on standard error what was lost, if anything was.
-    pub fn report(&self, connection: u64) {
+    /// Says what was lost, if anything was.
+    pub fn report(&self, connection: u64, say: Say) {
         if let Some(undelivered) = &self.undelivered {
-            eprintln!("connection {connection}: {undelivered}");
+            say(&format_args!("connection {connection}: {undelivered}"));
         }
         if let Some(fault) = &self.fault {
             let unfinished = self.unfinished;
-            eprintln!("connection {connection}: {fault}; {unfinished} bytes of a request held");
+            say(&format_args!(
+                "connection {connection}: {fault}; {unfinished} bytes of a request held"
+            ));
         }
     }
 }

@@ -4,15 +4,20 @@
 //! Many connections share one registry and one set of counters, behind a lock that each call holds
 //! for its own length ([`Service`]). A thread accepts ([`Server`]), and a thread for each connection
 //! reads, calls and writes ([`serve`]). Nothing is swallowed: what an error of the socket cost is
-//! said on standard error, and [`Totals`] adds up.
+//! said ([`Say`]), and [`Totals`] adds up.
+#![forbid(unsafe_code)]
 
+mod address;
 mod ended;
 mod listener;
 mod peer;
+mod say;
 mod server;
 mod service;
 
+pub use address::SocketError;
 pub use ended::{Ended, Fault, Undelivered};
 pub use peer::serve;
-pub use server::{Server, StartError, Totals};
+pub use say::{say_on_stderr, Say};
+pub use server::{Server, Settings, StartError, Totals};
 pub use service::Service;

@@ -1,79 +1,113 @@
 //! The thread that accepts connections, with a thread for each.
 
-use crate::{serve, Ended, Service};
+use crate::{serve, Ended, Say, Service};
 use std::io::{self, ErrorKind};
 use std::net::Shutdown;
 use std::os::unix::net::{UnixListener, UnixStream};
-use std::sync::{Arc, Weak};
+use std::sync::{Arc, OnceLock, Weak};
 use std::thread::{self, JoinHandle};
-use std::time::Duration;
+use std::time::{Duration, Instant};
 
 /// How long to wait when a connection can't be accepted, as for want of descriptors.
-const PAUSE: Duration = Duration::from_millis(100);
+const PAUSE: Duration = Duration::from_millis(50);
+/// How long none has to wait before it is said again that they wait.
+const QUIET: Duration = Duration::from_secs(60);
+/// How often it is looked whether connections have ended, once the server stops.
+const STEP: Duration = Duration::from_millis(5);
 
 pub struct Listener {
-    pub socket: Arc<UnixListener>,
-    pub service: Arc<Service>,
-    pub patience: Duration,
-    pub running: Vec<Running>,
-    pub accepted: u64,
-    pub lost: Lost,
+    socket: UnixListener,
+    service: Arc<Service>,
+    patience: Duration,
+    say: Say,
+    /// Once the server stops: when it ends the connections that have not ended by then.
+    stopping: Arc<OnceLock<Instant>>,
+    running: Vec<Running>,
+    waited: Option<Instant>,
+    sum: Sum,
 }
 
 /// A connection with its thread, which alone keeps the socket open.
-pub struct Running {
+struct Running {
     number: u64,
     stream: Weak<UnixStream>,
     thread: JoinHandle<Ended>,
 }
 
-/// What connections have left unfinished and undelivered.
+/// What connections have come to, beside the counters.
 #[derive(Clone, Copy, Default)]
-pub struct Lost {
+pub struct Sum {
+    pub connections: u64,
     pub unfinished: u64,
     pub undelivered: u64,
 }
 
 impl Listener {
-    /// Accepts until the socket would block, which it does only once the server stops; then ends
+    pub fn new(
+        socket: UnixListener,
+        service: Arc<Service>,
+        patience: Duration,
+        say: Say,
+        stopping: Arc<OnceLock<Instant>>,
+    ) -> Listener {
+        Listener {
+            socket,
+            service,
+            patience,
+            say,
+            stopping,
+            running: Vec::new(),
+            waited: None,
+            sum: Sum::default(),
+        }
+    }
+
+    /// Accepts until the server stops and all clients that had connected are accepted; then ends
     /// the connections that are left.
-    pub fn listen(mut self) -> Lost {
+    pub fn listen(mut self) -> Sum {
         loop {
             match self.socket.accept() {
                 Ok((stream, _)) => self.begin(stream),
-                Err(error) if error.kind() == ErrorKind::WouldBlock => break,
-                Err(error) if error.kind() == ErrorKind::Interrupted => {}
-                Err(error) => {
-                    eprintln!("a connection can't be accepted: {error}");
-                    thread::sleep(PAUSE);
-                }
+                Err(error) => match error.kind() {
+                    // What a socket says that is shut down, when no client waits any more.
+                    ErrorKind::InvalidInput if self.stopping.get().is_some() => break,
+                    ErrorKind::Interrupted | ErrorKind::ConnectionAborted => {}
+                    _ => self.wait(&error),
+                },
             }
-            self.collect(|running| running.thread.is_finished());
+            self.collect();
         }
-        self.end_reading();
-        self.collect(|_| true);
-        self.lost
+        while !self.running.is_empty() {
+            self.end_connections();
+            thread::sleep(STEP);
+            self.collect();
+        }
+        self.sum
     }
 
+    /// A client that is accepted is served, if need be later.
     fn begin(&mut self, stream: UnixStream) {
-        let number = self.accepted;
-        self.accepted += 1;
-        match self.spawn(number, stream) {
-            Ok(running) => self.running.push(running),
-            Err(error) => eprintln!("connection {number}: not served: {error}"),
+        let number = self.sum.connections;
+        self.sum.connections += 1;
+        if let Err(error) = stream.set_write_timeout(Some(self.patience)) {
+            return (self.say)(&format_args!("connection {number}: not served: {error}"));
+        }
+        let stream = Arc::new(stream);
+        loop {
+            match self.spawn(number, &stream) {
+                Ok(running) => return self.running.push(running),
+                Err(error) => self.wait(&error),
+            }
+            self.collect();
         }
     }
 
-    fn spawn(&self, number: u64, stream: UnixStream) -> io::Result<Running> {
-        // Some systems hand a listener's way of blocking on.
-        stream.set_nonblocking(false)?;
-        stream.set_write_timeout(Some(self.patience))?;
-        let stream = Arc::new(stream);
-        let weak = Arc::downgrade(&stream);
-        let service = Arc::clone(&self.service);
+    fn spawn(&self, number: u64, stream: &Arc<UnixStream>) -> io::Result<Running> {
+        let (weak, say) = (Arc::downgrade(stream), self.say);
+        let (stream, service) = (Arc::clone(stream), Arc::clone(&self.service));
         let thread = thread::Builder::new().spawn(move || {
             let ended = serve(&stream, &service);
-            ended.report(number);
+            ended.report(number, say);
             ended
         })?;
         Ok(Running {
@@ -83,31 +117,56 @@ impl Listener {
         })
     }
 
-    /// Ends what peers send. What has arrived is still read, and its responses are sent.
-    fn end_reading(&self) {
+    /// Waits for other connections to end, which frees what the next one needs. A client that is not
+    /// accepted yet waits meanwhile, and what it sends is kept by the system.
+    fn wait(&mut self, error: &io::Error) {
+        let now = Instant::now();
+        let is_said = self.waited.is_some_and(|waited| now - waited < QUIET);
+        if !is_said {
+            (self.say)(&format_args!("clients wait to be accepted: {error}"));
+        }
+        self.waited = Some(now);
+        if self.stopping.get().is_some() {
+            self.end_connections();
+        }
+        thread::sleep(PAUSE);
+    }
+
+    /// Ends what peers send; what has arrived is still read, and its responses are sent. Once the time
+    /// for that is over, it is read and counted, and no more is sent.
+    fn end_connections(&self) {
+        let is_over = self
+            .stopping
+            .get()
+            .is_some_and(|end| Instant::now() >= *end);
+        let how = match is_over {
+            true => Shutdown::Both,
+            false => Shutdown::Read,
+        };
         for running in &self.running {
             // To a peer that is gone it fails, and there is nothing more to end.
             if let Some(stream) = running.stream.upgrade() {
-                let _ = stream.shutdown(Shutdown::Read);
+                let _ = stream.shutdown(how);
             }
         }
     }
 
-    /// Waits for these connections' threads, and adds up what they lost.
-    fn collect(&mut self, is_due: impl Fn(&Running) -> bool) {
+    /// Adds up what the connections that have ended came to.
+    fn collect(&mut self) {
         let all = std::mem::take(&mut self.running);
-        let (due, running): (Vec<_>, Vec<_>) = all.into_iter().partition(is_due);
+        let (ended, running): (Vec<_>, Vec<_>) =
+            all.into_iter().partition(|one| one.thread.is_finished());
         self.running = running;
-        for Running { number, thread, .. } in due {
+        for Running { number, thread, .. } in ended {
             match thread.join() {
-                Ok(ended) => self.lost.add(&ended),
-                Err(_) => eprintln!("connection {number}: its thread panicked"),
+                Ok(ended) => self.sum.add(&ended),
+                Err(_) => (self.say)(&format_args!("connection {number}: its thread panicked")),
             }
         }
     }
 }
 
-impl Lost {
+impl Sum {
     fn add(&mut self, ended: &Ended) {
         self.unfinished += ended.unfinished;
         let undelivered = ended.undelivered.as_ref();

@@ -1,50 +1,112 @@
-//! `unix-socket SOCKET ROSTER`: serves the roster's applications at SOCKET until standard input
-//! ends, and then prints the counters. An example, and no part of what is proved.
+//! `unix-socket SOCKET ROSTER`: serves the roster's applications at SOCKET until a signal stops it,
+//! and then prints the bill. An example, and no part of what is proved.
 
-use razidkot::Status;
+mod arguments;
+#[allow(unsafe_code)]
+mod signals;
+
+use arguments::{Arguments, Asked, HELP};
+use signals::StopSignals;
 use std::env;
-use std::error::Error;
 use std::fs;
-use std::io;
-use std::path::Path;
+use std::io::{self, Write};
+use std::path;
+use std::process::ExitCode;
+use std::sync::mpsc::{self, Receiver};
+use std::thread;
 use std::time::Duration;
-use unix_socket::{Server, Totals};
+use unix_socket::{say_on_stderr as say, Server, Settings, StartError, Totals};
 
 const PATIENCE: Duration = Duration::from_secs(10);
+const WRONG_ARGUMENTS: u8 = 2;
 
-fn main() -> Result<(), Box<dyn Error>> {
-    let arguments: Vec<_> = env::args_os().skip(1).collect();
-    let [socket, roster] = &arguments[..] else {
-        return Err("usage: unix-socket SOCKET ROSTER".into());
+fn main() -> ExitCode {
+    let done = match arguments::read(env::args_os().skip(1)) {
+        Ok(Asked::Help) => print(HELP),
+        Ok(Asked::Serve(arguments)) => run(&arguments),
+        Err(fault) => {
+            say(&format_args!("{fault}; --help says more"));
+            return ExitCode::from(WRONG_ARGUMENTS);
+        }
     };
-    let roster = fs::read(roster)?;
-    let server = Server::start(Path::new(socket), &roster, PATIENCE)?;
-    io::copy(&mut io::stdin().lock(), &mut io::sink())?;
-    print_totals(&server.stop()?);
-    Ok(())
-}
-
-/// What is 0 is left out but for the bytes, which add up.
-fn print_totals(totals: &Totals) {
-    let counters = &totals.counters;
-    println!("taken {}", counters.taken);
-    println!("answered {}", counters.answered);
-    println!("dropped {}", counters.dropped);
-    println!("unfinished {}", totals.unfinished);
-    let served = counters.served.iter().enumerate();
-    for (line, count) in served.filter(|(_, &count)| count > 0) {
-        println!("served line {line} {count}");
-    }
-    let refused = Status::REFUSED.iter().zip(counters.refused);
-    for (status, count) in refused.filter(|&(_, count)| count > 0) {
-        println!("refused {} {count}", status.number());
-    }
-    for (word, count) in [
-        ("unauthenticated", counters.unauthenticated),
-        ("undelivered", totals.undelivered),
-    ] {
-        if count > 0 {
-            println!("{word} {count}");
+    match done {
+        Ok(()) => ExitCode::SUCCESS,
+        Err(message) => {
+            say(&message);
+            ExitCode::FAILURE
         }
     }
+}
+
+fn run(arguments: &Arguments) -> Result<(), String> {
+    let roster_file = arguments.roster.display();
+    let roster = fs::read(&arguments.roster).map_err(|error| format!("{roster_file}: {error}"))?;
+    let stop = await_stop(arguments.stdin).map_err(|error| format!("no signals: {error}"))?;
+    let server = Server::start(Settings {
+        socket: &arguments.socket,
+        roster: &roster,
+        patience: PATIENCE,
+        say,
+    });
+    let server = server.map_err(|error| match error {
+        StartError::Roster(_) => format!("{roster_file}: {error}"),
+        _ => error.to_string(),
+    })?;
+    let socket = path::absolute(&arguments.socket).unwrap_or(arguments.socket.clone());
+    say(&format_args!("listening at {}", socket.display()));
+    let why = stop.recv().expect("the thread that waits for signals");
+    say(&format_args!("stopping: {why}"));
+    report(&server.stop())
+}
+
+/// What will say why to stop. It is to be called before any other thread is started.
+fn await_stop(stdin: bool) -> io::Result<Receiver<String>> {
+    let (sender, receiver) = mpsc::channel();
+    let signals = StopSignals::block()?;
+    let of_signals = sender.clone();
+    thread::Builder::new().spawn(move || {
+        let why = match signals.wait() {
+            Ok(name) => name.to_string(),
+            Err(error) => format!("no signals: {error}"),
+        };
+        of_signals.send(why)
+    })?;
+    if stdin {
+        thread::Builder::new().spawn(move || {
+            let why = match io::copy(&mut io::stdin().lock(), &mut io::sink()) {
+                Ok(_) => "standard input has ended".to_string(),
+                Err(error) => format!("standard input: {error}"),
+            };
+            sender.send(why)
+        })?;
+    }
+    Ok(receiver)
+}
+
+/// Prints the bill, says the rest, and fails where the bill can't be printed.
+fn report(totals: &Totals) -> Result<(), String> {
+    let Totals {
+        counters,
+        connections,
+        unfinished,
+        undelivered,
+        ..
+    } = totals;
+    let (answered, dropped) = (counters.answered, counters.dropped);
+    say(&format_args!(
+        "{connections} connections; bytes answered {answered}, dropped {dropped}, unfinished {unfinished}; \
+         responses not delivered {undelivered}"
+    ));
+    let printed = print(&totals.bill);
+    if printed.is_err() {
+        // Else it would be lost.
+        totals.bill.lines().for_each(|line| say(&line));
+    }
+    printed
+}
+
+fn print(text: &str) -> Result<(), String> {
+    let mut out = io::stdout().lock();
+    let written = out.write_all(text.as_bytes()).and_then(|()| out.flush());
+    written.map_err(|error| format!("standard output: {error}"))
 }

@@ -9,29 +9,21 @@ use std::os::unix::net::UnixStream;
 /// How many bytes are read at a time; a call takes up to 65,536.
 const CHUNK: usize = 8_192;
 
-/// Serves a peer until it ends or can't be read from.
-///
-/// A connection that the service closed (status 17) is read on: its later bytes are taken, dropped
-/// and counted until the peer ends it.
+/// Serves a peer until it ends, can't be read from, or sends what is no request.
 pub fn serve(stream: &UnixStream, service: &Service) -> Ended {
-    let mut chunk = [0; CHUNK];
     let mut peer = Peer {
         stream,
         service,
         connection: Connection::open(),
+        unfinished: 0,
         response: [0; LEAST_RESPONSE_BUFFER],
-        ended: Ended::default(),
+        undelivered: None,
     };
-    loop {
-        let taken = match read_some(stream, &mut chunk) {
-            Ok(0) => return peer.ended,
-            Ok(size) => peer.take(&chunk[..size]),
-            Err(error) => Err(Fault::Read(error)),
-        };
-        if let Err(fault) = taken {
-            peer.ended.fault = Some(fault);
-            return peer.ended;
-        }
+    let fault = peer.serve().err();
+    Ended {
+        unfinished: peer.unfinished,
+        undelivered: peer.undelivered,
+        fault,
     }
 }
 
@@ -40,28 +32,45 @@ struct Peer<'a> {
     stream: &'a UnixStream,
     service: &'a Service,
     connection: Connection,
+    unfinished: u64,
     response: [u8; LEAST_RESPONSE_BUFFER],
-    ended: Ended,
+    undelivered: Option<Undelivered>,
 }
 
 impl Peer<'_> {
+    fn serve(&mut self) -> Result<(), Fault> {
+        let mut chunk = [0; CHUNK];
+        loop {
+            match read_some(self.stream, &mut chunk).map_err(Fault::Read)? {
+                0 => return Ok(()),
+                size => self.take(&chunk[..size])?,
+            }
+            if self.connection.is_closed() {
+                // The peer can send no more. What it has sent is read to its end, and dropped: left
+                // unread, it would have the peer see an error in place of the end. One that is gone
+                // needs no end.
+                let _ = self.stream.shutdown(Shutdown::Both);
+            }
+        }
+    }
+
     /// Hands a chunk over, and what is left of it again, until all of it is taken. Every response
     /// is written whole before the next call, which writes over it.
     fn take(&mut self, chunk: &[u8]) -> Result<(), Fault> {
-        let mut rest = chunk;
-        while !rest.is_empty() {
+        let mut left = chunk;
+        while !left.is_empty() {
             let answer = self
                 .service
-                .call(&mut self.connection, rest, &mut self.response)
+                .call(&mut self.connection, left, &mut self.response)
                 .map_err(|refusal| Fault::NotTaken {
                     refusal,
-                    bytes: rest.len(),
+                    bytes: left.len(),
                 })?;
             self.count_unfinished(answer);
             if answer.written > 0 {
                 self.deliver(answer.written);
             }
-            rest = &rest[answer.taken..];
+            left = &left[answer.taken..];
         }
         Ok(())
     }
@@ -69,22 +78,22 @@ impl Peer<'_> {
     /// A response comes at the last byte of its request; on a closed connection there is none.
     fn count_unfinished(&mut self, answer: Answer) {
         if answer.written > 0 || self.connection.is_closed() {
-            self.ended.unfinished = 0;
+            self.unfinished = 0;
         } else {
-            self.ended.unfinished += answer.taken as u64;
+            self.unfinished += answer.taken as u64;
         }
     }
 
     /// Writes the response. Once one has failed, part of it may be out, and no other may follow;
     /// requests are taken on, so that what is counted doesn't hang on when the peer left.
     fn deliver(&mut self, written: usize) {
-        if let Some(undelivered) = &mut self.ended.undelivered {
+        if let Some(undelivered) = &mut self.undelivered {
             undelivered.responses += 1;
             undelivered.bytes += written as u64;
             return;
         }
         if let Err((left, error)) = write_whole(self.stream, &self.response[..written]) {
-            self.ended.undelivered = Some(Undelivered {
+            self.undelivered = Some(Undelivered {
                 error,
                 responses: 1,
                 bytes: left as u64,

@@ -1,29 +1,52 @@
 //! A server that can be started and stopped.
 
-use crate::listener::{Listener, Lost};
-use crate::Service;
+use crate::address::{self, Address, SocketError};
+use crate::listener::{Listener, Sum};
+use crate::{Say, Service};
 use razidkot::{Counters, RosterFault};
 use std::fmt;
-use std::fs;
 use std::io;
-use std::os::unix::net::{UnixListener, UnixStream};
+use std::net::Shutdown;
+use std::os::fd::OwnedFd;
+use std::os::unix::net::UnixStream;
 use std::path::{Path, PathBuf};
-use std::sync::Arc;
+use std::sync::{Arc, OnceLock};
 use std::thread::{self, JoinHandle};
-use std::time::Duration;
+use std::time::{Duration, Instant};
 
-/// A running server. One that is dropped and not stopped runs on to the end of the program.
+/// What a server is started with.
+#[derive(Clone, Copy, Debug)]
+pub struct Settings<'a> {
+    /// Where it listens.
+    pub socket: &'a Path,
+    /// The bytes of a roster file.
+    pub roster: &'a [u8],
+    /// A peer that takes nothing of a response for so long gets no more of them, and a stop takes
+    /// hardly longer. Above 0.
+    pub patience: Duration,
+    /// Where its messages go.
+    pub say: Say,
+}
+
+/// A running server. One that is dropped and not stopped runs on to the end of the program, without
+/// its socket's file.
 pub struct Server {
-    path: PathBuf,
-    socket: Arc<UnixListener>,
+    address: Address,
+    /// The listening socket; it is a stream's type that can be shut down.
+    socket: UnixStream,
     service: Arc<Service>,
-    listening: JoinHandle<Lost>,
+    patience: Duration,
+    stopping: Arc<OnceLock<Instant>>,
+    listening: JoinHandle<Sum>,
 }
 
 /// What all connections have come to: bytes taken are those answered, dropped and unfinished.
-#[derive(Clone, Debug, PartialEq, Eq)]
+#[derive(Debug)]
 pub struct Totals {
     pub counters: Counters,
+    /// As `bill` prints it; what is held is `unfinished`.
+    pub bill: String,
+    pub connections: u64,
     /// Bytes of requests that their peers did not finish.
     pub unfinished: u64,
     /// Responses that could not be sent.
@@ -34,68 +57,76 @@ pub struct Totals {
 #[derive(Debug)]
 pub enum StartError {
     Roster(RosterFault),
-    Socket(io::Error),
+    Socket(PathBuf, SocketError),
+    Thread(io::Error),
 }
 
 impl Server {
-    /// Serves at `path`, where nothing may be yet, with a registry of the roster's applications and
-    /// no keys. A peer that takes nothing of a response for as long as `patience`, which is above 0,
-    /// gets no more of them.
-    pub fn start(path: &Path, roster: &[u8], patience: Duration) -> Result<Server, StartError> {
-        let service = Arc::new(Service::load(roster)?);
-        let socket = Arc::new(UnixListener::bind(path)?);
-        let listener = Listener {
-            socket: Arc::clone(&socket),
-            service: Arc::clone(&service),
-            patience,
-            running: Vec::new(),
-            accepted: 0,
-            lost: Lost::default(),
-        };
-        let listening = thread::Builder::new().spawn(move || listener.listen())?;
+    /// Serves with a registry of the roster's applications and no keys.
+    pub fn start(settings: Settings) -> Result<Server, StartError> {
+        let service = Arc::new(Service::load(settings.roster).map_err(StartError::Roster)?);
+        let no_socket = |error| StartError::Socket(settings.socket.to_path_buf(), error);
+        let (listener, address) =
+            address::listen(settings.socket, settings.say).map_err(no_socket)?;
+        let socket = listener.try_clone();
+        let socket = socket.map_err(|error| no_socket(SocketError::Failed(error)))?;
+        let stopping = Arc::new(OnceLock::new());
+        let listener = Listener::new(
+            listener,
+            Arc::clone(&service),
+            settings.patience,
+            settings.say,
+            Arc::clone(&stopping),
+        );
+        let listening = thread::Builder::new().spawn(move || listener.listen());
         Ok(Server {
-            path: path.to_path_buf(),
-            socket,
+            address,
+            socket: UnixStream::from(OwnedFd::from(socket)),
             service,
-            listening,
+            patience: settings.patience,
+            stopping,
+            listening: listening.map_err(StartError::Thread)?,
         })
     }
 
     /// Takes no more connections, ends those there are, and says what all have come to. What had
-    /// arrived before is still served. An error, as where the socket's path is gone, may leave the
-    /// listener waiting.
-    pub fn stop(self) -> io::Result<Totals> {
-        self.socket.set_nonblocking(true)?;
-        // The listener may be waiting; a connection wakes it, and behind the last one it would block.
-        UnixStream::connect(&self.path)?;
-        fs::remove_file(&self.path)?;
-        let lost = self.listening.join().expect("a listener does not panic");
-        Ok(Totals {
+    /// arrived before is still served, that of clients that still waited to be accepted too. It
+    /// needs no descriptor, so that it works where there is none left.
+    pub fn stop(self) -> Totals {
+        drop(self.address);
+        self.stopping.get_or_init(|| Instant::now() + self.patience);
+        let stopped = self.socket.shutdown(Shutdown::Both);
+        stopped.expect("a listening socket can be shut down");
+        let sum = self.listening.join().expect("a listener does not panic");
+        Totals {
             counters: self.service.counters(),
-            unfinished: lost.unfinished,
-            undelivered: lost.undelivered,
-        })
-    }
-}
-
-impl From<RosterFault> for StartError {
-    fn from(fault: RosterFault) -> StartError {
-        StartError::Roster(fault)
-    }
-}
-
-impl From<io::Error> for StartError {
-    fn from(error: io::Error) -> StartError {
-        StartError::Socket(error)
+            bill: self.service.bill(sum.unfinished),
+            connections: sum.connections,
+            unfinished: sum.unfinished,
+            undelivered: sum.undelivered,
+        }
     }
 }
 
 impl fmt::Display for StartError {
     fn fmt(&self, out: &mut fmt::Formatter) -> fmt::Result {
         match self {
-            StartError::Roster(fault) => fault.fmt(out),
-            StartError::Socket(error) => write!(out, "no socket: {error}"),
+            StartError::Roster(fault) => write!(out, "{fault}: {}", reason(*fault)),
+            StartError::Socket(path, error) => write!(out, "{}: {error}", path.display()),
+            StartError::Thread(error) => write!(out, "no thread to accept clients: {error}"),
         }
+    }
+}
+
+/// Document 01, "Roster, registry, connection, tally", for whoever wrote the roster.
+fn reason(fault: RosterFault) -> &'static str {
+    match fault {
+        RosterFault::WrongMemorySize => "registry memory of a wrong size",
+        RosterFault::CutRecord => "a record is cut short",
+        RosterFault::UnknownTag => "a record with a tag other than 1",
+        RosterFault::BadName => "a name not of 1 to 64 bytes from 0x21 to 0x7E",
+        RosterFault::NinthName => "more than 8 names",
+        RosterFault::RepeatedName => "a name that stands there twice",
     }
 }
 

@@ -3,17 +3,19 @@
 // Each file under tests/ uses some of it.
 #![allow(dead_code)]
 
+pub mod client;
+pub mod program;
+
 use razidkot_tests::ask::{record, registry_of};
 use razidkot_tests::lent::to_reference;
 use reference::rules::{self, Outcome};
-use std::fs;
-use std::io::{Read, Write};
+use std::io::{ErrorKind, Read, Write};
 use std::net::Shutdown;
 use std::os::unix::net::UnixStream;
 use std::path::{Path, PathBuf};
 use std::thread;
 use std::time::Duration;
-use unix_socket::{Server, Totals};
+use unix_socket::{Server, Settings, Totals};
 
 /// An application for each client, so that none meets another's keys.
 pub const NAMES: [&[u8]; 8] = [
@@ -21,7 +23,7 @@ pub const NAMES: [&[u8]; 8] = [
 ];
 
 /// No test waits so long unless something hangs.
-const TOO_LONG: Duration = Duration::from_secs(60);
+pub const TOO_LONG: Duration = Duration::from_secs(60);
 
 pub fn roster() -> Vec<u8> {
     NAMES.iter().flat_map(|name| record(1, name)).collect()
@@ -38,10 +40,13 @@ pub fn start(test: &str) -> (Server, PathBuf) {
 
 pub fn start_with_patience(test: &str, patience: Duration) -> (Server, PathBuf) {
     let path = socket_path(test);
-    // One that a failed run left.
-    let _ = fs::remove_file(&path);
-    let server = Server::start(&path, &roster(), patience).expect("a free path");
-    (server, path)
+    let server = Server::start(Settings {
+        socket: &path,
+        roster: &roster(),
+        patience,
+        say: |_| {},
+    });
+    (server.expect("a free path"), path)
 }
 
 pub fn connect(path: &Path) -> UnixStream {
@@ -66,48 +71,63 @@ pub enum Manner {
     LeavesUnread,
 }
 
-/// Sends a stream and gives what came back; nothing where the client doesn't read.
-pub fn converse(path: &Path, stream: &[u8], manner: Manner) -> Vec<u8> {
+/// What a client did: all that the server has to count, and nothing else, was sent.
+pub struct Conversation {
+    pub sent: Vec<u8>,
+    /// Nothing where the client doesn't read.
+    pub responses: Vec<u8>,
+}
+
+/// Sends a stream, or as much of it as the server lets it, and gives what came back.
+pub fn converse(path: &Path, stream: &[u8], manner: Manner) -> Conversation {
     let socket = &connect(path);
-    match manner {
+    let (sent, responses) = match manner {
         Manner::Prompt => send_and_read(socket, stream, stream.len().max(1)),
         Manner::Chunks(size) => send_and_read(socket, stream, size),
         Manner::ReadsLate => {
-            send(socket, stream, 5_000);
+            let sent = send(socket, stream, 5_000);
             end_sending(socket);
             thread::sleep(Duration::from_millis(50));
-            read_slowly(socket)
+            (sent, read_slowly(socket))
         }
         Manner::Leaves => {
-            send(socket, stream, 5_000);
+            let sent = send(socket, stream, 5_000);
             let mut responses = vec![0; alone(stream).responses.concat().len()];
             (&*socket).read_exact(&mut responses).expect("responses");
-            responses
+            (sent, responses)
         }
-        Manner::LeavesUnread => {
-            send(socket, stream, 5_000);
-            Vec::new()
-        }
-    }
+        Manner::LeavesUnread => (send(socket, stream, 5_000), Vec::new()),
+    };
+    let sent = stream[..sent].to_vec();
+    Conversation { sent, responses }
 }
 
-fn send_and_read(socket: &UnixStream, stream: &[u8], size: usize) -> Vec<u8> {
+fn send_and_read(socket: &UnixStream, stream: &[u8], size: usize) -> (usize, Vec<u8>) {
     thread::scope(|scope| {
         let responses = scope.spawn(|| read_to_end(socket));
-        send(socket, stream, size);
+        let sent = send(socket, stream, size);
         end_sending(socket);
-        responses.join().expect("a client that reads")
+        (sent, responses.join().expect("a client that reads"))
     })
 }
 
-pub fn send(mut socket: &UnixStream, stream: &[u8], size: usize) {
-    for part in stream.chunks(size) {
-        socket.write_all(part).expect("a server that reads");
+/// Sends chunks of this size, and says how many bytes went out before the server closed, if it did.
+pub fn send(mut socket: &UnixStream, stream: &[u8], size: usize) -> usize {
+    let mut sent = 0;
+    while sent < stream.len() {
+        let end = stream.len().min(sent + size);
+        match socket.write(&stream[sent..end]) {
+            Ok(count) => sent += count,
+            Err(error) if error.kind() == ErrorKind::BrokenPipe => return sent,
+            Err(error) => panic!("a server that reads: {error}"),
+        }
     }
+    sent
 }
 
+/// To a server that has closed it fails, and there is nothing more to end.
 pub fn end_sending(socket: &UnixStream) {
-    socket.shutdown(Shutdown::Write).expect("an open socket");
+    let _ = socket.shutdown(Shutdown::Write);
 }
 
 pub fn read_to_end(mut socket: &UnixStream) -> Vec<u8> {
