@@ -1,6 +1,6 @@
 //! What the program is asked on its command line.
 
-use std::ffi::OsString;
+use std::ffi::{OsStr, OsString};
 use std::fmt;
 use std::os::unix::ffi::OsStrExt;
 use std::path::PathBuf;
@@ -12,12 +12,13 @@ Serves the applications of the file ROSTER at the socket SOCKET until SIGTERM or
 SIGINT comes. Then it serves what has arrived, removes SOCKET, and prints the
 bill of all connections on standard output. Messages go to standard error.
 
-  --stdin  stop at the end of standard input too, which is not read else
-  --help   print this
+  --capture FILE  append every answered request to FILE, for `bill ROSTER FILE`
+  --stdin         stop at the end of standard input too, which is not read else
+  --help          print this
 
 A SOCKET that nobody listens at is replaced. The status is 0 after a stop, 1 if
-the server can't start or the bill can't be written, and 2 for other arguments
-than these.
+the server can't start or the capture or the bill can't be written whole, and 2
+for other arguments than these.
 ";
 
 pub enum Asked {
@@ -29,6 +30,7 @@ pub enum Asked {
 pub struct Arguments {
     pub socket: PathBuf,
     pub roster: PathBuf,
+    pub capture: Option<PathBuf>,
     pub stdin: bool,
 }
 
@@ -36,6 +38,7 @@ pub struct Arguments {
 #[derive(Debug)]
 pub enum Fault {
     UnknownOption(OsString),
+    NoCaptureFile,
     NotTwoFiles(usize),
 }
 
@@ -48,7 +51,12 @@ pub fn read(given: impl Iterator<Item = OsString>) -> Result<Asked, Fault> {
         match argument.as_bytes() {
             b"--help" | b"-h" => return Ok(Asked::Help),
             b"--stdin" => arguments.stdin = true,
+            b"--capture" => arguments.capture = Some(capture_file(given.next())?),
             b"--" => files.extend(given.by_ref()),
+            option if option.starts_with(b"--capture=") => {
+                let file = OsStr::from_bytes(&option[b"--capture=".len()..]);
+                arguments.capture = Some(capture_file(Some(file.to_owned()))?);
+            }
             option if option.starts_with(b"-") => return Err(Fault::UnknownOption(argument)),
             _ => files.push(argument),
         }
@@ -61,10 +69,16 @@ pub fn read(given: impl Iterator<Item = OsString>) -> Result<Asked, Fault> {
     Ok(Asked::Serve(arguments))
 }
 
+fn capture_file(given: Option<OsString>) -> Result<PathBuf, Fault> {
+    let file = given.filter(|file| !file.is_empty());
+    file.map(PathBuf::from).ok_or(Fault::NoCaptureFile)
+}
+
 impl fmt::Display for Fault {
     fn fmt(&self, out: &mut fmt::Formatter) -> fmt::Result {
         match self {
             Fault::UnknownOption(option) => write!(out, "no such option: {}", option.display()),
+            Fault::NoCaptureFile => write!(out, "--capture needs a file"),
             Fault::NotTwoFiles(count) => {
                 write!(out, "SOCKET and ROSTER are needed, not {count} files")
             }

@@ -8,6 +8,7 @@
 #![forbid(unsafe_code)]
 
 mod address;
+mod capture;
 mod ended;
 mod listener;
 mod peer;
@@ -16,6 +17,7 @@ mod server;
 mod service;
 
 pub use address::SocketError;
+pub use capture::{Capture, CaptureError, Captured, Rest};
 pub use ended::{Ended, Fault, Undelivered};
 pub use peer::serve;
 pub use say::{say_on_stderr, Say};

@@ -45,6 +45,7 @@ fn run(arguments: &Arguments) -> Result<(), String> {
     let server = Server::start(Settings {
         socket: &arguments.socket,
         roster: &roster,
+        capture: arguments.capture.as_deref(),
         patience: PATIENCE,
         say,
     });
@@ -83,7 +84,7 @@ fn await_stop(stdin: bool) -> io::Result<Receiver<String>> {
     Ok(receiver)
 }
 
-/// Prints the bill, says the rest, and fails where the bill can't be printed.
+/// Prints the bill, says the rest, and fails where the bill or the capture is not whole.
 fn report(totals: &Totals) -> Result<(), String> {
     let Totals {
         counters,
@@ -102,7 +103,14 @@ fn report(totals: &Totals) -> Result<(), String> {
         // Else it would be lost.
         totals.bill.lines().for_each(|line| say(&line));
     }
-    printed
+    match &totals.captured {
+        Some(captured) if captured.fault.is_some() => printed.and(Err(captured.to_string())),
+        Some(captured) => {
+            say(captured);
+            printed
+        }
+        None => printed,
+    }
 }
 
 fn print(text: &str) -> Result<(), String> {

@@ -1,7 +1,7 @@
 //! One connection: bytes read from its peer, handed to the service, and responses written.
 
-use crate::{Ended, Fault, Service, Undelivered};
-use razidkot::{Answer, Connection, LEAST_RESPONSE_BUFFER};
+use crate::{Ended, Fault, Rest, Service, Undelivered};
+use razidkot::{Connection, LEAST_RESPONSE_BUFFER};
 use std::io::{self, ErrorKind, Read, Write};
 use std::net::Shutdown;
 use std::os::unix::net::UnixStream;
@@ -15,13 +15,18 @@ pub fn serve(stream: &UnixStream, service: &Service) -> Ended {
         stream,
         service,
         connection: Connection::open(),
-        unfinished: 0,
+        rest: Rest::default(),
         response: [0; LEAST_RESPONSE_BUFFER],
         undelivered: None,
     };
     let fault = peer.serve().err();
+    let unfinished = match peer.connection.is_closed() {
+        true => 0,
+        false => peer.rest.length(),
+    };
+    service.end(peer.rest);
     Ended {
-        unfinished: peer.unfinished,
+        unfinished,
         undelivered: peer.undelivered,
         fault,
     }
@@ -32,7 +37,7 @@ struct Peer<'a> {
     stream: &'a UnixStream,
     service: &'a Service,
     connection: Connection,
-    unfinished: u64,
+    rest: Rest,
     response: [u8; LEAST_RESPONSE_BUFFER],
     undelivered: Option<Undelivered>,
 }
@@ -59,29 +64,20 @@ impl Peer<'_> {
     fn take(&mut self, chunk: &[u8]) -> Result<(), Fault> {
         let mut left = chunk;
         while !left.is_empty() {
+            let (connection, rest) = (&mut self.connection, &mut self.rest);
             let answer = self
                 .service
-                .call(&mut self.connection, left, &mut self.response)
+                .call(connection, rest, left, &mut self.response)
                 .map_err(|refusal| Fault::NotTaken {
                     refusal,
                     bytes: left.len(),
                 })?;
-            self.count_unfinished(answer);
             if answer.written > 0 {
                 self.deliver(answer.written);
             }
             left = &left[answer.taken..];
         }
         Ok(())
-    }
-
-    /// A response comes at the last byte of its request; on a closed connection there is none.
-    fn count_unfinished(&mut self, answer: Answer) {
-        if answer.written > 0 || self.connection.is_closed() {
-            self.unfinished = 0;
-        } else {
-            self.unfinished += answer.taken as u64;
-        }
     }
 
     /// Writes the response. Once one has failed, part of it may be out, and no other may follow;

@@ -2,7 +2,7 @@
 
 use crate::address::{self, Address, SocketError};
 use crate::listener::{Listener, Sum};
-use crate::{Say, Service};
+use crate::{Capture, CaptureError, Captured, Say, Service};
 use razidkot::{Counters, RosterFault};
 use std::fmt;
 use std::io;
@@ -21,6 +21,8 @@ pub struct Settings<'a> {
     pub socket: &'a Path,
     /// The bytes of a roster file.
     pub roster: &'a [u8],
+    /// Where it appends the requests it answers.
+    pub capture: Option<&'a Path>,
     /// A peer that takes nothing of a response for so long gets no more of them, and a stop takes
     /// hardly longer. Above 0.
     pub patience: Duration,
@@ -51,6 +53,7 @@ pub struct Totals {
     pub unfinished: u64,
     /// Responses that could not be sent.
     pub undelivered: u64,
+    pub captured: Option<Captured>,
 }
 
 /// Why a server is not started.
@@ -58,6 +61,7 @@ pub struct Totals {
 pub enum StartError {
     Roster(RosterFault),
     Socket(PathBuf, SocketError),
+    Capture(PathBuf, CaptureError),
     Thread(io::Error),
 }
 
@@ -68,6 +72,10 @@ impl Server {
         let no_socket = |error| StartError::Socket(settings.socket.to_path_buf(), error);
         let (listener, address) =
             address::listen(settings.socket, settings.say).map_err(no_socket)?;
+        if let Some(path) = settings.capture {
+            let no_capture = |error| StartError::Capture(path.to_path_buf(), error);
+            service.capture(Capture::open(path, settings.say).map_err(no_capture)?);
+        }
         let socket = listener.try_clone();
         let socket = socket.map_err(|error| no_socket(SocketError::Failed(error)))?;
         let stopping = Arc::new(OnceLock::new());
@@ -104,6 +112,7 @@ impl Server {
             connections: sum.connections,
             unfinished: sum.unfinished,
             undelivered: sum.undelivered,
+            captured: self.service.end_capture(),
         }
     }
 }
@@ -113,6 +122,7 @@ impl fmt::Display for StartError {
         match self {
             StartError::Roster(fault) => write!(out, "{fault}: {}", reason(*fault)),
             StartError::Socket(path, error) => write!(out, "{}: {error}", path.display()),
+            StartError::Capture(path, error) => write!(out, "{}: {error}", path.display()),
             StartError::Thread(error) => write!(out, "no thread to accept clients: {error}"),
         }
     }

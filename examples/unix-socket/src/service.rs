@@ -1,5 +1,6 @@
-//! One registry and one set of counters for all connections.
+//! One registry, one set of counters and one capture for all connections.
 
+use crate::{Capture, Captured, Rest};
 use razidkot::{Answer, Connection, Counters, Refusal, Registry, RosterFault};
 use std::sync::{Mutex, MutexGuard};
 
@@ -12,29 +13,62 @@ pub struct Service {
 struct Shared {
     registry: Registry,
     counters: Counters,
+    capture: Option<Capture>,
 }
 
 impl Service {
-    /// The applications of a roster file, no keys, and counters of 0.
+    /// The applications of a roster file, no keys, counters of 0, and nothing captured.
     pub fn load(roster: &[u8]) -> Result<Service, RosterFault> {
         Ok(Service {
             shared: Mutex::new(Shared {
                 registry: Registry::load(roster)?,
                 counters: Counters::default(),
+                capture: None,
             }),
         })
     }
 
-    /// [`Connection::call`] on what is shared. The lock is free again before the response is sent, so
-    /// that a slow peer holds no other one up.
+    /// From now on requests are captured.
+    pub fn capture(&self, capture: Capture) {
+        self.lock().capture = Some(capture);
+    }
+
+    /// [`Connection::call`] on what is shared; `rest` is the connection's own. The lock is free again
+    /// before the response is sent, so that a slow peer holds no other one up.
+    ///
+    /// A request is captured under the lock of the call that answers it, so that requests are
+    /// captured in the order in which they changed the registry.
     pub fn call(
         &self,
         connection: &mut Connection,
+        rest: &mut Rest,
         chunk: &[u8],
         response: &mut [u8],
     ) -> Result<Answer, Refusal> {
         let shared = &mut *self.lock();
-        connection.call(&mut shared.registry, &mut shared.counters, chunk, response)
+        let answer =
+            connection.call(&mut shared.registry, &mut shared.counters, chunk, response)?;
+        rest.add(&chunk[..answer.taken]);
+        // A bad start is answered too, and would close the captured stream in front of all others.
+        if answer.written > 0 && !connection.is_closed() {
+            if let Some(capture) = &mut shared.capture {
+                capture.append(rest);
+            }
+            rest.clear();
+        }
+        Ok(answer)
+    }
+
+    /// A connection has ended, and left this.
+    pub fn end(&self, rest: Rest) {
+        if let Some(capture) = &mut self.lock().capture {
+            capture.keep(rest);
+        }
+    }
+
+    /// Ends the capture, if there is one.
+    pub fn end_capture(&self) -> Option<Captured> {
+        self.lock().capture.take().map(Capture::finish)
     }
 
     /// The counters between two calls.

@@ -3,7 +3,7 @@
 mod common;
 
 use common::client::{import, Client};
-use common::program::{Folder, Output, Program};
+use common::program::{bill, Folder, Output, Program};
 use common::*;
 use razidkot_client::{Operation, Reader};
 use std::io::Write;
@@ -110,7 +110,9 @@ fn count(line: &str) -> u64 {
 #[test]
 fn two_hundred_clients_at_once_are_served_and_counted() {
     let folder = Folder::new("crowd");
-    let program = Program::start(&folder, &[]);
+    let capture = folder.at("capture");
+    let option = format!("--capture={}", capture.display());
+    let program = Program::start(&folder, &[&option]);
     let (sent, output) = run_crowd(&folder.socket(), program);
     let lines: Vec<&str> = output.stdout.lines().collect();
     assert_eq!(lines[0], format!("taken {}", sent.bytes));
@@ -123,6 +125,17 @@ fn two_hundred_clients_at_once_are_served_and_counted() {
         "none is refused"
     );
     assert_eq!(output.count("200 connections; "), 1, "{output:?}");
+
+    // The unfinished requests of fifty can't be in one stream.
+    let taken = format!("taken {}", sent.bytes - sent.unfinished);
+    let expected = output
+        .stdout
+        .replace(lines[0], &taken)
+        .replace(&held, "held 0");
+    assert_eq!(bill(&folder.roster(), &capture), expected);
+    let bytes = sent.unfinished;
+    let left_out = format!("the ends of 50 connections, {bytes} bytes, are left out");
+    assert_eq!(output.count(&left_out), 1, "{output:?}");
 }
 
 // ---- more clients than descriptors
@@ -178,11 +191,14 @@ fn clients_without_a_descriptor_for_them_are_served_later() {
 fn a_stop_without_a_free_descriptor_serves_all_that_wait() {
     for signal in ["TERM", "INT"] {
         let folder = Folder::new(&format!("full-{signal}"));
-        let mut program = Program::start_limited("ulimit -n 64", &folder, &[]);
+        let capture = folder.at("capture");
+        let option = format!("--capture={}", capture.display());
+        let mut program = Program::start_limited("ulimit -n 64", &folder, &[&option]);
         let clients = too_many(&folder.socket());
         program.wait_for("unix-socket: clients wait to be accepted: Too many open files");
         let output = program.stop(signal);
         assert!(output.stdout.contains("\nopen 100\n"), "{output:?}");
+        assert_eq!(output.stdout, bill(&folder.roster(), &capture));
         assert!(!folder.socket().exists());
         for (mut client, mut reader) in clients {
             assert_eq!(client.receive(&mut reader).expect("its response"), 0);

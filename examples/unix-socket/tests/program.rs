@@ -167,7 +167,7 @@ fn help_is_printed_and_wrong_arguments_are_status_2() {
         let output = refused(help);
         assert_eq!(output.status.code(), Some(0));
         assert!(output.stdout.starts_with("usage: unix-socket "));
-        for option in ["--stdin", "--help"] {
+        for option in ["--capture FILE", "--stdin", "--help"] {
             assert!(output.stdout.contains(option), "{option}");
         }
         assert!(output.messages.is_empty());
@@ -185,6 +185,8 @@ fn help_is_printed_and_wrong_arguments_are_status_2() {
         ),
         (&["--quick", "a", "b"], "no such option: --quick"),
         (&["a", "b", "-v"], "no such option: -v"),
+        (&["a", "b", "--capture"], "--capture needs a file"),
+        (&["--capture=", "a", "b"], "--capture needs a file"),
     ] {
         let output = refused(wrong);
         assert_eq!(output.status.code(), Some(2), "{wrong:?}");

@@ -4,7 +4,7 @@ use super::{roster, socket_path, TOO_LONG};
 use std::ffi::OsStr;
 use std::fs;
 use std::io::{BufRead, BufReader, Read};
-use std::path::PathBuf;
+use std::path::{Path, PathBuf};
 use std::process::{Child, Command, ExitStatus, Stdio};
 use std::sync::mpsc::{self, Receiver};
 use std::thread;
@@ -190,4 +190,9 @@ pub fn command(limits: &str, arguments: &[impl AsRef<OsStr>]) -> Command {
 /// What the program says that is run with these and does not start.
 pub fn refused(arguments: &[impl AsRef<OsStr>]) -> Output {
     Program::run("true", arguments).end()
+}
+
+/// The lines of a bill that `bill` prints of these files.
+pub fn bill(roster: &Path, capture: &Path) -> String {
+    razidkot_tests::bill::text(razidkot_tests::bill::printed(&[roster, capture]))
 }

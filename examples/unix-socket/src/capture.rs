@@ -1,0 +1,210 @@
+//! The captured stream: what calls on all connections took, so that `bill` comes to the same as the
+//! server. Requests stand in it whole, in the order in which they were answered; the README has the
+//! reasons.
+
+use crate::Say;
+use std::fmt;
+use std::fs::{File, OpenOptions, TryLockError};
+use std::io::{self, Write};
+use std::path::{Path, PathBuf};
+
+/// So many bytes of a request stand as they came, the longest that is read. Behind them are only
+/// bytes that are skipped or dropped, and zeros stand for those.
+const KEPT: usize = 4_422;
+
+/// What a connection has taken behind its last whole request.
+#[derive(Debug, Default)]
+pub struct Rest {
+    front: Vec<u8>,
+    length: u64,
+}
+
+impl Rest {
+    pub fn add(&mut self, taken: &[u8]) {
+        let kept = taken.len().min(KEPT - self.front.len());
+        self.front.extend(&taken[..kept]);
+        self.length += taken.len() as u64;
+    }
+
+    pub fn clear(&mut self) {
+        self.front.clear();
+        self.length = 0;
+    }
+
+    /// How many bytes, those included that zeros stand for.
+    pub fn length(&self) -> u64 {
+        self.length
+    }
+}
+
+/// The file, at the end of which each answered request is written.
+#[derive(Debug)]
+pub struct Capture {
+    path: PathBuf,
+    file: File,
+    begin: u64,
+    end: u64,
+    fault: Option<io::Error>,
+    rests: Rests,
+    say: Say,
+}
+
+/// What connections had when they ended. A stream can have one rest, at its end.
+#[derive(Debug, Default)]
+struct Rests {
+    first: Option<Rest>,
+    connections: u64,
+    bytes: u64,
+}
+
+/// A capture that has ended.
+#[derive(Debug)]
+pub struct Captured {
+    pub path: PathBuf,
+    /// Where this run's stream begins in the file, and where it ends.
+    pub begin: u64,
+    pub end: u64,
+    /// Connections whose rests were left out, and their bytes.
+    pub connections: u64,
+    pub bytes: u64,
+    /// Why nothing was written behind `end`, though there was more.
+    pub fault: Option<io::Error>,
+}
+
+/// Why there is no capture.
+#[derive(Debug)]
+pub enum CaptureError {
+    /// Another program captures into it.
+    Locked,
+    /// A pipe or a device, which can't be cut back to its last whole request.
+    NoFile,
+    Failed(io::Error),
+}
+
+impl Capture {
+    /// Goes on behind what the file has, which is made if it is not there.
+    pub fn open(path: &Path, say: Say) -> Result<Capture, CaptureError> {
+        // A pipe that nobody reads would keep it waiting.
+        if path.metadata().is_ok_and(|found| !found.is_file()) {
+            return Err(CaptureError::NoFile);
+        }
+        let file = OpenOptions::new().create(true).append(true).open(path)?;
+        match file.try_lock() {
+            Ok(()) => {}
+            Err(TryLockError::WouldBlock) => return Err(CaptureError::Locked),
+            Err(TryLockError::Error(error)) => return Err(CaptureError::Failed(error)),
+        }
+        let begin = file.metadata()?.len();
+        if begin > 0 {
+            let path = path.display();
+            say(&format_args!("{path}: captures behind its {begin} bytes"));
+        }
+        Ok(Capture {
+            path: path.to_path_buf(),
+            file,
+            begin,
+            end: begin,
+            fault: None,
+            rests: Rests::default(),
+            say,
+        })
+    }
+
+    /// Appends a request. The first one that can't be written whole is the last that is tried: with
+    /// a gap in it the stream would have another bill.
+    pub fn append(&mut self, request: &Rest) {
+        if self.fault.is_some() {
+            return;
+        }
+        if let Err(error) = self.write(request) {
+            let (path, end) = (self.path.display(), self.end);
+            (self.say)(&format_args!(
+                "{path}: {error}; nothing is captured behind byte {end}"
+            ));
+            // A part of the request may stand there.
+            let cut = self.file.set_len(end);
+            self.fault = Some(cut.err().unwrap_or(error));
+        }
+    }
+
+    fn write(&mut self, request: &Rest) -> io::Result<()> {
+        let end = self.end + request.length;
+        self.file.write_all(&request.front)?;
+        // Zeros without writing them: up to four gigabytes, while all connections wait.
+        if request.length > request.front.len() as u64 {
+            self.file.set_len(end)?;
+        }
+        self.end = end;
+        Ok(())
+    }
+
+    /// A connection has ended with this rest.
+    pub fn keep(&mut self, rest: Rest) {
+        if rest.length > 0 {
+            self.rests.connections += 1;
+            self.rests.bytes += rest.length;
+            self.rests.first.get_or_insert(rest);
+        }
+    }
+
+    /// Appends the rest if there is only one.
+    pub fn finish(mut self) -> Captured {
+        let mut rests = std::mem::take(&mut self.rests);
+        if let (1, Some(rest)) = (rests.connections, &rests.first) {
+            self.append(rest);
+            rests = Rests::default();
+        }
+        let synced = self.file.sync_all();
+        Captured {
+            path: self.path,
+            begin: self.begin,
+            end: self.end,
+            connections: rests.connections,
+            bytes: rests.bytes,
+            fault: self.fault.or(synced.err()),
+        }
+    }
+}
+
+impl fmt::Display for Captured {
+    fn fmt(&self, out: &mut fmt::Formatter) -> fmt::Result {
+        let Captured {
+            path,
+            begin,
+            end,
+            connections,
+            bytes,
+            fault,
+        } = self;
+        let path = path.display();
+        write!(out, "{path}: captured bytes {begin} to {end}")?;
+        if let Some(error) = fault {
+            return write!(out, ", and not all that was taken: {error}");
+        }
+        match connections {
+            0 => write!(out, ", with the same bill"),
+            _ => write!(
+                out,
+                "; the ends of {connections} connections, {bytes} bytes, are left out"
+            ),
+        }
+    }
+}
+
+impl From<io::Error> for CaptureError {
+    fn from(error: io::Error) -> CaptureError {
+        CaptureError::Failed(error)
+    }
+}
+
+impl fmt::Display for CaptureError {
+    fn fmt(&self, out: &mut fmt::Formatter) -> fmt::Result {
+        match self {
+            CaptureError::Locked => write!(out, "another program captures into it"),
+            CaptureError::NoFile => write!(out, "not a file that can be captured into"),
+            CaptureError::Failed(error) => write!(out, "can't be captured into: {error}"),
+        }
+    }
+}
+
+impl std::error::Error for CaptureError {}
