@@ -62,7 +62,7 @@ impl fmt::Display for Undelivered {
         } = self;
         write!(
             out,
-            "{responses} responses not delivered, {bytes} bytes: {error}"
+            "responses not delivered: {responses}, of {bytes} bytes: {error}"
         )
     }
 }
