@@ -270,6 +270,22 @@ fn a_second_run_goes_on_behind_the_first() {
     }
 }
 
+#[test]
+fn a_server_that_is_killed_leaves_every_answered_request() {
+    let folder = Folder::new("killed");
+    let capture = folder.at("capture");
+    let option = format!("--capture={}", capture.display());
+    let program = Program::start(&folder, &[&option]);
+    let mut client = Client::connect(&folder.socket(), Some(NAMES[0]));
+    for _ in 0..50 {
+        assert_eq!(client.ask(Operation::Ping), 0);
+    }
+    program.signal("KILL");
+    assert_eq!(program.end().stdout, "");
+    let printed = bill(&folder.roster(), &capture);
+    assert!(printed.contains("\nline 0 archive 50\n"), "{printed}");
+}
+
 /// As on a full disk: the file may have no more than so many blocks.
 #[test]
 fn a_capture_that_can_not_be_written_is_cut_at_a_request_and_said() {
