@@ -1,6 +1,15 @@
-/* The statuses of a response, for razidkot.h and razidkot_client.h alike: each includes this file. C99 and C++. */
+/* The version and the statuses of a response, for razidkot.h and razidkot_client.h alike: each includes this file. C99 and C++. */
 #ifndef RAZIDKOT_STATUS_H
 #define RAZIDKOT_STATUS_H
+
+/*
+ * The version of the headers, of both archives, of their pkg-config files and of the Rust crates. Sizes, codes and
+ * counters may differ between two versions: link the archive of the headers' own.
+ */
+#define RAZIDKOT_VERSION_MAJOR 0
+#define RAZIDKOT_VERSION_MINOR 1
+#define RAZIDKOT_VERSION_PATCH 0
+#define RAZIDKOT_VERSION "0.1.0"
 
 /* The status of a response, its last two header bytes (24 and 25), little-endian. */
 enum razidkot_status {

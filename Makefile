@@ -1,0 +1,82 @@
+# Builds and installs the compiled service, the compiled client and the program that bills.
+#
+#     make                              proves and builds them: minutes the first time
+#     make install PREFIX=/usr/local    .. and installs them; DESTDIR=FOLDER puts the same files below another folder
+#     make uninstall PREFIX=/usr/local
+#
+# It needs rt, and what every Linux has. The version is that of the headers.
+
+PREFIX = /usr/local
+DESTDIR =
+bindir = $(PREFIX)/bin
+includedir = $(PREFIX)/include
+libdir = $(PREFIX)/lib
+pkgconfigdir = $(libdir)/pkgconfig
+mandir = $(PREFIX)/share/man
+
+version := $(shell sed -nE 's/^.define RAZIDKOT_VERSION "(.*)"$$/\1/p' include/razidkot_status.h)
+headers := razidkot.h razidkot_client.h razidkot_status.h
+# Each function has a page that points to that of its header.
+functions_of = $(shell sed -nE 's/^[a-z0-9_]+ (razidkot_[a-z_]+)\$(paren).*/\1/p' include/$(1).h)
+# One that make doesn't count.
+paren := (
+service_functions := $(call functions_of,razidkot)
+client_functions := $(call functions_of,razidkot_client)
+
+bin = $(DESTDIR)$(bindir)
+include = $(DESTDIR)$(includedir)
+lib = $(DESTDIR)$(libdir)
+pkgconfig = $(DESTDIR)$(pkgconfigdir)
+man = $(DESTDIR)$(mandir)
+
+built := target/staticlib/libabi.a target/staticlib/libclient_abi.a target/bin/bill
+sources := crates.txt $(shell find crates -name '*.rt' -o -name '*.antt')
+
+# What stands below PREFIX is said in its terms, so that pkg-config can move it.
+below_prefix = $(patsubst $(PREFIX)/%,$${prefix}/%,$(1))
+fill_in = sed -e 's|@PREFIX@|$(PREFIX)|' -e 's|@LIBDIR@|$(call below_prefix,$(libdir))|' \
+	-e 's|@INCLUDEDIR@|$(call below_prefix,$(includedir))|' -e 's|@VERSION@|$(version)|'
+
+.PHONY: all install uninstall absolute
+# Two runs of rt would write one target/.
+.NOTPARALLEL:
+
+all: $(built)
+
+# rt leaves alone what has not changed: the file is as new as what it was made from.
+target/staticlib/lib%.a: $(sources)
+	./prove staticlib $*
+	touch $@
+target/bin/%: $(sources)
+	./prove check $*
+	touch $@
+
+absolute:
+	@case '$(PREFIX)' in /*) ;; *) echo 'make: PREFIX has to begin with /' >&2; exit 1 ;; esac
+
+install: absolute $(built)
+	install -d '$(bin)' '$(include)' '$(lib)' '$(pkgconfig)' '$(man)/man1' '$(man)/man3'
+	install -m 755 target/bin/bill '$(bin)/razidkot-bill'
+	install -m 644 $(headers:%=include/%) '$(include)'
+	install -m 644 target/staticlib/libabi.a '$(lib)/librazidkot.a'
+	install -m 644 target/staticlib/libclient_abi.a '$(lib)/librazidkot_client.a'
+	for name in razidkot razidkot-client; do \
+		$(fill_in) "pkgconfig/$$name.pc.in" >'$(pkgconfig)'/"$$name.pc" || exit; \
+		chmod 644 '$(pkgconfig)'/"$$name.pc" || exit; \
+	done
+	install -m 644 man/razidkot-bill.1 '$(man)/man1'
+	install -m 644 man/razidkot.3 man/razidkot_client.3 '$(man)/man3'
+	for name in $(service_functions); do \
+		echo '.so man3/razidkot.3' >'$(man)/man3'/"$$name.3" && chmod 644 '$(man)/man3'/"$$name.3" || exit; \
+	done
+	for name in $(client_functions); do \
+		echo '.so man3/razidkot_client.3' >'$(man)/man3'/"$$name.3" && chmod 644 '$(man)/man3'/"$$name.3" || exit; \
+	done
+
+# The folders may be others' too, and stay.
+uninstall: absolute
+	rm -f '$(bin)/razidkot-bill' $(headers:%='$(include)'/%)
+	rm -f '$(lib)/librazidkot.a' '$(lib)/librazidkot_client.a'
+	rm -f '$(pkgconfig)/razidkot.pc' '$(pkgconfig)/razidkot-client.pc'
+	rm -f '$(man)/man1/razidkot-bill.1' '$(man)/man3/razidkot.3' '$(man)/man3/razidkot_client.3'
+	rm -f $(service_functions:%='$(man)/man3'/%.3) $(client_functions:%='$(man)/man3'/%.3)
