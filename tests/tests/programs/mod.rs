@@ -1,11 +1,11 @@
 //! Programs compiled and run by the tests of what embeds the archives.
+// Each test file has need of some of it.
+#![allow(dead_code)]
 
 use std::path::{Path, PathBuf};
 use std::process::Command;
 
 pub const C: [&str; 3] = ["cc", "-xc", "-std=c99"];
-// One test file compiles no C++.
-#[allow(dead_code)]
 pub const CPP: [&str; 3] = ["c++", "-xc++", "-std=c++11"];
 
 pub fn repository() -> &'static Path {
