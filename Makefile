@@ -30,7 +30,8 @@ pkgconfig = $(DESTDIR)$(pkgconfigdir)
 man = $(DESTDIR)$(mandir)
 
 built := target/staticlib/libabi.a target/staticlib/libclient_abi.a target/bin/bill
-sources := crates.txt $(shell find crates -name '*.rt' -o -name '*.antt')
+# A folder is newer when a file of it is gone.
+sources := crates.txt $(shell find crates -name '*.rt' -o -name '*.antt' -o -type d)
 
 # What stands below PREFIX is said in its terms, so that pkg-config can move it.
 below_prefix = $(patsubst $(PREFIX)/%,$${prefix}/%,$(1))
