@@ -23,11 +23,11 @@ paren := (
 service_functions := $(call functions_of,razidkot)
 client_functions := $(call functions_of,razidkot_client)
 
-bin = $(DESTDIR)$(bindir)
-include = $(DESTDIR)$(includedir)
-lib = $(DESTDIR)$(libdir)
-pkgconfig = $(DESTDIR)$(pkgconfigdir)
-man = $(DESTDIR)$(mandir)
+to_bin = $(DESTDIR)$(bindir)
+to_include = $(DESTDIR)$(includedir)
+to_lib = $(DESTDIR)$(libdir)
+to_pkgconfig = $(DESTDIR)$(pkgconfigdir)
+to_man = $(DESTDIR)$(mandir)
 
 built := target/staticlib/libabi.a target/staticlib/libclient_abi.a target/bin/bill
 # A folder is newer when a file of it is gone.
@@ -56,28 +56,28 @@ absolute:
 	@case '$(PREFIX)' in /*) ;; *) echo 'make: PREFIX has to begin with /' >&2; exit 1 ;; esac
 
 install: absolute $(built)
-	install -d '$(bin)' '$(include)' '$(lib)' '$(pkgconfig)' '$(man)/man1' '$(man)/man3'
-	install -m 755 target/bin/bill '$(bin)/razidkot-bill'
-	install -m 644 $(headers:%=include/%) '$(include)'
-	install -m 644 target/staticlib/libabi.a '$(lib)/librazidkot.a'
-	install -m 644 target/staticlib/libclient_abi.a '$(lib)/librazidkot_client.a'
+	install -d '$(to_bin)' '$(to_include)' '$(to_lib)' '$(to_pkgconfig)' '$(to_man)/man1' '$(to_man)/man3'
+	install -m 755 target/bin/bill '$(to_bin)/razidkot-bill'
+	install -m 644 $(headers:%=include/%) '$(to_include)'
+	install -m 644 target/staticlib/libabi.a '$(to_lib)/librazidkot.a'
+	install -m 644 target/staticlib/libclient_abi.a '$(to_lib)/librazidkot_client.a'
 	for name in razidkot razidkot-client; do \
-		$(fill_in) "pkgconfig/$$name.pc.in" >'$(pkgconfig)'/"$$name.pc" || exit; \
-		chmod 644 '$(pkgconfig)'/"$$name.pc" || exit; \
+		$(fill_in) "pkgconfig/$$name.pc.in" >'$(to_pkgconfig)'/"$$name.pc" || exit; \
+		chmod 644 '$(to_pkgconfig)'/"$$name.pc" || exit; \
 	done
-	install -m 644 man/razidkot-bill.1 '$(man)/man1'
-	install -m 644 man/razidkot.3 man/razidkot_client.3 '$(man)/man3'
+	install -m 644 man/razidkot-bill.1 '$(to_man)/man1'
+	install -m 644 man/razidkot.3 man/razidkot_client.3 '$(to_man)/man3'
 	for name in $(service_functions); do \
-		echo '.so man3/razidkot.3' >'$(man)/man3'/"$$name.3" && chmod 644 '$(man)/man3'/"$$name.3" || exit; \
+		echo '.so man3/razidkot.3' >'$(to_man)/man3'/"$$name.3" && chmod 644 '$(to_man)/man3'/"$$name.3" || exit; \
 	done
 	for name in $(client_functions); do \
-		echo '.so man3/razidkot_client.3' >'$(man)/man3'/"$$name.3" && chmod 644 '$(man)/man3'/"$$name.3" || exit; \
+		echo '.so man3/razidkot_client.3' >'$(to_man)/man3'/"$$name.3" && chmod 644 '$(to_man)/man3'/"$$name.3" || exit; \
 	done
 
 # The folders may be others' too, and stay.
 uninstall: absolute
-	rm -f '$(bin)/razidkot-bill' $(headers:%='$(include)'/%)
-	rm -f '$(lib)/librazidkot.a' '$(lib)/librazidkot_client.a'
-	rm -f '$(pkgconfig)/razidkot.pc' '$(pkgconfig)/razidkot-client.pc'
-	rm -f '$(man)/man1/razidkot-bill.1' '$(man)/man3/razidkot.3' '$(man)/man3/razidkot_client.3'
-	rm -f $(service_functions:%='$(man)/man3'/%.3) $(client_functions:%='$(man)/man3'/%.3)
+	rm -f '$(to_bin)/razidkot-bill' $(headers:%='$(to_include)'/%)
+	rm -f '$(to_lib)/librazidkot.a' '$(to_lib)/librazidkot_client.a'
+	rm -f '$(to_pkgconfig)/razidkot.pc' '$(to_pkgconfig)/razidkot-client.pc'
+	rm -f '$(to_man)/man1/razidkot-bill.1' '$(to_man)/man3/razidkot.3' '$(to_man)/man3/razidkot_client.3'
+	rm -f $(service_functions:%='$(to_man)/man3'/%.3) $(client_functions:%='$(to_man)/man3'/%.3)

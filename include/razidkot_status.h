@@ -1,4 +1,4 @@
-/* The version and the statuses of a response, for razidkot.h and razidkot_client.h alike: each includes this file. C99 and C++. */
+/* The version, and the statuses of a response, for razidkot.h and razidkot_client.h: each includes it. C99 and C++. */
 #ifndef RAZIDKOT_STATUS_H
 #define RAZIDKOT_STATUS_H
 
