@@ -94,6 +94,10 @@ impl Archive {
 
     /// Under the name that it is installed by, or under that which `rt staticlib` gives it.
     fn in_lib_dir(&self, folder: &Path) -> Result<Found, String> {
+        // From here and from the linker's folder it would be two.
+        if folder.is_relative() {
+            return Err(format!("{LIB_DIR} has to begin with /"));
+        }
         let names = [&self.library, &self.rattle_crate];
         let found = names.into_iter().find_map(|name| Self::found(folder, name));
         found.ok_or_else(|| {

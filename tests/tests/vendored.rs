@@ -117,6 +117,10 @@ fn a_crate_whose_archive_is_nowhere_says_how_it_is_found() {
         &["RAZIDKOT_LIB_DIR is ", "where neither librazidkot"],
     );
     expect_refused(
+        run(&package).env("RAZIDKOT_LIB_DIR", "archives"),
+        &["RAZIDKOT_LIB_DIR has to begin with /"],
+    );
+    expect_refused(
         run(&package).env("PKG_CONFIG", "no-such-program"),
         &["no-such-program", "RAZIDKOT_LIB_DIR"],
     );
