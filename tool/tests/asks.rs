@@ -13,7 +13,7 @@ use std::os::unix::net::{UnixListener, UnixStream};
 use std::path::{Path, PathBuf};
 use std::thread::{self, JoinHandle};
 use std::time::Duration;
-use unix_socket::Server;
+use unix_socket::{Server, Settings};
 
 /// No test waits so long unless something hangs.
 const TOO_LONG: Duration = Duration::from_secs(60);
@@ -35,7 +35,14 @@ impl Service {
     fn start(test: &str) -> Service {
         let socket = socket_path(test);
         let roster = [record(1, b"scanner"), record(1, b"viewer")].concat();
-        let server = Server::start(&socket, &roster, TOO_LONG).expect("a free path");
+        let server = Server::start(Settings {
+            socket: &socket,
+            roster: &roster,
+            capture: None,
+            patience: TOO_LONG,
+            say: |_| (),
+        })
+        .expect("a free path");
         Service { socket, server }
     }
 
@@ -50,7 +57,7 @@ impl Service {
 
     /// Stops it; so many requests were served for `scanner`.
     fn stop(self, served: u64) {
-        let totals = self.server.stop().expect("a server that stops");
+        let totals = self.server.stop();
         assert_eq!(totals.counters.served[0], served);
         assert_eq!((totals.unfinished, totals.undelivered), (0, 0));
     }
