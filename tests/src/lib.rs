@@ -1,6 +1,7 @@
 //! What the tests under tests/ share: the compiled leaves, oracles for those that the reference
 //! has no public function for, generated inputs, and calls made to the compiled service or client and
-//! to the reference alike.
+//! to the reference alike. The Rust of README.md and docs/INTEGRATOR.md is tested here too.
+#![doc(test(attr(deny(warnings), allow(dead_code))))]
 
 pub mod ask;
 pub mod bill;
@@ -24,3 +25,12 @@ pub mod reached;
 pub mod requests;
 pub mod run;
 pub mod service;
+
+// Each block stands by itself, and compiles without a warning.
+#[cfg(doctest)]
+#[doc = include_str!("../../README.md")]
+pub struct Readme;
+
+#[cfg(doctest)]
+#[doc = include_str!("../../docs/INTEGRATOR.md")]
+pub struct Integrator;

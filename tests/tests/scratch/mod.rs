@@ -1,4 +1,6 @@
 //! A folder outside the repository, removed with all that is in it when the test is over.
+// Each test file has need of some of it.
+#![allow(dead_code)]
 
 use std::fs;
 use std::path::{Path, PathBuf};
