@@ -286,7 +286,8 @@ fn the_operations_are_those_of_the_enum_and_the_header() {
 fn the_statuses_are_those_of_the_enum_and_the_header() {
     let rows = table(&page(), "## Statuses", "| Status | Name | When |");
     let statuses = [&[Status::Success][..], &Status::REFUSED].concat();
-    let header = header_numbers("include/razidkot_status.h", "RAZIDKOT_");
+    let mut header = header_numbers("include/razidkot_status.h", "RAZIDKOT_");
+    header.retain(|name, _| !name.starts_with("VERSION_"));
     assert_numbers(&rows, &statuses, |case| case.number().into(), header);
 }
 
