@@ -17,6 +17,7 @@ NEEDED = [
     "cargo build ",
     "razidkot roster make ",
     "unix-socket --capture ",
+    "until grep -qs listening ",
     "openssl genpkey ",
     "razidkot ask keys.socket import ",
     "razidkot ask keys.socket export ",
@@ -27,8 +28,6 @@ NEEDED = [
 ]
 LEAST_STEPS = 20
 MARK = "--- the status is"
-# A job may be slow to start; the next line is for when it listens.
-LISTENS = "for turn in {1..200}; do grep -qs listening server.log && break; sleep 0.05; done"
 # Minutes, for a machine that has other work; the afternoon takes seconds.
 LONGEST = 240
 
@@ -68,10 +67,7 @@ def script_of(commands):
     old = " ".join(f"-o {name}" for name in BUILT)
     lines = [f'make() {{ command make {old} "$@"; }}']
     for command in commands:
-        lines += [command, f'status=$?; echo "{MARK} $status"']
-        if command.endswith("&"):
-            lines.append(LISTENS)
-        lines.append("(exit $status)")
+        lines += [command, f'status=$?; echo "{MARK} $status"; (exit $status)']
     return "\n".join(lines)
 
 
@@ -98,21 +94,22 @@ def typed(commands, scratch, longest=LONGEST):
     try:
         out, _ = shell.communicate(timeout=longest)
     except subprocess.TimeoutExpired:
-        raise Refused(f"not over after {longest} s") from None
+        kill(shell)
+        out, _ = shell.communicate()
+        raise Refused(f"not over after {longest} s:\n{out}") from None
     finally:
-        end(shell)
+        kill(shell)
     parts = re.split(rf"^{MARK} (\d+)\n", out, flags=re.MULTILINE)
     said = [part.splitlines() for part in parts[0:-1:2]]
     return list(zip(said, map(int, parts[1::2])))
 
 
-def end(shell):
+def kill(shell):
     """Kills the shell and the server that it may have left: they are a group of their own."""
     try:
         os.killpg(shell.pid, signal.SIGKILL)
     except ProcessLookupError:
         pass
-    shell.communicate()
 
 
 def check_typed(steps, done):
@@ -193,8 +190,8 @@ class OtherTranscripts(Afternoon):
 
     def test_what_is_left_running_is_killed(self):
         left = self.scratch / "left"
-        reason = self.refused(f"$ sleep 600 & echo $! >{left}", longest=1)
-        self.assertIn("not over after 1 s", reason)
+        reason = self.refused(f"$ echo so far; sleep 600 & echo $! >{left}", longest=1)
+        self.assertTrue(reason.startswith("not over after 1 s:\nso far\n"), reason)
         # One that was killed stands there until somebody waits for it.
         status = Path("/proc") / left.read_text().strip() / "status"
         self.assertTrue(not status.exists() or "\nState:\tZ" in status.read_text())
