@@ -1,5 +1,6 @@
 pub mod VarintLaws
 pub mod FieldLaws
+pub mod GroupLaws
 pub mod StepLaws
 pub mod BodyLaws
 pub mod WrittenLaws

@@ -1,4 +1,5 @@
 pub mod Varint
 pub mod Field
+pub mod Group
 pub mod Written
 pub mod code

@@ -2,6 +2,7 @@
 // their fields").
 pub mod body;
 pub mod field;
+pub mod group;
 pub mod message;
 pub mod reader;
 pub mod varint;

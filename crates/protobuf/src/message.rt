@@ -2,7 +2,10 @@
 // ("Operations and their fields").
 use crate::field::Field;
 use crate::field::read_field;
+use crate::group::Group;
+use crate::group::skip_group;
 ghost use mathlib.Core.Path.{_≡_};
+ghost use Rattle.protobuf.specs.Group.{depthMost, groupAt};
 ghost use Rattle.protobuf.specs.code.Message as message;
 
 // What a field number stands for in a message.
@@ -37,9 +40,10 @@ pub struct Values {
     pub f5: Value,
 }
 
-// What a reader does with a field: keep a value under a number and go on, or refuse the body.
+// What a reader does with a field: keep a value under a number and go on, skip it, or refuse the body.
 pub enum Item {
     Keep(u64, Value, usize),
+    Skip(usize),
     Refuse,
 }
 
@@ -132,8 +136,8 @@ fn of_number(kind: Kind, n: u64, v: u64, next: usize) -> Item
                 next,
             )
         }
-        Kind::Bytes => Item::Refuse,
-        Kind::Unlisted => Item::Refuse,
+        Kind::Bytes => Item::Skip(next),
+        Kind::Unlisted => Item::Skip(next),
     }
 }
 
@@ -150,15 +154,25 @@ fn of_span(kind: Kind, n: u64, start: usize, len: usize, next: usize) -> Item
             },
             next,
         ),
-        Kind::Uint32 => Item::Refuse,
-        Kind::Boolean => Item::Refuse,
-        Kind::Unlisted => Item::Refuse,
+        Kind::Uint32 => Item::Skip(next),
+        Kind::Boolean => Item::Skip(next),
+        Kind::Unlisted => Item::Skip(next),
+    }
+}
+
+// A group is skipped whole, whatever its number stands for.
+fn of_group(s: &[u8], number: u64, at: usize) -> Item
+    ensures { λ r. ⌜ r ≡ message.ofGroup (groupAt depthMost (now (s .entry)) number at) ⌝ }
+{
+    match skip_group(s, number, at) {
+        Group::Skipped(next) => Item::Skip(next),
+        Group::Unreadable => Item::Refuse,
     }
 }
 
 // What a reader of the schema does with a field.
-fn item_of(k: Schema, f: Field) -> Item
-    ensures { λ r. ⌜ r ≡ message.itemOf k f ⌝ }
+fn item_of(s: &[u8], k: Schema, f: Field) -> Item
+    ensures { λ r. ⌜ r ≡ message.itemOf k (now (s .entry)) f ⌝ }
 {
     match f {
         Field::Number {
@@ -172,8 +186,8 @@ fn item_of(k: Schema, f: Field) -> Item
             len,
             next,
         } => of_span(kind_of(k, number), number, start, len, next),
-        Field::Fixed { number: _, next: _ } => Item::Refuse,
-        Field::GroupStart { number: _, next: _ } => Item::Refuse,
+        Field::Fixed { number: _, next } => Item::Skip(next),
+        Field::GroupStart { number, next } => of_group(s, number, next),
         Field::GroupEnd { number: _, next: _ } => Item::Refuse,
         Field::Unreadable => Item::Refuse,
     }
@@ -183,8 +197,9 @@ fn item_of(k: Schema, f: Field) -> Item
 pub fn read_step(s: &[u8], at: usize, k: Schema, m: Values) -> Step
     ensures { λ r. ⌜ r ≡ message.stepAt k (now (s .entry)) at m ⌝ }
 {
-    match item_of(k, read_field(s, at)) {
+    match item_of(s, k, read_field(s, at)) {
         Item::Keep(n, v, next) => Step::Next(with_value(m, n, v), next),
+        Item::Skip(next) => Step::Next(m, next),
         Item::Refuse => Step::Refuse,
     }
 }

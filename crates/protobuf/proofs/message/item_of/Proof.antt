@@ -28,51 +28,44 @@ kind-of-requires-2 c κs = search needs
 of-span-requires : tie.Need-of-span-requires
 of-span-requires c κs = search needs
 
--- src/lib.rt:282:48
+enum-known-f-3 : tie.Need-enum-known-f-3
+enum-known-f-3 c = search needs
+
+enum-known-f-4 : tie.Need-enum-known-f-4
+enum-known-f-4 c = search needs
+
+of-group-requires : tie.Need-of-group-requires
+of-group-requires c κs = search needs
+
 enum-told : tie.Need-enum-told
 enum-told c = search needs
 
--- src/lib.rt:283:47
 enum-told-2 : tie.Need-enum-told-2
 enum-told-2 c = search needs
 
--- src/lib.rt:284:48
-enum-told-3 : tie.Need-enum-told-3
-enum-told-3 c = search needs
-
--- src/lib.rt:285:30
-enum-told-4 : tie.Need-enum-told-4
-enum-told-4 c = search needs
-
--- src/lib.rt:276:1
 returns : tie.Need-returns
 unfolding itemOf
 returns c = rw (c .before .before .before .f .given .1) (rw (c .before .kind-of .ensures) at (c .of-number .ensures))
 
--- src/lib.rt:276:1
 returns-2 : tie.Need-returns-2
 unfolding itemOf
 returns-2 c = rw (c .before .before .before .f2 .given .1) (rw (c .before .kind-of2 .ensures) at (c .of-span .ensures))
 
--- src/lib.rt:276:1
 returns-3 : tie.Need-returns-3
 unfolding itemOf
-returns-3 c = rw (c .enum-told .given .1)
+returns-3 c = rw (c .before .f3 .given .1)
 
--- src/lib.rt:276:1
 returns-4 : tie.Need-returns-4
 unfolding itemOf
-returns-4 c = rw (c .enum-told2 .given .1)
+returns-4 c = rw (c .before .before .f4 .given .1) (c .of-group .ensures)
 
--- src/lib.rt:276:1
 returns-5 : tie.Need-returns-5
 unfolding itemOf
-returns-5 c = rw (c .enum-told3 .given .1)
+returns-5 c = rw (c .enum-told .given .1)
 
--- src/lib.rt:276:1
 returns-6 : tie.Need-returns-6
 unfolding itemOf
-returns-6 c = rw (c .enum-told4 .given .1)
+returns-6 c = rw (c .enum-told2 .given .1)
 
 pub item-of-spec : {M : Type 1} → statement M
 item-of-spec =
@@ -84,10 +77,11 @@ item-of-spec =
     enum-known-f-2
     kind-of-requires-2
     of-span-requires
+    enum-known-f-3
+    enum-known-f-4
+    of-group-requires
     enum-told
     enum-told-2
-    enum-told-3
-    enum-told-4
     returns
     returns-2
     returns-3

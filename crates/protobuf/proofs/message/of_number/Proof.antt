@@ -38,11 +38,11 @@ returns-3 c = rw (c .before .enum-told2 .given .1, ne-eqb _ _ (c .if1 .left))
 
 -- src/lib.rt:229:1
 returns-4 : tie.Need-returns-4
-returns-4 c = search needs
+returns-4 c = rw (c .enum-told3 .given .1)
 
 -- src/lib.rt:229:1
 returns-5 : tie.Need-returns-5
-returns-5 c = search needs
+returns-5 c = rw (c .enum-told4 .given .1)
 
 pub of-number-spec : {M : Type 1} → statement M
 of-number-spec =

@@ -2,6 +2,7 @@
 use Rattle.protobuf.specs.code.Message.{itemOf, stepAt}
 use mathlib.Core.Path.{ap, sym, _∙_}
 use borrow.Author.Needs.{needs}
+use denote.Ref.{now}
 use Rattle.protobuf.proofs.message.read_step.Statement.{statement}
 use Rattle.protobuf.proofs.message.read_step.Tie as tie
 
@@ -21,23 +22,29 @@ enum-known-n c = search needs
 with-value-requires : tie.Need-with-value-requires
 with-value-requires c κs = search needs
 
--- src/lib.rt:285:25
+enum-known-next : tie.Need-enum-known-next
+enum-known-next c = search needs
+
 enum-told : tie.Need-enum-told
 enum-told c = search needs
 
--- src/lib.rt:280:1
 returns : tie.Need-returns
 unfolding stepAt
 returns c =
-    let k = c .before .before .before .before .before .before .before .args .k in
-    rw (c .with-value .ensures, sym (c .before .before .before .before .item-of .ensures ∙ ap (itemOf k) (c .before .before .before .before .before .read-field .ensures)) ∙ c .before .before .n .given .1)
+    let a = c .before .before .before .before .before .before .before .args in
+    rw (c .with-value .ensures, sym (c .before .before .before .before .item-of .ensures ∙ ap (itemOf (a .k) (now (a .s))) (c .before .before .before .before .before .read-field .ensures)) ∙ c .before .before .n .given .1)
 
--- src/lib.rt:280:1
 returns-2 : tie.Need-returns-2
 unfolding stepAt
 returns-2 c =
-    let k = c .before .before .before .before .before .args .k in
-    rw (sym (c .before .before .item-of .ensures ∙ ap (itemOf k) (c .before .before .before .read-field .ensures)) ∙ c .enum-told .given .1)
+    let a = c .before .before .before .before .before .before .args in
+    rw (sym (c .before .before .before .item-of .ensures ∙ ap (itemOf (a .k) (now (a .s))) (c .before .before .before .before .read-field .ensures)) ∙ c .before .next .given .1)
+
+returns-3 : tie.Need-returns-3
+unfolding stepAt
+returns-3 c =
+    let a = c .before .before .before .before .before .args in
+    rw (sym (c .before .before .item-of .ensures ∙ ap (itemOf (a .k) (now (a .s))) (c .before .before .before .read-field .ensures)) ∙ c .enum-told .given .1)
 
 pub read-step-spec : {M : Type 1} → statement M
 read-step-spec =
@@ -47,6 +54,8 @@ read-step-spec =
     item-of-requires
     enum-known-n
     with-value-requires
+    enum-known-next
     enum-told
     returns
-    returns-2)
+    returns-2
+    returns-3)
