@@ -1,15 +1,18 @@
--- Document 01's bodies, and some damaged lists, computed from the definitions.
+-- Document 01's bodies, some damaged lists, and fields that are skipped, computed from the definitions.
+use Prim.Native.Nat.{ℕ}
 use mathlib.Core.Path.{_≡_, refl}
 use mathlib.Core.Bool.{true, false}
 use mathlib.Core.Option.{bind}
-use mathlib.Core.List.{[], _∷_, flatMap}
+use mathlib.Core.List.{List, [], _∷_, _++_, flatMap}
+use lib.ListN.{replicate}
 use Rattle.wire.specs.Scan.{scanFrom, scanAt}
 use Rattle.keys.specs.Key.{Key}
 use Rattle.protobuf.specs.Varint.{varintOf}
 use Rattle.protobuf.specs.Field.{numberAt, fixedAt, spanAt, contentAt, fieldAt}
+use Rattle.protobuf.specs.Group.{groupAt}
 use Rattle.protobuf.specs.Written.{varintWithin, varint, numberField, bytesField, packedField}
-use Rattle.messages.specs.Message.{bytes, uint32s, numbers}
-use Rattle.messages.specs.Format.{listed, messageBytes, read, broken, readMessage}
+use Rattle.messages.specs.Message.{bytes, uint32s, octets, numbers}
+use Rattle.messages.specs.Format.{listed, messageBytes, Reading, read, broken, readMessage}
 use Rattle.messages.specs.Protobuf.{packedOf, protobuf}
 use Rattle.messages.specs.Operations.{importKey, operationBody, version, providers, outputBytes}
 
@@ -23,6 +26,33 @@ pub cases :
     × (outputBytes protobuf (providers (0 ∷ 1 ∷ [])) ≡ 0x0A ∷ 0x02 ∷ 0x00 ∷ 0x01 ∷ [])
     × (readMessage protobuf (uint32s ∷ []) (0x0A ∷ 0x01 ∷ 0x07 ∷ 0x0A ∷ 0x02 ∷ 0x00 ∷ 0x01 ∷ []) ≡ read (numbers (0 ∷ 1 ∷ []) ∷ []))
     × (readMessage protobuf (uint32s ∷ []) (0x0A ∷ 0x00 ∷ 0x0A ∷ 0x01 ∷ 0x80 ∷ 0x0A ∷ 0x02 ∷ 0x00 ∷ 0x01 ∷ []) ≡ broken 2)
-    × (readMessage protobuf (uint32s ∷ []) (0x08 ∷ 0x01 ∷ []) ≡ broken 0)
+    × (readMessage protobuf (uint32s ∷ []) (0x08 ∷ 0x01 ∷ []) ≡ read (numbers [] ∷ []))
 unfolding operationBody outputBytes messageBytes readMessage listed bind packedOf scanFrom scanAt varintOf numberAt fixedAt spanAt contentAt fieldAt varintWithin varint numberField bytesField packedField flatMap
 cases = (refl, refl, refl, refl, refl, refl)
+
+-- ---- fields that are skipped, in a body with bytes as its one field
+
+abbrev nameRead : List ℕ → Reading
+nameRead body = readMessage protobuf (bytes ∷ []) body
+
+abbrev named : List ℕ → Reading
+named name = read (octets name ∷ [])
+
+-- groups of number 1, so many inside each other
+abbrev groups : (depth : ℕ) → List ℕ
+groups depth = replicate depth 0x0B ++ replicate depth 0x0C
+
+pub skipping-cases :
+    (nameRead (0x10 ∷ 0x05 ∷ 0x0A ∷ 0x01 ∷ 0x61 ∷ 0x1D ∷ 0x00 ∷ 0x00 ∷ 0x00 ∷ 0x00 ∷ []) ≡ named (0x61 ∷ []))  -- unlisted numbers
+    × (nameRead (0x0A ∷ 0x01 ∷ 0x61 ∷ 0x08 ∷ 0x07 ∷ []) ≡ named (0x61 ∷ []))  -- another wire type: the good field stands
+    × (nameRead (0x0A ∷ 0x01 ∷ 0x61 ∷ 0x0B ∷ 0x0A ∷ 0x01 ∷ 0x62 ∷ 0x0C ∷ []) ≡ named (0x61 ∷ []))  -- a listed number in a group
+    × (nameRead (groups 16 ++ groups 16) ≡ named [])
+    × (nameRead (groups 17) ≡ broken 0)
+    × (nameRead (0x10 ∷ 0x05 ∷ 0x0B ∷ 0x13 ∷ 0x0C ∷ 0x14 ∷ []) ≡ broken 2)  -- an end of another number
+    × (nameRead (0x10 ∷ 0x05 ∷ 0x0C ∷ []) ≡ broken 2)  -- a stray end
+    × (nameRead (0x0B ∷ 0x00 ∷ 0x00 ∷ 0x0C ∷ []) ≡ broken 0)  -- field number 0
+    × (nameRead (0x16 ∷ []) ≡ broken 0)  -- wire type 6
+    × (nameRead (0x0B ∷ 0x17 ∷ 0x0C ∷ []) ≡ broken 0)  -- wire type 7
+    × (nameRead (0x0B ∷ 0x10 ∷ 0x05 ∷ []) ≡ broken 0)  -- a group that is cut
+unfolding readMessage listed bind scanFrom scanAt varintOf numberAt fixedAt spanAt contentAt fieldAt groupAt
+skipping-cases = (refl, refl, refl, refl, refl, refl, refl, refl, refl, refl, refl)

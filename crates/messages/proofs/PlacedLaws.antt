@@ -12,20 +12,24 @@ use Rattle.wire.specs.Choice.{if_then_else_, isSome}
 use Rattle.wire.specs.Scan.{Turn, follow, scanFrom, scanAt}
 use Rattle.wire.proofs.ScanLaws.{scan-end, scan-on}
 use Rattle.protobuf.specs.Field as proto
+use Rattle.protobuf.specs.Group.{depthMost, groupAt}
 use Rattle.protobuf.specs.code.Body.{bodyOf}
 use Rattle.protobuf.specs.declared.field.Field.{Field as ProtoField}
 use Rattle.protobuf.specs.declared.field.Field.the-variants.{Number, Span, Fixed, GroupStart, GroupEnd, Unreadable}
+use Rattle.protobuf.specs.declared.group.Group.{Group}
+use Rattle.protobuf.specs.declared.group.Group.the-variants.{Skipped, Unreadable as noGroup}
 use Rattle.protobuf.specs.declared.message.Values.{Values}
 use Rattle.protobuf.specs.declared.body.Body.the-variants.{Message as Readable, Unreadable as Broken}
-use Rattle.protobuf.proofs.FieldLaws.{Ahead, field-ahead}
+use Rattle.protobuf.proofs.FieldLaws.{Ahead, FieldAhead, field-ahead}
+use Rattle.protobuf.proofs.GroupLaws.{GroupAhead, group-ahead}
 use Rattle.protobuf.proofs.StepLaws.{ValuesIn}
 use Rattle.protobuf.proofs.BodyLaws.{body-in}
 use Rattle.messages.specs.Message.{uint32, bytes, uint32s, Value, numbers, numberOf, octetsOf, numbersOf, valueAt, Schema, Message}
-use Rattle.messages.specs.Format.{Field, field, unreadable, fieldWith, listed, Reading, read, broken, SoFar, turnOf, turnAt, readMessage}
-use Rattle.messages.specs.Protobuf.{ofVarint, packedOf, fieldOf, protobuf}
+use Rattle.messages.specs.Format.{Field, field, skipped, unreadable, fieldWith, listed, Reading, read, broken, SoFar, turnOf, turnAt, readMessage}
+use Rattle.messages.specs.Protobuf.{ofVarint, packedOf, isOfWire, ofGroup, fieldOf, protobuf}
 use Rattle.messages.specs.Operations.{Output, nothing, version, providers, opcodes, exported, whenRead, readBody, outputOf}
 use Rattle.messages.specs.Placed.{listIn, SpanWithin}
-use Rattle.messages.specs.code.ListBody.{listSchema}
+use Rattle.messages.specs.code.ListBody.{listSchema, fieldIn, skippedGroup, skippedField, FieldWithin}
 use Rattle.messages.specs.declared.read.Span.{Span as Place}
 use Rattle.messages.proofs.RoundTrip.{turn-ahead}
 use Rattle.messages.proofs.ProtobufLaws.{protobuf-lawful}
@@ -38,24 +42,42 @@ module _ (body : List ℕ) where
   abbrev fieldFor : ProtoField → Field
   fieldFor f = fieldOf listSchema body f
 
-  no-number : (n v next : ℕ) (t : Bool) → fieldWith n next (bind (if t then some uint32s else none) (ofVarint v)) ≡ unreadable
-  unfolding bind
-  no-number n v next true = refl
-  no-number n v next false = refl
+  number-skipped : (next : ℕ) (f : Field) (t : Bool) → skipped next ≡ (if isOfWire 0 (if t then some uint32s else none) then f else skipped next)
+  number-skipped next f true = refl
+  number-skipped next f false = refl
+
+  group-skipped : (g : Group) → fieldIn body (skippedGroup g) ≡ ofGroup g
+  group-skipped (Skipped next) = refl
+  group-skipped noGroup = refl
 
   -- anything but bytes
-  pub not-bytes : (f : ProtoField) → ((n start len next : ℕ) → f ≡ Span n start len next → ⊥) → fieldFor f ≡ unreadable
-  unfolding listed
-  not-bytes (Number n v next) h = no-number n v next (eqb n 1)
+  pub not-bytes : (f : ProtoField) → ((n start len next : ℕ) → f ≡ Span n start len next → ⊥) → fieldIn body (skippedField body f) ≡ fieldFor f
+  unfolding skippedField
+  not-bytes (Number n v next) h = number-skipped next (listed listSchema n (ofVarint v) next) (eqb n 1)
   not-bytes (Span n start len next) h = absurd (h n start len next refl)
   not-bytes (Fixed n next) h = refl
-  not-bytes (GroupStart n next) h = refl
+  not-bytes (GroupStart n next) h = group-skipped (groupAt depthMost body n next)
   not-bytes (GroupEnd n next) h = refl
   not-bytes Unreadable h = refl
 
+  group-within : (at p : ℕ) (g : Group) → at < p → GroupAhead (length body) p g → FieldWithin (length body) at (skippedGroup g)
+  group-within at p (Skipped next) l h = (omega arith, h .within)
+  group-within at p noGroup l h = tt
+
+  field-within : (at : ℕ) (f : ProtoField) → FieldAhead (length body) at f → FieldWithin (length body) at (skippedField body f)
+  unfolding skippedField
+  field-within at (Number n v next) h = (h .behind, h .within)
+  field-within at (Span n start len next) h = (h .0 .behind, h .0 .within)
+  field-within at (Fixed n next) h = (h .behind, h .within)
+  field-within at (GroupStart n next) h = group-within at next (groupAt depthMost body n next) (h .behind) (group-ahead body depthMost n next)
+  field-within at (GroupEnd n next) h = tt
+  field-within at Unreadable h = tt
+
+  pub skipped-within : (at : ℕ) → FieldWithin (length body) at (skippedField body (proto.fieldAt body at))
+  skipped-within at = field-within at (proto.fieldAt body at) (field-ahead body at)
+
   module _ (n start len next : ℕ) where
-    pub other-number : (n ≡ 1 → ⊥) → fieldFor (Span n start len next) ≡ unreadable
-    unfolding listed bind
+    pub other-number : (n ≡ 1 → ⊥) → fieldFor (Span n start len next) ≡ skipped next
     other-number h = rw (ne-eqb n 1 h)
 
     one-with : n ≡ 1 → fieldFor (Span n start len next) ≡ fieldWith 1 next (packedOf (take len (drop start body)))
@@ -113,6 +135,9 @@ module _ (body : List ℕ) where
     pub reads-on : (found : Place) (next : ℕ) → at < length body → SpanWithin (length body) found
         → field 1 (numbers (listIn body found)) next ≡ protobuf .fieldAt listSchema body at → Reads found next
     reads-on found next h w e = record { last = 1; within = w; same = sym (here h _ e) }
+
+    pub reads-past : (next : ℕ) → at < length body → skipped next ≡ protobuf .fieldAt listSchema body at → Reads span next
+    reads-past next h e = record { last = r .last; within = r .within; same = sym (here h _ e) }
 
     abbrev list : Message → List ℕ
     list m = numbersOf (valueAt m 1)

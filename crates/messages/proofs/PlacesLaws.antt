@@ -13,10 +13,13 @@ use Rattle.wire.specs.Choice.{if_then_else_}
 use Rattle.wire.specs.Scan.{Turn, on, out, follow, scanFrom, scanAt}
 use Rattle.wire.proofs.TestLaws.{either}
 use Rattle.protobuf.specs.Field.{fieldAt}
+use Rattle.protobuf.specs.Group.{depthMost, groupAt}
 use Rattle.protobuf.specs.code.Message as proto
 use Rattle.protobuf.specs.code.Body as proto-body
 use Rattle.protobuf.specs.declared.field.Field.{Field as ProtoField}
 use Rattle.protobuf.specs.declared.field.Field.the-variants.{Number, Span, Fixed, GroupStart, GroupEnd, Unreadable as noField}
+use Rattle.protobuf.specs.declared.group.Group.{Group}
+use Rattle.protobuf.specs.declared.group.Group.the-variants.{Skipped, Unreadable as noGroup}
 use Rattle.protobuf.specs.declared.message.Kind.{Kind as ProtoKind}
 use Rattle.protobuf.specs.declared.message.Kind.the-variants.{Bytes, Uint32, Boolean, Unlisted}
 use Rattle.protobuf.specs.declared.message.Schema.{Schema as ProtoSchema}
@@ -25,8 +28,8 @@ use Rattle.protobuf.specs.declared.message.Values.{Values as Places}
 use Rattle.protobuf.specs.declared.body.Body.{Body}
 use Rattle.protobuf.specs.declared.body.Body.the-variants.{Message as Readable, Unreadable}
 use Rattle.messages.specs.Message.{Kind, uint32, bool, bytes, uint32s, Value, number, flag, octets, numbers, Schema, Message, kindAt, absent}
-use Rattle.messages.specs.Format.{fieldWith, listed, Reading, read, broken, SoFar, turnOf, turnAt, readMessage}
-use Rattle.messages.specs.Protobuf.{ofVarint, ofSpan, fieldOf, protobuf}
+use Rattle.messages.specs.Format.{skipped, fieldWith, listed, Reading, read, broken, SoFar, turnOf, turnAt, readMessage}
+use Rattle.messages.specs.Protobuf.{ofVarint, ofSpan, isOfWire, ofGroup, fieldOf, protobuf}
 
 -- ---- two scans that go the same way
 
@@ -223,33 +226,37 @@ module _ (schema : Schema) (body : List ℕ) (few : length schema ≤ 5) (no-lis
 
   number-same :
       (at n v next : ℕ) (so : SoFar) (m : Places) → Same so m → (o : Option Kind) → kindAt schema n ≡ o
-      → Turns (turnOf protobuf at so (fieldWith n next (bind o (ofVarint v)))) (proto-body.turnOf at (proto.stepOf m (proto.ofNumber (kindPlaced o) n v next)))
+      → Turns (turnOf protobuf at so (if isOfWire 0 o then fieldWith n next (bind o (ofVarint v)) else skipped next)) (proto-body.turnOf at (proto.stepOf m (proto.ofNumber (kindPlaced o) n v next)))
   unfolding bind
-  number-same at n v next so m h none e = refl
+  number-same at n v next so m h none e = (refl, h)
   number-same at n v next so m h (some uint32) e = (refl, put-same n uint32 so m (record { start = 0; len = 0; number = v % 2 ^ 32 }) e h)
   number-same at n v next so m h (some bool) e =
       (refl, rw (bool-same (eqb v 0)) (put-same n bool so m (record { start = 0; len = 0; number = if eqb v 0 then 0 else 1 }) e h))
-  number-same at n v next so m h (some bytes) e = refl
-  number-same at n v next so m h (some uint32s) e = refl
+  number-same at n v next so m h (some bytes) e = (refl, h)
+  number-same at n v next so m h (some uint32s) e = (refl, h)
 
   span-same :
       (at n start len next : ℕ) (so : SoFar) (m : Places) → Same so m → (o : Option Kind) → kindAt schema n ≡ o
-      → Turns (turnOf protobuf at so (fieldWith n next (bind o (ofSpan (take len (drop start body)))))) (proto-body.turnOf at (proto.stepOf m (proto.ofSpan (kindPlaced o) n start len next)))
+      → Turns (turnOf protobuf at so (if isOfWire 2 o then fieldWith n next (bind o (ofSpan (take len (drop start body)))) else skipped next)) (proto-body.turnOf at (proto.stepOf m (proto.ofSpan (kindPlaced o) n start len next)))
   unfolding bind
-  span-same at n start len next so m h none e = refl
-  span-same at n start len next so m h (some uint32) e = refl
-  span-same at n start len next so m h (some bool) e = refl
+  span-same at n start len next so m h none e = (refl, h)
+  span-same at n start len next so m h (some uint32) e = (refl, h)
+  span-same at n start len next so m h (some bool) e = (refl, h)
   span-same at n start len next so m h (some bytes) e = (refl, put-same n bytes so m (record { start = start; len = len; number = 0 }) e h)
   span-same at n start len next so m h (some uint32s) e = absurd (no-list-at schema n no-lists e)
 
+  group-same : (at : ℕ) (so : SoFar) (m : Places) → Same so m → (g : Group) → Turns (turnOf protobuf at so (ofGroup g)) (proto-body.turnOf at (proto.stepOf m (proto.ofGroup g)))
+  group-same at so m h (Skipped next) = (refl, h)
+  group-same at so m h noGroup = refl
+
   field-same :
       (at : ℕ) (so : SoFar) (m : Places) → Same so m → (f : ProtoField)
-      → Turns (turnOf protobuf at so (fieldOf schema body f)) (proto-body.turnOf at (proto.stepOf m (proto.itemOf (schemaPlaced schema) f)))
+      → Turns (turnOf protobuf at so (fieldOf schema body f)) (proto-body.turnOf at (proto.stepOf m (proto.itemOf (schemaPlaced schema) body f)))
   unfolding listed proto.itemOf
   field-same at so m h (Number n v next) = rw (kind-same schema few n) (number-same at n v next so m h (kindAt schema n) refl)
   field-same at so m h (Span n start len next) = rw (kind-same schema few n) (span-same at n start len next so m h (kindAt schema n) refl)
-  field-same at so m h (Fixed n next) = refl
-  field-same at so m h (GroupStart n next) = refl
+  field-same at so m h (Fixed n next) = (refl, h)
+  field-same at so m h (GroupStart n next) = group-same at so m h (groupAt depthMost body n next)
   field-same at so m h (GroupEnd n next) = refl
   field-same at so m h noField = refl
 

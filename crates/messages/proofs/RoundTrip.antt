@@ -14,7 +14,7 @@ use Rattle.wire.proofs.TestLaws.{either}
 use Rattle.wire.proofs.ScanLaws.{TurnAhead, scan-end, scan-on}
 use Rattle.protobuf.proofs.RoundTrip.{behind}
 use Rattle.messages.specs.Message.{Kind, Value, number, flag, octets, numbers, kindOf, Schema, Message, kindAt, absent, Fits, AllFit}
-use Rattle.messages.specs.Format.{Field, field, unreadable, Format, fieldWith, listed, fieldsFrom, messageBytes, Reading, read, SoFar, turnOf, turnAt, readMessage}
+use Rattle.messages.specs.Format.{Field, field, skipped, unreadable, Format, fieldWith, listed, fieldsFrom, messageBytes, Reading, read, SoFar, turnOf, turnAt, readMessage}
 
 -- ---- a lawful format
 
@@ -27,6 +27,7 @@ Present (numbers ns) = 1 ≤ length ns
 
 abbrev pub FieldAhead : (at : ℕ) → Field → Type 0
 FieldAhead at (field n value next) = at < next
+FieldAhead at (skipped next) = at < next
 FieldAhead at unreadable = Unit {0}
 
 -- a field that is present is read as itself, wherever it stands and whatever stands behind it
@@ -86,6 +87,7 @@ kind-there (d ∷ done) value m =
 
 turn-of-ahead : (format : Format) (at : ℕ) (so : SoFar) (f : Field) → FieldAhead at f → TurnAhead at (turnOf format at so f)
 turn-of-ahead format at so (field n value next) h = either (TurnAhead at) (format .mayFollow (so .0) n) (λ _. h) (λ _. tt)
+turn-of-ahead format at so (skipped next) h = h
 turn-of-ahead format at so unreadable h = tt
 
 all-blank : (m : Message) → map absent (map kindOf m) ≡ map blank m

@@ -10,6 +10,8 @@ use protobuf::body::Body;
 use protobuf::body::read_body;
 use protobuf::field::Field;
 use protobuf::field::read_field;
+use protobuf::group::Group;
+use protobuf::group::skip_group;
 use protobuf::message::Kind;
 use protobuf::message::Schema;
 use protobuf::varint::Varint;
@@ -22,7 +24,7 @@ ghost use Rattle.messages.specs.Message.{uint32, bytes, numberOf, octets
 ghost use Rattle.messages.specs.Protobuf.{packedOf, protobuf};
 ghost use Rattle.messages.specs.Operations.{nothing, version, exported, readBody, outputOf};
 ghost use Rattle.messages.specs.Placed.{readIn, ReadWithin, readListOutcome};
-ghost use Rattle.messages.specs.code.ListBody.{listSchema, fieldIn, FieldWithin, entriesIn, ListWithin};
+ghost use Rattle.messages.specs.code.ListBody.{listSchema, fieldIn, skippedField, FieldWithin, entriesIn, ListWithin};
 
 // A part of the bytes that were read.
 pub struct Span {
@@ -44,9 +46,10 @@ pub enum OutputRead {
     Unreadable,
 }
 
-// A field that is a packed list, and the position behind it.
+// A field that is a packed list, or another, and the position behind it.
 enum ListField {
     At(Span, usize),
+    Skipped(usize),
     Unreadable,
 }
 
@@ -73,21 +76,39 @@ fn is_packed(bytes: &[u8]) -> bool
     true
 }
 
+// A field that is not the list.
+fn skip_field(body: &[u8], f: Field) -> ListField
+    ensures { λ r. ⌜ r ≡ skippedField (now (body .entry)) f ⌝ }
+{
+    match f {
+        Field::Number { next, .. } => ListField::Skipped(next),
+        Field::Span { next, .. } => ListField::Skipped(next),
+        Field::Fixed { next, .. } => ListField::Skipped(next),
+        Field::GroupStart { number, next } => match skip_group(body, number, next) {
+            Group::Skipped(end) => ListField::Skipped(end),
+            Group::Unreadable => ListField::Unreadable,
+        },
+        Field::GroupEnd { .. } => ListField::Unreadable,
+        Field::Unreadable => ListField::Unreadable,
+    }
+}
+
 // The field at `at`. Its varints are read in its own bytes: one that is cut by its end is not finished by what follows.
 fn read_list_field(body: &[u8], at: usize) -> ListField
     ensures { λ r. ⌜ (fieldIn (now (body .entry)) r ≡ protobuf .fieldAt listSchema (now (body .entry)) at) × FieldWithin (length (now (body .entry))) at r ⌝ }
 {
+    let f = read_field(body, at);
     let Field::Span {
         number,
         start,
         len,
         next,
-    } = read_field(body, at)
+    } = f
     else {
-        return ListField::Unreadable;
+        return skip_field(body, f);
     };
     if number != 1 {
-        return ListField::Unreadable;
+        return ListField::Skipped(next);
     }
     let end = start + len;
     if !is_packed(&body[start..end]) {
@@ -106,6 +127,9 @@ fn read_list_body(body: &[u8]) -> ListRead
         match read_list_field(body, at) {
             ListField::At(found, next) => {
                 span = found;
+                at = next;
+            }
+            ListField::Skipped(next) => {
                 at = next;
             }
             ListField::Unreadable => {

@@ -7,7 +7,7 @@ use borrow.Author.Needs.{needs}
 use lib.ListN.{length}
 use Rattle.messages.specs.code.ListBody.{fieldIn, FieldWithin}
 use Rattle.messages.specs.declared.read.ListField.{ListField}
-use Rattle.messages.proofs.PlacedLaws.{Reads, reads-none, reads-on, reads-broken, reads-end}
+use Rattle.messages.proofs.PlacedLaws.{Reads, reads-none, reads-on, reads-past, reads-broken, reads-end}
 use Rattle.messages.proofs.read.read_list_body.Statement.{statement}
 use Rattle.messages.proofs.read.read_list_body.Tie as tie
 
@@ -43,6 +43,22 @@ loop-again c =
     let w = subst (λ (f : ListField). FieldWithin (length body) at f) (v .1) (r .ensures .1) in
     reads-on body (c .before .before .before .before .before .loop .inv) (v .0 .0) (v .0 .1 .0) (c .before .before .before .before .loop-test .taken) (w .0) (ap (fieldIn body) (sym (v .1)) ∙ r .ensures .0)
 
+enum-known-next : tie.Need-enum-known-next Inv-loop μ-loop
+enum-known-next c = search needs
+
+loop-less-2 : tie.Need-loop-less-2 Inv-loop μ-loop
+loop-less-2 c =
+    let body : List ℕ = c .before .before .before .before .before .before .before .args .body .now in
+    let at : ℕ = c .before .before .before .before .before .loop .at in
+    let w = subst (λ (f : ListField). FieldWithin (length body) at f) (c .before .next .given .1) (c .before .before .before .read-list-field .ensures .1) in
+    omega arith
+
+loop-again-2 : tie.Need-loop-again-2 Inv-loop μ-loop
+loop-again-2 c =
+    let body : List ℕ = c .before .before .before .before .before .before .before .args .body .now in
+    let v = c .before .next .given in
+    reads-past body (c .before .before .before .before .before .loop .inv) (v .0 .0) (c .before .before .before .before .loop-test .taken) (ap (fieldIn body) (sym (v .1)) ∙ c .before .before .before .read-list-field .ensures .0)
+
 enum-told : tie.Need-enum-told Inv-loop μ-loop
 enum-told c = search needs
 
@@ -67,6 +83,9 @@ read-list-body-spec =
     enum-known-found
     loop-less
     loop-again
+    enum-known-next
+    loop-less-2
+    loop-again-2
     enum-told
     returns
     returns-2)
