@@ -1,10 +1,10 @@
 -- Cases that the ★ table does not reach, in one table under one claim: a header with H = 30, an export of each of two
--- keys, and one name held by two applications.
+-- keys, one name held by two applications, and fields that are skipped (document 02, "Unlisted fields").
 use mathlib.Core.Path.{refl}
 use Prim.Native.Nat.{ℕ}
 use mathlib.Core.Bool.{true, false}
 use mathlib.Core.List.{List, [], _∷_, _++_}
-use lib.ListN.{length}
+use lib.ListN.{length, replicate}
 use Rattle.registry.specs.Slots.{held}
 use Rattle.billing.specs.Ascii.{ascii}
 use Rattle.billing.proofs.Cases.{Case, showing, Holds, AllHold, case-of, longRequest, request, response, key, keyBody, nameBody, imported, holding}
@@ -45,9 +45,23 @@ case-two-keys = case-of roster-bc
     (key 0x61 ∷ held (record { name = 0x64 ∷ []; bytes = 0xCC ∷ 0xDD ∷ 0xEE ∷ []; bits = 2048; exportAllowed = true; verifyAllowed = false }) ∷ [])
     (ascii "taken 253\nline 0 b 4\nline 1 c 2\nopen 0\nrefused 1140 1\ndropped 0\nheld 0\n")
 
+-- a Ping whose body is groups inside each other
+pings : (depth : ℕ) → List ℕ
+pings depth = request 1 0 1 0 (replicate depth 0x0B ++ replicate depth 0x0C) []
+
+-- an unlisted number, then a key, then the name's number with another wire type
+importsMore : (name application : ℕ) → List ℕ
+importsMore name application = request 1 1 6 1 (0x30 ∷ 0x05 ∷ (keyBody name ++ (0x08 ∷ 0x07 ∷ []))) (application ∷ [])
+
+case-skipped : Case
+case-skipped = case-of roster-bc (pings 16 ++ (pings 17 ++ importsMore 0x61 0x62))
+    (response 0 1 0 0 (0x08 ∷ 0x01 ∷ []) ∷ response 0 1 7 0 [] ∷ imported ∷ [])
+    (key 0x61 ∷ [])
+    (ascii "taken 167\nline 0 b 1\nline 1 c 0\nopen 1\nrefused 7 1\ndropped 0\nheld 0\n")
+
 pub table : List Case
-table = case-long-header ∷ case-two-keys ∷ []
+table = case-long-header ∷ case-two-keys ∷ case-skipped ∷ []
 
 pub beyond : AllHold table
-unfolding table Holds showing case-of longRequest request response key keyBody nameBody imported holding roster-bc more imports importsOther exports exported case-long-header case-two-keys
-beyond = (refl, (refl, tt))
+unfolding table Holds showing case-of longRequest request response key keyBody nameBody imported holding roster-bc more imports importsOther exports exported pings importsMore case-long-header case-two-keys case-skipped
+beyond = (refl, (refl, (refl, tt)))

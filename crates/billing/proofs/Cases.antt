@@ -13,6 +13,7 @@ use Rattle.wire.specs.Request.{requestOf}
 use Rattle.wire.specs.Response.{responseHeader, responseBytes}
 use Rattle.protobuf.specs.Varint.{varintOf}
 use Rattle.protobuf.specs.Field.{numberAt, fixedAt, spanAt, contentAt, fieldAt}
+use Rattle.protobuf.specs.Group.{groupAt}
 use Rattle.protobuf.specs.code.Message.{withValue, itemOf, stepAt}
 use Rattle.protobuf.specs.Written.{varintWithin, varint, numberField, bytesField, packedField}
 use Rattle.keys.specs.Names.{legalName}
@@ -54,7 +55,7 @@ startOf (faulty fault) = []
 
 -- all that a case computes with
 unfoldable pub showing : (roster stream : List ℕ) → Shown
-unfolding rosterOf recordTurn recordFaults firstOf legalName field littleEndian registryOf lineOf flatten rules rulesFrom rulesWithin start answer finish judge next legalStart oversized judgement noCounts requestOf resultOf refusals oneOf opcodesOf isSome applicationOf applicationNamed indexFrom operated operationOf readBody scanAt scanFrom stepAt itemOf fieldAt contentAt numberAt spanAt fixedAt varintOf withValue perform performImport performDestroy performExport exportOf performListOpcodes success refuse numberField bytesField packedField flatMap varint varintWithin importable importBits legalData legalBits slotNamed keyBytes slotBytes askersSlots verdictOf refusedEarly oversizedStatus responseBytes responseHeader littleEndianOf statusNumber changedBy changed count countServed countRefused increment indexOf slotsOf slotOf billOf textLine decimal digitsBefore applicationLines refusedLines heldBytes ascii shownBy startOf bill billFor refusedRoster faultNumber listed messageBytes readMessage packedOf outputBytes bind
+unfolding rosterOf recordTurn recordFaults firstOf legalName field littleEndian registryOf lineOf flatten rules rulesFrom rulesWithin start answer finish judge next legalStart oversized judgement noCounts requestOf resultOf refusals oneOf opcodesOf isSome applicationOf applicationNamed indexFrom operated operationOf readBody scanAt scanFrom stepAt itemOf fieldAt contentAt numberAt spanAt fixedAt groupAt varintOf withValue perform performImport performDestroy performExport exportOf performListOpcodes success refuse numberField bytesField packedField flatMap varint varintWithin importable importBits legalData legalBits slotNamed keyBytes slotBytes askersSlots verdictOf refusedEarly oversizedStatus responseBytes responseHeader littleEndianOf statusNumber changedBy changed count countServed countRefused increment indexOf slotsOf slotOf billOf textLine decimal digitsBefore applicationLines refusedLines heldBytes ascii shownBy startOf bill billFor refusedRoster faultNumber listed messageBytes readMessage packedOf outputBytes bind
 showing roster stream = shownBy (rules judgement (startOf (rosterOf roster)) stream) (bill (some roster) (some stream))
 
 -- ---- a table holds
