@@ -1,8 +1,9 @@
 //! The six operations: what each reads from its body, does and writes.
-//! Document 01, "Operations and their fields".
+//! Document 01, "Operations and their fields"; document 02, "Unlisted fields": a field that is not
+//! listed, or has another wire type, is skipped.
 
 use crate::opcode::{CoreOpcode, KeystoreOpcode, Provider};
-use crate::protobuf::{fields, low_32_bits, Unreadable, Value, Writer};
+use crate::protobuf::{fields, low_32_bits, skip_fields, Unreadable, Value, Writer};
 use crate::registry::{self, key_name_is_legal, Key, Line, Slot, LONGEST_DATA};
 use crate::status::Status;
 use crate::wire::RESPONSE_HEADER_LENGTH;
@@ -21,12 +22,12 @@ pub fn perform_core(opcode: CoreOpcode, body: &[u8], out: &mut [u8]) -> Result<u
     let mut writer = Writer::new(out);
     match opcode {
         CoreOpcode::Ping => {
-            read_no_input(body)?;
+            skip_fields(body)?;
             writer.write_uint32(1, 1);
             writer.write_uint32(2, 0);
         }
         CoreOpcode::ListProviders => {
-            read_no_input(body)?;
+            skip_fields(body)?;
             writer.write_packed(1, &Provider::ALL.map(Provider::number));
         }
         CoreOpcode::ListOpcodes => {
@@ -99,22 +100,12 @@ fn find_named_key(registry: &[u8], line: Line, name: &[u8]) -> Result<Slot, Stat
     registry::find_key(registry, line, name).ok_or(Status::PsaErrorDoesNotExist)
 }
 
-/// With no input, any field would have an unlisted number: the body must be empty.
-fn read_no_input(body: &[u8]) -> Result<(), Unreadable> {
-    if body.is_empty() {
-        Ok(())
-    } else {
-        Err(Unreadable)
-    }
-}
-
 fn read_provider(body: &[u8]) -> Result<u32, Unreadable> {
     let mut provider = 0;
     for field in fields(body) {
         let field = field?;
-        match (field.number, field.value) {
-            (1, Value::Varint(value)) => provider = low_32_bits(value),
-            _ => return Err(Unreadable),
+        if let (1, Value::Varint(value)) = (field.number, field.value) {
+            provider = low_32_bits(value);
         }
     }
     Ok(provider)
@@ -125,9 +116,8 @@ fn read_name(body: &[u8]) -> Result<&[u8], Unreadable> {
     let mut name: &[u8] = &[];
     for field in fields(body) {
         let field = field?;
-        match (field.number, field.value) {
-            (1, Value::Bytes(value)) => name = value,
-            _ => return Err(Unreadable),
+        if let (1, Value::Bytes(value)) = (field.number, field.value) {
+            name = value;
         }
     }
     Ok(name)
@@ -143,7 +133,7 @@ fn read_key_input(body: &[u8]) -> Result<Key<'_>, Unreadable> {
             (3, Value::Varint(value)) => key.bits = low_32_bits(value),
             (4, Value::Varint(value)) => key.export_allowed = value != 0,
             (5, Value::Varint(value)) => key.verify_allowed = value != 0,
-            _ => return Err(Unreadable),
+            _ => {}
         }
     }
     Ok(key)

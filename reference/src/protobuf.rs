@@ -1,15 +1,21 @@
 //! Message bodies: reading fields where they lie, and writing fields into lent memory.
-//! Document 01, "Operations and their fields", the paragraph on reading and writing.
+//! Document 01, "Operations and their fields", the paragraph on reading and writing; document 02,
+//! "Unlisted fields". Which fields are listed is for the caller, who skips a field by ignoring it.
+
+/// Groups may stand inside each other so deep; an outermost one has depth 1.
+const DEEPEST_GROUP: usize = 16;
 
 /// A body that document 01 calls not readable.
 #[derive(Clone, Copy, Debug, PartialEq, Eq)]
 pub struct Unreadable;
 
-/// What a field holds; wire types 1 and 5 are not here, since no listed field has one.
+/// What a field holds.
 #[derive(Clone, Copy, Debug, PartialEq, Eq)]
 pub enum Value<'a> {
     Varint(u64),
     Bytes(&'a [u8]),
+    /// Wire types 1 and 5, and a whole group: no listed field has one.
+    Other,
 }
 
 #[derive(Clone, Copy, Debug, PartialEq, Eq)]
@@ -38,20 +44,64 @@ impl<'a> Iterator for Fields<'a> {
     }
 }
 
+#[derive(Clone, Copy)]
+struct Tag {
+    number: u32,
+    wire_type: u32,
+}
+
 impl<'a> Fields<'a> {
     fn read_field(&mut self) -> Result<Field<'a>, Unreadable> {
+        let tag = self.read_tag()?;
+        let value = match tag.wire_type {
+            3 => self.skip_group(tag.number)?,
+            _ => self.read_value(tag)?,
+        };
+        Ok(Field {
+            number: tag.number,
+            value,
+        })
+    }
+
+    fn read_tag(&mut self) -> Result<Tag, Unreadable> {
         // The tag is the whole varint: one above 2^32 - 1 is not cut down to 32 bits.
         let tag = u32::try_from(self.read_varint()?).map_err(|_| Unreadable)?;
-        let number = tag >> 3;
-        if number == 0 {
-            return Err(Unreadable);
+        let (number, wire_type) = (tag >> 3, tag & 7);
+        match number {
+            0 => Err(Unreadable),
+            _ => Ok(Tag { number, wire_type }),
         }
-        let value = match tag & 7 {
-            0 => Value::Varint(self.read_varint()?),
-            2 => Value::Bytes(self.read_bytes()?),
-            _ => return Err(Unreadable),
-        };
-        Ok(Field { number, value })
+    }
+
+    /// Of a field that is no group. An end tag that comes here has no group to end.
+    fn read_value(&mut self, tag: Tag) -> Result<Value<'a>, Unreadable> {
+        match tag.wire_type {
+            0 => Ok(Value::Varint(self.read_varint()?)),
+            1 => self.take(8).map(|_| Value::Other),
+            2 => Ok(Value::Bytes(self.read_bytes()?)),
+            5 => self.take(4).map(|_| Value::Other),
+            _ => Err(Unreadable),
+        }
+    }
+
+    /// Skips to behind the end tag of the group whose start tag has been read.
+    fn skip_group(&mut self, number: u32) -> Result<Value<'a>, Unreadable> {
+        let mut open = vec![number];
+        while let Some(&innermost) = open.last() {
+            let tag = self.read_tag()?;
+            match tag.wire_type {
+                3 if open.len() == DEEPEST_GROUP => return Err(Unreadable),
+                3 => open.push(tag.number),
+                4 if tag.number != innermost => return Err(Unreadable),
+                4 => {
+                    open.pop();
+                }
+                _ => {
+                    self.read_value(tag)?;
+                }
+            }
+        }
+        Ok(Value::Other)
     }
 
     /// Up to ten bytes, longer-than-needed forms too; a tenth byte above 1 is not read.
@@ -73,10 +123,19 @@ impl<'a> Fields<'a> {
     /// The length is the whole varint, so a huge one is a cut field.
     fn read_bytes(&mut self) -> Result<&'a [u8], Unreadable> {
         let length = usize::try_from(self.read_varint()?).map_err(|_| Unreadable)?;
+        self.take(length)
+    }
+
+    fn take(&mut self, length: usize) -> Result<&'a [u8], Unreadable> {
         let (bytes, rest) = self.rest.split_at_checked(length).ok_or(Unreadable)?;
         self.rest = rest;
         Ok(bytes)
     }
+}
+
+/// Where no field is listed, all are skipped, and each must be readable.
+pub fn skip_fields(body: &[u8]) -> Result<(), Unreadable> {
+    fields(body).try_for_each(|field| field.map(|_| ()))
 }
 
 /// A uint32 is the low 32 bits of its varint.

@@ -42,7 +42,10 @@ fn the_papers_lists_are_read() {
 fn import_and_destroy_have_no_output() {
     for opcode in [IMPORT, DESTROY] {
         expect_output(opcode, &[], Output::Nothing);
-        for body in [&[0x0A, 0x00][..], &[0x08, 0x00], &[0x10, 0x01], &[0x00]] {
+        for body in [&[0x0A, 0x00][..], &[0x08, 0x00], &[0x10, 0x01]] {
+            expect_output(opcode, body, Output::Nothing);
+        }
+        for body in [&[0x0A][..], &[0x08, 0x80], &[0x00], &[0x0E]] {
             expect_unreadable(opcode, body);
         }
     }
@@ -291,7 +294,9 @@ fn any_body_on_another_status_is_unreadable_at_its_last_byte() {
         (LIST_PROVIDERS, &[0x0A, 0x02, 0x00, 0x01]),
         (LIST_OPCODES, &[0x0A, 0x00]),
         (EXPORT, &[0x0A, 0x01, 0x07]),
+        (EXPORT, &[0x30, 0x01]),
         (IMPORT, &[0x00]),
+        (IMPORT, &[0x0B, 0x0C]),
         (DESTROY, &[0xFF; 998]),
     ] {
         for status in [1, 5, 7, 17, 256, 1_135, 9_999, u16::MAX] {

@@ -1,8 +1,9 @@
 //! Reading a response, uncut and in chunks, and what is refused at which byte.
-//! Document 02, "The client's half"; document 01, "Bytes on the wire" and the paragraph on reading.
+//! Document 02, "The client's half" and "Unlisted fields"; document 01, "Bytes on the wire" and the
+//! paragraph on reading.
 
 use crate::opcode::{CoreOpcode, KeystoreOpcode, Opcode};
-use crate::protobuf::{fields, low_32_bits, packed_entries, Unreadable, Value};
+use crate::protobuf::{fields, low_32_bits, packed_entries, skip_fields, Unreadable, Value};
 use crate::status::Status;
 use crate::wire::{
     magic_is_good, response_header_size_is_good, Echo, ResponseHeader, RESPONSE_HEADER_LENGTH,
@@ -136,7 +137,7 @@ fn read_whole(opcode: Opcode, status: u16, body: &[u8]) -> Reading {
     let output = if status == Status::Success.number() {
         read_output(opcode, body)
     } else {
-        read_nothing(body)
+        read_no_body(body)
     };
     match output {
         Ok(output) => Reading::Response { status, output },
@@ -149,13 +150,15 @@ fn read_output(opcode: Opcode, body: &[u8]) -> Result<Output, Unreadable> {
         Opcode::Core(CoreOpcode::Ping) => read_version(body),
         Opcode::Core(CoreOpcode::ListProviders) => read_list(body).map(Output::Providers),
         Opcode::Core(CoreOpcode::ListOpcodes) => read_list(body).map(Output::Opcodes),
-        Opcode::Keystore(KeystoreOpcode::Import | KeystoreOpcode::Destroy) => read_nothing(body),
+        Opcode::Keystore(KeystoreOpcode::Import | KeystoreOpcode::Destroy) => {
+            skip_fields(body).map(|()| Output::Nothing)
+        }
         Opcode::Keystore(KeystoreOpcode::Export) => read_data(body),
     }
 }
 
-/// With no output, any field would have an unlisted number: the body must be empty.
-fn read_nothing(body: &[u8]) -> Result<Output, Unreadable> {
+/// On a status other than 0 any body is refused, one of unlisted fields too.
+fn read_no_body(body: &[u8]) -> Result<Output, Unreadable> {
     if body.is_empty() {
         Ok(Output::Nothing)
     } else {
@@ -170,20 +173,20 @@ fn read_version(body: &[u8]) -> Result<Output, Unreadable> {
         match (field.number, field.value) {
             (1, Value::Varint(value)) => major = low_32_bits(value),
             (2, Value::Varint(value)) => minor = low_32_bits(value),
-            _ => return Err(Unreadable),
+            _ => {}
         }
     }
     Ok(Output::Version { major, minor })
 }
 
-/// Each list is read where it stands, and the last one counts: they are not joined.
+/// Each packed list is read where it stands, and the last one counts: they are not joined. An entry
+/// that is not packed has another wire type, and is skipped.
 fn read_list(body: &[u8]) -> Result<Vec<u32>, Unreadable> {
     let mut entries = Vec::new();
     for field in fields(body) {
         let field = field?;
-        match (field.number, field.value) {
-            (1, Value::Bytes(value)) => entries = packed_entries(value)?,
-            _ => return Err(Unreadable),
+        if let (1, Value::Bytes(value)) = (field.number, field.value) {
+            entries = packed_entries(value)?;
         }
     }
     Ok(entries)
@@ -194,9 +197,8 @@ fn read_data(body: &[u8]) -> Result<Output, Unreadable> {
     let mut data: &[u8] = &[];
     for field in fields(body) {
         let field = field?;
-        match (field.number, field.value) {
-            (1, Value::Bytes(value)) => data = value,
-            _ => return Err(Unreadable),
+        if let (1, Value::Bytes(value)) = (field.number, field.value) {
+            data = value;
         }
     }
     Ok(Output::Data(data.to_vec()))

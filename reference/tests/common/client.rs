@@ -113,20 +113,13 @@ pub fn good_responses() -> Vec<(Opcode, RawResponse)> {
 
 /// Bytes that no body has a readable field of, wherever they stand between fields.
 pub fn unreadable_fields() -> Vec<Vec<u8>> {
-    let unlisted_number = [[0x30, 0x01].to_vec(), [0x32, 0x00].to_vec()];
-    let fixed_widths = [
-        [&[0x09][..], &[0; 8]].concat(),
-        [&[0x0D][..], &[0; 4]].concat(),
-    ];
     let groups_and_unknown_types = [0x0B, 0x0C, 0x0E, 0x0F].map(|tag| vec![tag]);
     let field_number_0 = [[0x00, 0x01].to_vec(), [0x02, 0x00].to_vec()];
     let tag_above_32_bits = [&long_varint(1 << 32 | 0x0A, 5)[..], &[0x00]].concat();
     let eleven_byte_tag = [&[0x8A][..], &[0x80; 9], &[0x00, 0x00]].concat();
     let tenth_byte_above_1 = [&[0x8A][..], &[0x80; 8], &[0x02, 0x00]].concat();
     [
-        &unlisted_number[..],
-        &fixed_widths,
-        &groups_and_unknown_types,
+        &groups_and_unknown_types[..],
         &field_number_0,
         &[tag_above_32_bits, eleven_byte_tag, tenth_byte_above_1],
     ]

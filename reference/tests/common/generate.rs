@@ -163,8 +163,9 @@ fn with_bad_header_field(random: &mut Random, mut request: Request) -> Request {
     request
 }
 
+/// A body with a slip or an unlisted field; some can still be read.
 fn with_bad_body(random: &mut Random, mut request: Request) -> Request {
-    match random.below(5) {
+    match random.below(6) {
         0 => request.body.truncate(random.below(request.body.len() + 1)),
         1 => {
             let length = 1 + random.below(12);
@@ -172,6 +173,11 @@ fn with_bad_body(random: &mut Random, mut request: Request) -> Request {
         }
         2 => request.body.extend(Body::new().varint(6, 1).bytes()),
         3 => request.body.extend([0x08, 0x01]),
+        4 => {
+            let depth = random.pick(&[1, 2, 16, 17]);
+            request.body.extend(vec![0x33; depth]);
+            request.body.extend(vec![0x34; depth]);
+        }
         _ => request.body.extend([0x18, 0x80, 0x80, 0x80, 0x80, 0x80]),
     }
     request

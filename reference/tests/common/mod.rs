@@ -54,7 +54,7 @@ pub struct Request {
     pub auth: Vec<u8>,
 }
 
-/// Read as a body, this is an unlisted field.
+/// Read as a body, this begins a tag of wire type 6.
 pub const FILLER: u8 = 0xEE;
 
 impl Request {
