@@ -3,6 +3,7 @@
 use crate::ask::{import_body, name_body, record, registry_of, request, DESTROY, IMPORT};
 use crate::layout::*;
 use crate::oracle::{bytes_field, varint};
+use crate::unlisted::{whole_field, START_GROUP};
 use reference::rules;
 use reference::REGISTRY_SIZE;
 
@@ -360,7 +361,7 @@ pub fn long_varint(value: u64, length: usize) -> Vec<u8> {
 }
 
 /// Most often the shortest varint.
-fn some_varint(random: &mut Random, value: u64) -> Vec<u8> {
+pub fn some_varint(random: &mut Random, value: u64) -> Vec<u8> {
     let shortest = varint(value);
     if random.once_in(4) {
         let length = shortest.len() + random.below(11 - shortest.len());
@@ -369,7 +370,7 @@ fn some_varint(random: &mut Random, value: u64) -> Vec<u8> {
     shortest
 }
 
-/// Field numbers around the bounds: 0, the listed ones, and the largest that a tag can hold.
+/// Field numbers around the bounds: 0, those that some message lists, and the largest that a tag can hold.
 const UNLISTED: [u64; 11] = [
     0,
     1,
@@ -384,7 +385,7 @@ const UNLISTED: [u64; 11] = [
     0x2000_0001,
 ];
 
-/// One field, listed or not, of any wire type; whole more often than not.
+/// One field, listed or not, of any wire type; whole more often than not, groups too.
 fn field(random: &mut Random, kinds: &[u64]) -> Vec<u8> {
     let listed = !kinds.is_empty() && !random.once_in(12);
     let (number, wire) = if listed {
@@ -393,6 +394,9 @@ fn field(random: &mut Random, kinds: &[u64]) -> Vec<u8> {
     } else {
         (random.pick(&UNLISTED), random.below(8) as u64)
     };
+    if wire == START_GROUP && !random.once_in(4) {
+        return whole_field(random, number, wire);
+    }
     let tag = some_varint(random, number << 3 | wire);
     let content = match wire {
         0 => {

@@ -5,6 +5,7 @@
 
 pub mod ask;
 pub mod bill;
+pub mod bodies;
 pub mod case;
 pub mod client_asked;
 pub mod client_conversation;
@@ -25,6 +26,7 @@ pub mod reached;
 pub mod requests;
 pub mod run;
 pub mod service;
+pub mod unlisted;
 
 // Each block stands by itself, and compiles without a warning.
 #[cfg(doctest)]

@@ -4,7 +4,7 @@
 use crate::foreign::Schema;
 use crate::layout::*;
 
-// ---- "Operations and their fields", Reading
+// ---- "Operations and their fields", Reading; document 02, "Unlisted fields"
 
 /// "Varints take up to ten bytes, longer-than-needed forms are read, a tenth byte above 1 is not."
 pub fn read_varint(bytes: &[u8], at: usize) -> Option<(u64, usize)> {
@@ -55,31 +55,87 @@ pub fn read_body(body: &[u8], schema: Schema) -> Result<[Value<'_>; 5], usize> {
     let mut values = [Value::default(); 5];
     let mut at = 0;
     while at < body.len() {
-        let (place, value, next) = read_field(body, at, kinds(schema)).ok_or(at)?;
-        values[place] = value;
-        at = next;
+        let field = read_field(body, at, DEEPEST_GROUP).ok_or(at)?;
+        if let Some((place, value)) = listed(&field, kinds(schema)) {
+            values[place] = value;
+        }
+        at = field.end;
     }
     Ok(values)
 }
 
-/// The place of a listed field among the values, its value, and where the next one starts.
-fn read_field<'a>(body: &'a [u8], at: usize, kinds: &[Kind]) -> Option<(usize, Value<'a>, usize)> {
-    let (tag, content) = read_varint(body, at)?;
-    if tag > 0xFFFF_FFFF {
-        return None;
-    }
-    let place = usize::try_from(tag / 8).ok()?.checked_sub(1)?;
-    let (varint, behind) = read_varint(body, content)?;
-    let number = |number| (place, Value { number, bytes: &[] }, behind);
-    match (kinds.get(place)?, tag % 8) {
-        (Kind::Uint32, 0) => Some(number(varint & 0xFFFF_FFFF)),
-        (Kind::Bool, 0) => Some(number(u64::from(varint != 0))),
-        (Kind::Bytes, 2) => {
-            let end = behind.checked_add(usize::try_from(varint).ok()?)?;
-            let bytes = body.get(behind..end)?;
-            Some((place, Value { bytes, number: 0 }, end))
+/// "groups (3 and 4) that may stand inside each other to a depth of 16"
+const DEEPEST_GROUP: usize = 16;
+
+/// A whole field, whatever its number.
+struct Field<'a> {
+    number: u64,
+    content: Content<'a>,
+    end: usize,
+}
+
+enum Content<'a> {
+    Varint(u64),
+    Bytes(&'a [u8]),
+    /// Wire types 1 and 5, and a group: no message has one.
+    Other,
+}
+
+/// A field's place among the values and its value; `None` for one that is skipped.
+fn listed<'a>(field: &Field<'a>, kinds: &[Kind]) -> Option<(usize, Value<'a>)> {
+    let place = usize::try_from(field.number - 1).ok()?;
+    let (bytes, number): (&[u8], u64) = match (kinds.get(place)?, &field.content) {
+        (Kind::Uint32, Content::Varint(value)) => (&[], value & 0xFFFF_FFFF),
+        (Kind::Bool, Content::Varint(value)) => (&[], u64::from(*value != 0)),
+        (Kind::Bytes, Content::Bytes(bytes)) => (bytes, 0),
+        _ => return None,
+    };
+    Some((place, Value { bytes, number }))
+}
+
+/// The field at this place; groups may still stand inside each other so deep.
+fn read_field(body: &[u8], at: usize, depth_left: usize) -> Option<Field<'_>> {
+    let (number, wire_type, at) = read_tag(body, at)?;
+    let (content, end) = match wire_type {
+        0 => {
+            let (value, end) = read_varint(body, at)?;
+            (Content::Varint(value), end)
         }
-        _ => None,
+        1 => (Content::Other, at + 8),
+        2 => {
+            let (length, start) = read_varint(body, at)?;
+            let end = start.checked_add(usize::try_from(length).ok()?)?;
+            (Content::Bytes(body.get(start..end)?), end)
+        }
+        3 => (Content::Other, group_end(body, at, number, depth_left)?),
+        5 => (Content::Other, at + 4),
+        _ => return None,
+    };
+    let field = Field {
+        number,
+        content,
+        end,
+    };
+    (end <= body.len()).then_some(field)
+}
+
+/// A tag's field number and wire type, and where it ends.
+fn read_tag(body: &[u8], at: usize) -> Option<(u64, u64, usize)> {
+    let (tag, end) = read_varint(body, at)?;
+    (8..=0xFFFF_FFFF)
+        .contains(&tag)
+        .then_some((tag / 8, tag % 8, end))
+}
+
+/// Behind the end of the group whose fields begin here.
+fn group_end(body: &[u8], mut at: usize, group: u64, depth_left: usize) -> Option<usize> {
+    let deeper = depth_left.checked_sub(1)?;
+    loop {
+        let (number, wire_type, content) = read_tag(body, at)?;
+        if wire_type == 4 {
+            return (number == group).then_some(content);
+        }
+        at = read_field(body, at, deeper)?.end;
     }
 }
 

@@ -4,6 +4,7 @@
 use crate::ask::*;
 use crate::generate::{import_message, key, message, mutated, Random};
 use crate::layout::{line_at, name_at, slot_at, Key, Place, LINES, SLOTS};
+use crate::unlisted::{Class, Piece};
 
 // Where a header has its fields.
 const H_AT: usize = 4;
@@ -101,6 +102,10 @@ fn whole_request(random: &mut Random, application: &Application) -> Vec<u8> {
     };
     let body = match random.below(10) {
         0 => bad_body(random, opcode, application),
+        1 | 2 => {
+            let body = body(random, opcode, application);
+            with_unlisted_fields(random, body)
+        }
         _ => body(random, opcode, application),
     };
     let is_core = matches!(opcode, PING | LIST_PROVIDERS | LIST_OPCODES);
@@ -124,7 +129,7 @@ fn set_lengths(header: &mut [u8], content_length: u32, auth_length: u16) {
     set(header, AUTH_LENGTH_AT, &auth_length.to_le_bytes());
 }
 
-/// The same request with a longer header. Read as a body, the filler is an unlisted field.
+/// The same request with a longer header. Read as a body, the filler begins a tag of wire type 6.
 pub fn with_header_size(mut request: Vec<u8>, size: u16) -> Vec<u8> {
     let filler = vec![0xEE; usize::from(size) - 22];
     request.splice(SHORTEST_HEADER..SHORTEST_HEADER, filler);
@@ -160,6 +165,21 @@ fn key_name(random: &mut Random, application: &Application) -> Vec<u8> {
         2..12 if !application.keys.is_empty() => random.pick(&application.keys),
         _ => vec![random.pick(b"abcdef")],
     }
+}
+
+/// The body with fields before or behind its own that most often are skipped.
+fn with_unlisted_fields(random: &mut Random, mut body: Vec<u8>) -> Vec<u8> {
+    let classes: Vec<_> = Class::all();
+    for _ in 0..random.pick(&[1, 1, 2, 5]) {
+        let class = match random.below(4) {
+            0 => random.pick(&classes),
+            _ => Class::Depth(random.pick(&[0, 0, 1, 2, 16])),
+        };
+        let piece = Piece::of(random, class).bytes;
+        let at = random.pick(&[0, body.len()]);
+        body.splice(at..at, piece);
+    }
+    body
 }
 
 /// A body with a slip; some can still be read.

@@ -1,7 +1,9 @@
-//! Message bodies: document 01, "Operations and their fields", Reading.
+//! Message bodies: document 01, "Operations and their fields", Reading, as document 02, "Unlisted
+//! fields", amends it.
 
 use razidkot_tests::ask::{self, ask, import_body, registry_of, Answer};
-use razidkot_tests::foreign::{self, Schema, Value};
+use razidkot_tests::bodies::{bytes_of, is_read_as_the_oracle_reads_it};
+use razidkot_tests::foreign::{self, Schema};
 use razidkot_tests::generate::{import_message, message, mutated, Random};
 use razidkot_tests::layout::{slot_bytes, Key, Place};
 use razidkot_tests::oracle;
@@ -9,32 +11,9 @@ use razidkot_tests::run::{assert_agree, for_seeds, Outcomes};
 
 const APPLICATION: &[u8] = b"application";
 
-/// Does the leaf find the values, or the place of the first unreadable field, of the oracle?
-fn is_read_as_the_oracle_reads_it(body: &[u8], schema: Schema) -> bool {
-    match (
-        foreign::read_body(body, schema),
-        oracle::read_body(body, schema),
-    ) {
-        (Ok(values), Ok(expected)) => values.iter().zip(expected).all(|(value, expected)| {
-            bytes_of(body, value) == expected.bytes && value.number == expected.number
-        }),
-        (Err(place), Err(expected)) => place == expected,
-        _ => false,
-    }
-}
-
-fn bytes_of<'a>(body: &'a [u8], value: &Value) -> &'a [u8] {
-    &body[value.start..][..value.length]
-}
-
 /// A message of the schema, one with a slip, or any bytes.
 fn some_body(random: &mut Random, schema: Schema) -> Vec<u8> {
-    let wire_types: &[u64] = match schema {
-        Schema::NoFields => &[],
-        Schema::ListOpcodes => &[0],
-        Schema::Import => &[2, 2, 0, 0, 0],
-        Schema::Name => &[2],
-    };
+    let wire_types = schema.wire_types();
     match random.below(8) {
         0 => {
             let length = random.below(24);
@@ -66,7 +45,7 @@ fn compare(schema: Schema, count: u64, agrees: impl Fn(&[u8]) -> bool) -> Outcom
 }
 
 #[test]
-fn a_message_with_no_input_has_no_fields() {
+fn a_message_with_no_input_skips_all_its_fields() {
     let registry = registry_of(&[]);
     let outcomes = compare(Schema::NoFields, 10_000, |body| {
         let readable = foreign::read_body(body, Schema::NoFields).is_ok();

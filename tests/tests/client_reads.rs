@@ -199,13 +199,18 @@ fn is_unreadable(opcode: u16, body: &[u8]) -> bool {
 
 #[test]
 fn a_list_is_read_packed_only_and_the_last_one_counts() {
-    let lists: [(&[u8], &[u32]); 6] = [
+    let lists: [(&[u8], &[u32]); 10] = [
         (b"", &[]),
         (b"\x0A\x00", &[]),
         (b"\x0A\x02\x00\x01", &[0, 1]),
         (b"\x0A\x01\x05\x0A\x02\x06\x07", &[6, 7]),
         (b"\x0A\x01\x05\x0A\x00", &[]),
         (b"\x0A\x06\xFF\xFF\xFF\xFF\xFF\x01", &[u32::MAX]),
+        // Entries that are not packed have another wire type, and are skipped as unlisted fields are.
+        (b"\x08\x05", &[]),
+        (b"\x08\x05\x0A\x01\x06", &[6]),
+        (b"\x0A\x01\x05\x08\x06", &[5]),
+        (b"\x0A\x01\x05\x12\x00", &[5]),
     ];
     for (body, entries) in lists {
         let entries = entries.to_vec();
@@ -213,12 +218,11 @@ fn a_list_is_read_packed_only_and_the_last_one_counts() {
         assert_eq!(providers, Output::Providers(entries.clone()));
         assert_eq!(read(LIST_OPCODES, 0, body).output, Output::Opcodes(entries));
     }
-    let unreadable: [&[u8]; 6] = [
-        b"\x08\x05",
+    let unreadable: [&[u8]; 5] = [
+        b"\x08\x85",
         b"\x0A\x01\x80",
         b"\x0A\x01\x80\x0A\x01\x05",
         b"\x0A\x01\x05\x0A\x01\x80",
-        b"\x0A\x01\x05\x12\x00",
         b"\x0A\x0A\x80\x80\x80\x80\x80\x80\x80\x80\x80\x02",
     ];
     for body in unreadable {
