@@ -4,9 +4,10 @@
     samples/make.py            writes servers.roster, day.stream and closed.stream beside this file
     samples/make.py --check    writes nothing; fails if one of them, or a .bill file, differs
 
-Each request below stands with the status that document 01 gives it, told by a reader and not by a
-program. The expected bill is counted from these statuses alone, so it is independent of every
-program that prints a bill. The .bill files themselves come from the second program, see README.md.
+Each request below stands with the status that document 01, as document 02 amends it, gives it, told
+by a reader and not by a program. The expected bill is counted from these statuses alone, so it is
+independent of every program that prints a bill. The .bill files themselves come from the second
+program, see README.md.
 """
 
 import argparse
@@ -57,6 +58,11 @@ def number_field(number, value):
 
 def bytes_field(number, value):
     return varint(number << 3 | 2) + varint(len(value)) + value if value else b""
+
+
+def groups(depth, number=15):
+    """So many groups inside each other."""
+    return varint(number << 3 | 3) * depth + varint(number << 3 | 4) * depth
 
 
 def provider_body(provider):
@@ -205,6 +211,15 @@ def keys_of_the_servers():
     ]
 
 
+def unlisted_fields():
+    """Skipped: a field that is not listed, one with another wire type than its own, and groups 16 deep."""
+    name = name_body("ct-0001")
+    return [
+        core(PING, body=number_field(1, 7) + groups(16)),
+        keystore("recon-a", EXPORT, number_field(1, 5) + name + bytes_field(9, b"newer") + groups(16)),
+    ]
+
+
 def full_archive():
     """All slots of an application in use, one destroyed, and the same import again."""
     names = [f"vault-{number}" for number in range(SLOTS)]
@@ -261,6 +276,8 @@ def bad_bodies():
         core(LIST_OPCODES, 7, body=b"\x08" + b"\xff" * 9 + b"\x02"),
         # Wire type 7.
         core(PING, 7, body=b"\x0f"),
+        # Groups 17 deep.
+        keystore("recon-a", EXPORT, name_body("ct-0001") + groups(17), 7),
         core(LIST_OPCODES, 6, body=provider_body(2)),
         destroy_key("recon-a", "", 1135),
         destroy_key("recon-a", "ct 0001", 1135),
@@ -322,6 +339,7 @@ def day():
     sent = [
         *greetings(),
         *keys_of_the_servers(),
+        *unlisted_fields(),
         *full_archive(),
         *bad_headers(),
         *bad_authentication(),
