@@ -6,19 +6,24 @@ The arguments are shared objects; razidkot_pb2, made by protoc, is importable.
 
 What Google's library serialises is read here as the same message; what is written here parses there
 as the same message and is the same bytes; and whole requests are answered by bodies that parse. The
-client's requests have such bodies, and it reads responses that have them. `proto/test` runs it.
-Messages are generated from a fixed seed.
+client's requests have such bodies, and it reads responses that have them. Bodies with fields that are
+not listed, groups and damage are read alike, but for the classes that `unlisted.py` names. `proto/test`
+runs it. Messages are generated from a fixed seed.
 """
 
 import random
 import struct
 import sys
+import warnings
+from collections import Counter
 from dataclasses import dataclass
 from typing import Any
 
 import google.protobuf
 import razidkot_pb2 as messages
+import unlisted
 from google.protobuf.descriptor import FieldDescriptor
+from google.protobuf.empty_pb2 import Empty
 from google.protobuf.internal import api_implementation
 from google.protobuf.message import DecodeError
 from proved import DATA, NOTHING, OPCODES, PROVIDERS, VERSION
@@ -34,6 +39,8 @@ REQUESTS = {
     messages.PsaDestroyKeyRequest: 3,
     messages.PsaExportPublicKeyRequest: 3,
 }
+# Of a request with no input; its message is Empty.
+NO_FIELDS = 0
 RESPONSES = [
     messages.PingResponse,
     messages.ListProvidersResponse,
@@ -170,13 +177,18 @@ def some_body(chance, kind):
     return body if chance.random() < 0.5 else body[: chance.randrange(len(body) + 1)]
 
 
-def some_list_body(chance, kind):
-    """One packed list or none; every other body is cut somewhere."""
-    (field,) = kind.DESCRIPTOR.fields
+def some_list_field(chance, field):
+    """A packed list."""
     numbers = (chance.getrandbits(64) >> chance.randrange(65) for _ in range(chance.randrange(20)))
     packed = b"".join(longer_varint(chance, number, NUMBER_MOST) for number in numbers)
     tag = longer_varint(chance, field.number << 3 | 2, TAG_MOST)
-    body = tag + longer_varint(chance, len(packed), LENGTH_MOST) + packed
+    return tag + longer_varint(chance, len(packed), LENGTH_MOST) + packed
+
+
+def some_list_body(chance, kind):
+    """One packed list or none; every other body is cut somewhere."""
+    (field,) = kind.DESCRIPTOR.fields
+    body = some_list_field(chance, field)
     return body if chance.random() < 0.5 else body[: chance.randrange(len(body) + 1)]
 
 
@@ -185,7 +197,7 @@ def some_list_body(chance, kind):
 
 def read_here(bodies, kind, body):
     """The message in the body, or None."""
-    values = bodies.read(REQUESTS[kind], body)
+    values = bodies.read(REQUESTS.get(kind, NO_FIELDS), body)
     if values is None:
         return None
     message = kind()
@@ -213,10 +225,13 @@ def write_here(bodies, message):
 
 
 def read_there(kind, body):
+    """The message in the body, what it doesn't list left out, or None."""
     try:
-        return kind.FromString(body)
+        message = kind.FromString(body)
     except DecodeError:
         return None
+    message.DiscardUnknownFields()
+    return message
 
 
 # ---- whole requests
@@ -390,6 +405,68 @@ def any_form_is_read_alike_by_the_client(client, chance, operation):
     expect(read_by_client(client, chance, operation, body), expected)
 
 
+# How often each class of differences was seen.
+SEEN = Counter()
+SEEN_LEAST = 20
+
+
+def expect_alike(body, found, expected, is_list=False):
+    """The same message, or none, or a difference in a class that is named."""
+    if found == expected:
+        expect(found, expected)
+        return
+    difference = unlisted.OTHER_MESSAGE
+    if found is None:
+        difference = unlisted.WE_REFUSE
+    elif expected is None:
+        difference = unlisted.IT_REFUSES
+    name = unlisted.class_of(difference, unlisted.features(body, is_list))
+    if name is None:
+        raise AssertionError(f"{difference}, in no class: {body.hex(' ')}")
+    SEEN[name] += 1
+
+
+def unlisted_fields_are_read_alike(bodies, chance, kind):
+    own = [some_field(chance, field) for field in kind.DESCRIPTOR.fields]
+    body = unlisted.mixed(chance, own)
+    expect_alike(body, read_here(bodies, kind, body), read_there(kind, body))
+
+
+def unlisted_fields_are_read_alike_by_the_client(client, chance, operation):
+    kind = operation.response or Empty
+    is_list = operation.output in (PROVIDERS, OPCODES)
+
+    def generate(chance, kind):
+        one = some_list_field if is_list else some_field
+        own = [one(chance, field) for field in kind.DESCRIPTOR.fields]
+        if is_list and chance.random() < 0.1:
+            own.append(unlisted.varint(1 << 3) + unlisted.varint(some_number(chance)))
+        return unlisted.mixed(chance, own + own[: chance.randrange(2)])
+
+    body = short_enough(generate, chance, kind)
+    message = read_there(kind, body)
+    expected = None if message is None else values_of(message, operation.gives)
+    found = read_by_client(client, chance, operation, body)
+    expect_alike(body, found, expected, is_list)
+
+
+def check_unlisted_fields(bodies, client):
+    """The classes are those of Google's C++ library."""
+    if api_implementation.Type() != "cpp":
+        print("unlisted fields: not compared, for this is not Google's C++ library")
+        return
+    # Google's library says so of an end of a group outside of groups, and gives what stands before it.
+    warnings.filterwarnings("ignore", "Unexpected end-group tag")
+    for kind in [*REQUESTS, Empty]:
+        repeat(unlisted_fields_are_read_alike, bodies, kind)
+    for operation in OPERATIONS:
+        repeat(unlisted_fields_are_read_alike_by_the_client, client, operation)
+    for name, difference in unlisted.DIFFERENCES.items():
+        print(f"{difference}: {name}: seen {SEEN[name]} times")
+        if SEEN[name] < SEEN_LEAST:
+            sys.exit(f"failed: hardly ever seen: {name}")
+
+
 def repeat(check, subject, *kind):
     titles = [k.name if isinstance(k, Operation) else k.DESCRIPTOR.name for k in kind]
     name = " ".join([check.__name__.replace("_", " "), *titles])
@@ -424,6 +501,7 @@ def main():
         repeat(serialised_there_is_read_by_the_client, client, operation)
         if operation.response is not None:
             repeat(any_form_is_read_alike_by_the_client, client, operation)
+    check_unlisted_fields(bodies, client)
     print("proto: passed")
 
 
