@@ -412,6 +412,12 @@ SEEN_LEAST = 20
 
 def expect_alike(body, found, expected, is_list=False):
     """The same message, or none, or a difference in a class that is named."""
+    name = unlisted.deciding(unlisted.features(body, is_list))
+    stated = unlisted.DIFFERENCES.get(name)
+    # Whoever is said to refuse the class does so, whether or not the other reads it.
+    refuses = {unlisted.WE_REFUSE: found, unlisted.IT_REFUSES: expected}
+    if refuses.get(stated) is not None:
+        raise AssertionError(f"not refused: {name}: {body.hex(' ')}")
     if found == expected:
         expect(found, expected)
         return
@@ -420,8 +426,7 @@ def expect_alike(body, found, expected, is_list=False):
         difference = unlisted.WE_REFUSE
     elif expected is None:
         difference = unlisted.IT_REFUSES
-    name = unlisted.class_of(difference, unlisted.features(body, is_list))
-    if name is None:
+    if difference != stated:
         raise AssertionError(f"{difference}, in no class: {body.hex(' ')}")
     SEEN[name] += 1
 

@@ -39,12 +39,11 @@ DIFFERENCES = {
 }
 
 
-def class_of(difference, noted):
-    """The class that a difference on a body with these features is in, or None."""
+def deciding(noted):
+    """The feature that decides how a body with these is read, or None."""
     # The first reader that refuses reads no further, whatever comes behind.
     refused = [feature for feature in noted if DIFFERENCES[feature] != OTHER_MESSAGE]
-    first = (refused or noted or [None])[0]
-    return first if first and DIFFERENCES[first] == difference else None
+    return (refused or noted or [None])[0]
 
 
 # ---- what is in a body
