@@ -239,47 +239,36 @@ fn a_body_of_4_096_bytes_of_skipped_fields_is_served() {
 
 // ---- the client's reader
 
-const VERSION: Output = Output::Version { major: 1, minor: 2 };
+const PING_OPCODE: Opcode = Opcode::Core(CoreOpcode::Ping);
+
+/// Each operation with a body that has its output.
+fn outputs() -> [(Opcode, &'static [u8], Output); 6] {
+    let core = Opcode::Core;
+    let keystore = Opcode::Keystore;
+    let list = vec![7, 8];
+    let version = Output::Version { major: 1, minor: 2 };
+    let providers = Output::Providers(list.clone());
+    let opcodes = Output::Opcodes(list);
+    let data = Output::Data(vec![7, 8]);
+    [
+        (PING_OPCODE, &[8, 1, 16, 2], version),
+        (core(CoreOpcode::ListProviders), &[10, 2, 7, 8], providers),
+        (core(CoreOpcode::ListOpcodes), &[10, 2, 7, 8], opcodes),
+        (keystore(KeystoreOpcode::Export), &[10, 2, 7, 8], data),
+        (keystore(KeystoreOpcode::Import), &[], Output::Nothing),
+        (keystore(KeystoreOpcode::Destroy), &[], Output::Nothing),
+    ]
+}
 
 #[test]
 fn the_client_skips_unlisted_fields_and_listed_ones_with_another_wire_type() {
-    let cases = [
-        (Opcode::Core(CoreOpcode::Ping), &[8, 1, 16, 2][..], VERSION),
-        (
-            Opcode::Core(CoreOpcode::ListOpcodes),
-            &[10, 2, 7, 8],
-            Output::Opcodes(vec![7, 8]),
-        ),
-        (
-            Opcode::Core(CoreOpcode::ListProviders),
-            &[10, 2, 7, 8],
-            Output::Providers(vec![7, 8]),
-        ),
-        (
-            Opcode::Keystore(KeystoreOpcode::Export),
-            &[10, 2, 7, 8],
-            Output::Data(vec![7, 8]),
-        ),
-        (
-            Opcode::Keystore(KeystoreOpcode::Import),
-            &[],
-            Output::Nothing,
-        ),
-        (
-            Opcode::Keystore(KeystoreOpcode::Destroy),
-            &[],
-            Output::Nothing,
-        ),
-    ];
-    for (opcode, own, output) in cases {
+    for (opcode, own, output) in outputs() {
         let mut skipped = fields_of(6);
         skipped.extend([nested(DEEPEST, own), nested(2, own)]);
         // Fields 1 of wire types that no output has, and of the one that Ping's has not.
         skipped.extend([1, 3, 4].map(|place| fields_of(1)[place].clone()));
-        skipped.push(match opcode {
-            Opcode::Core(CoreOpcode::Ping) => fields_of(1)[2].clone(),
-            _ => fields_of(1)[0].clone(),
-        });
+        let other = if opcode == PING_OPCODE { 2 } else { 0 };
+        skipped.push(fields_of(1)[other].clone());
         for field in skipped {
             expect_output(opcode, &[&field, own].concat(), output.clone());
             expect_output(opcode, &[own, &field].concat(), output.clone());
