@@ -1,13 +1,15 @@
 -- What skipping a group gives, by the field at hand; and it goes ahead.
-use Prim.Native.Nat.{ℕ, zero, suc, _-_, _≤_, _<_}
+use Prim.Native.Nat.{ℕ, zero, suc, _+_, _-_, _/_, _%_, _^_, _≤_, _<_}
 use native.Mathlib.Omega.{arith}
 use native.Mathlib.Numerals.{sub-one}
 use mathlib.Core.Path.{_≡_, refl}
 use mathlib.Core.List.{List}
-use lib.ListN.{length}
+use lib.ListN.{length, getD}
 use lib.Dec.{eqb}
+use borrow.Author.Tests.{lt-ltb, ne-eqb}
 use Rattle.wire.specs.Scan.{Turn, on, out, follow, scanAt}
-use Rattle.protobuf.specs.Field.{fieldAt}
+use Rattle.protobuf.specs.Varint.{varintOf}
+use Rattle.protobuf.specs.Field.{contentAt, fieldAt}
 use Rattle.protobuf.specs.Group.{behind, inGroup, groupAt}
 use Rattle.protobuf.specs.declared.field.Field.{Field}
 use Rattle.protobuf.specs.declared.field.Field.the-variants.{Number, Span, Fixed, GroupStart, GroupEnd, Unreadable}
@@ -83,3 +85,12 @@ module _ (s : List ℕ) where
   unfolding groupAt
   group-on zero number p z h = absurd (omega arith)
   group-on (suc depth) number p z h = rw sub-one (scan-on (turn depth number) (λ _. noGroup) (length s) (turn-ahead depth number) p tt h)
+
+-- an end tag of one byte
+pub short-end : (s : List ℕ) (number at : ℕ) → at < length s → 8 ≤ getD s at 0 → getD s at 0 ≤ 127 → getD s at 0 / 8 ≡ number → getD s at 0 % 8 ≡ 4 → fieldAt s at ≡ GroupEnd number (at + 1)
+unfolding fieldAt varintOf contentAt
+short-end s number at l least most n w =
+    let small : getD s at 0 < 128 = omega arith in
+    let low : getD s at 0 < 2 ^ 32 = omega arith in
+    let some : getD s at 0 / 8 ≡ 0 → ⊥ = λ e. omega arith in
+    rw (lt-ltb _ _ l, lt-ltb _ _ small, lt-ltb _ _ low, ne-eqb _ _ some, w, n)

@@ -2,7 +2,12 @@
 use crate::field::Field;
 use crate::field::read_field;
 ghost use mathlib.Core.Path.{_≡_};
+ghost use mathlib.Core.Bool.{true};
+ghost use Prim.Native.Nat.{_+_, _<_};
+ghost use lib.ListN.{length};
+ghost use Rattle.protobuf.specs.Field.{fieldAt};
 ghost use Rattle.protobuf.specs.Group.{depthMost, groupAt};
+ghost use Rattle.protobuf.specs.declared.field.Field.the-variants.{GroupEnd};
 
 const DEPTH_MOST: u64 = 16;
 
@@ -10,6 +15,24 @@ const DEPTH_MOST: u64 = 16;
 pub enum Group {
     Skipped(usize),
     Unreadable,
+}
+
+// Whether the end of the group `number` stands at `at`, its tag one byte: most ends are so.
+fn is_end(s: &[u8], number: u64, at: usize) -> bool
+    requires { ⌜ at < length (now s) ⌝ }
+    ensures { λ r. ⌜ (r ≡ true → fieldAt (now (s .entry)) at ≡ GroupEnd number (at + 1)) ⌝ }
+{
+    let tag = s[at] as u64;
+    if tag < 8 {
+        return false;
+    }
+    if 127 < tag {
+        return false;
+    }
+    if tag / 8 != number {
+        return false;
+    }
+    tag % 8 == 4
 }
 
 // The group `number`, whose first field is at `at`; groups may still stand `depth` deep, itself counted.
@@ -21,6 +44,9 @@ fn skip_within(s: &[u8], number: u64, at: usize, depth: u64) -> Group
     }
     let mut p = at;
     while p < s.len() {
+        if is_end(s, number, p) {
+            return Group::Skipped(p + 1);
+        }
         p = match read_field(s, p) {
             Field::Number { next, .. } => next,
             Field::Span { next, .. } => next,

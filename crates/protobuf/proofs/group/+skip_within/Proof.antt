@@ -19,6 +19,7 @@ use Rattle.protobuf.proofs.group.skip_within.Reads as skip-within
 use Rattle.protobuf.proofs.group.skip_within.Kinds as skip-within-kinds
 use Rattle.protobuf.proofs.group.+skip_within.Lts-skip_within as skip-within-lts
 use Rattle.protobuf.proofs.field.read_field.Reads as read-field-reads
+use Rattle.protobuf.proofs.group.is_end.Reads as is-end-reads
 use Rattle.protobuf.proofs.group.+skip_within.{statement}
 use Rattle.protobuf.proofs.group.+skip_within.Tie.{close}
 
@@ -41,19 +42,23 @@ skip-within-μ-loop s number at depth p₀ p = length s - p
 
 -- what skipping from the field at hand on gives
 field-here : (t : ℕ) (c : skip-within-lts.After-read-field (
+  is-end-reads.Asked,
+  is-end-reads.Learnt,
   read-field-reads.Asked,
   read-field-reads.Learnt,
   skip-within-below t,
   skip-within.Post,
 ) (skip-within-at t) skip-within.Post skip-within-Inv-loop skip-within-μ-loop) →
-    let a = c .before .before .before .before .before .args in
-    groupAt (a .depth) (now (a .s)) (a .number) (c .before .before .loop .p)
+    let a = c .before .before .before .before .before .before .before .args in
+    groupAt (a .depth) (now (a .s)) (a .number) (c .before .before .before .before .loop .p)
     ≡ follow (inGroup (a .number) (groupAt (a .depth - 1) (now (a .s))) (c .read-field .result)) (λ next _. groupAt (a .depth) (now (a .s)) (a .number) next)
 field-here t c =
-    let a = c .before .before .before .before .before .args in
-    rw (sym (c .read-field .ensures)) at (laws.group-on (now (a .s)) (a .depth) (a .number) (c .before .before .loop .p) (pos-of-ne-zero (c .before .before .before .if1 .left)) (c .before .loop-test .taken))
+    let a = c .before .before .before .before .before .before .before .args in
+    rw (sym (c .read-field .ensures)) at (laws.group-on (now (a .s)) (a .depth) (a .number) (c .before .before .before .before .loop .p) (pos-of-ne-zero (c .before .before .before .before .before .if1 .left)) (c .before .before .before .loop-test .taken))
 
 skip-within-returns : (t : ℕ) → skip-within-lts.Need-returns (
+  is-end-reads.Asked,
+  is-end-reads.Learnt,
   read-field-reads.Asked,
   read-field-reads.Learnt,
   skip-within-below t,
@@ -64,6 +69,8 @@ skip-within-returns t c =
     rw (c .if1 .taken) (sym (laws.group-deep (now (a .s)) (a .number) (a .at)))
 
 skip-within-loop-holds : (t : ℕ) → skip-within-lts.Need-loop-holds (
+  is-end-reads.Asked,
+  is-end-reads.Learnt,
   read-field-reads.Asked,
   read-field-reads.Learnt,
   skip-within-below t,
@@ -71,7 +78,43 @@ skip-within-loop-holds : (t : ℕ) → skip-within-lts.Need-loop-holds (
 ) (skip-within-at t) skip-within.Post skip-within-Inv-loop skip-within-μ-loop
 skip-within-loop-holds t c = refl
 
+skip-within-is-end-requires : (t : ℕ) → skip-within-lts.Need-is-end-requires (
+  is-end-reads.Asked,
+  is-end-reads.Learnt,
+  read-field-reads.Asked,
+  read-field-reads.Learnt,
+  skip-within-below t,
+  skip-within.Post,
+) (skip-within-at t) skip-within.Post skip-within-Inv-loop skip-within-μ-loop
+skip-within-is-end-requires t c κs = c .loop-test .taken
+
+skip-within-add-t18 : (t : ℕ) → skip-within-lts.Need-add-t18 (
+  is-end-reads.Asked,
+  is-end-reads.Learnt,
+  read-field-reads.Asked,
+  read-field-reads.Learnt,
+  skip-within-below t,
+  skip-within.Post,
+) (skip-within-at t) skip-within.Post skip-within-Inv-loop skip-within-μ-loop
+skip-within-add-t18 t c = search needs
+
+skip-within-returns-2 : (t : ℕ) → skip-within-lts.Need-returns-2 (
+  is-end-reads.Asked,
+  is-end-reads.Learnt,
+  read-field-reads.Asked,
+  read-field-reads.Learnt,
+  skip-within-below t,
+  skip-within.Post,
+) (skip-within-at t) skip-within.Post skip-within-Inv-loop skip-within-μ-loop
+skip-within-returns-2 t c =
+    let l = c .before .before .before in
+    let a = l .before .before .before .args in
+    let e = c .before .is-end .ensures (c .if2 .taken) in
+    sym (rw (e, eq-eqb (a .number) (a .number) refl) at (laws.group-on (now (a .s)) (a .depth) (a .number) (l .loop .p) (pos-of-ne-zero (l .before .if1 .left)) (c .before .before .loop-test .taken))) ∙ l .loop .inv
+
 skip-within-read-field-requires : (t : ℕ) → skip-within-lts.Need-read-field-requires (
+  is-end-reads.Asked,
+  is-end-reads.Learnt,
   read-field-reads.Asked,
   read-field-reads.Learnt,
   skip-within-below t,
@@ -80,6 +123,8 @@ skip-within-read-field-requires : (t : ℕ) → skip-within-lts.Need-read-field-
 skip-within-read-field-requires t c κs = search needs
 
 skip-within-enum-known-next : (t : ℕ) → skip-within-lts.Need-enum-known-next (
+  is-end-reads.Asked,
+  is-end-reads.Learnt,
   read-field-reads.Asked,
   read-field-reads.Learnt,
   skip-within-below t,
@@ -88,6 +133,8 @@ skip-within-enum-known-next : (t : ℕ) → skip-within-lts.Need-enum-known-next
 skip-within-enum-known-next t c = search needs
 
 skip-within-enum-known-next-2 : (t : ℕ) → skip-within-lts.Need-enum-known-next-2 (
+  is-end-reads.Asked,
+  is-end-reads.Learnt,
   read-field-reads.Asked,
   read-field-reads.Learnt,
   skip-within-below t,
@@ -96,6 +143,8 @@ skip-within-enum-known-next-2 : (t : ℕ) → skip-within-lts.Need-enum-known-ne
 skip-within-enum-known-next-2 t c = search needs
 
 skip-within-enum-known-next-3 : (t : ℕ) → skip-within-lts.Need-enum-known-next-3 (
+  is-end-reads.Asked,
+  is-end-reads.Learnt,
   read-field-reads.Asked,
   read-field-reads.Learnt,
   skip-within-below t,
@@ -104,6 +153,8 @@ skip-within-enum-known-next-3 : (t : ℕ) → skip-within-lts.Need-enum-known-ne
 skip-within-enum-known-next-3 t c = search needs
 
 skip-within-enum-known-inner : (t : ℕ) → skip-within-lts.Need-enum-known-inner (
+  is-end-reads.Asked,
+  is-end-reads.Learnt,
   read-field-reads.Asked,
   read-field-reads.Learnt,
   skip-within-below t,
@@ -112,23 +163,29 @@ skip-within-enum-known-inner : (t : ℕ) → skip-within-lts.Need-enum-known-inn
 skip-within-enum-known-inner t c = search needs
 
 skip-within-sub-skip-within : (t : ℕ) → skip-within-lts.Need-sub-skip-within (
+  is-end-reads.Asked,
+  is-end-reads.Learnt,
   read-field-reads.Asked,
   read-field-reads.Learnt,
   skip-within-below t,
   skip-within.Post,
 ) (skip-within-at t) skip-within.Post skip-within-Inv-loop skip-within-μ-loop
-skip-within-sub-skip-within t c = pos-of-ne-zero (c .before .before .before .before .before .before .if1 .left)
+skip-within-sub-skip-within t c = pos-of-ne-zero (c .before .before .before .before .before .before .before .before .if1 .left)
 
 skip-within-skip-within-requires : (t : ℕ) → skip-within-lts.Need-skip-within-requires (
+  is-end-reads.Asked,
+  is-end-reads.Learnt,
   read-field-reads.Asked,
   read-field-reads.Learnt,
   skip-within-below t,
   skip-within.Post,
 ) (skip-within-at t) skip-within.Post skip-within-Inv-loop skip-within-μ-loop
 skip-within-skip-within-requires t c κs =
-    (omega (arith, c .before .before .before .before .before .before .before .before .pre .0, pos-of-ne-zero (c .before .before .before .before .before .before .if1 .left)), tt)
+    (omega (arith, c .before .before .before .before .before .before .before .before .before .before .pre .0, pos-of-ne-zero (c .before .before .before .before .before .before .before .before .if1 .left)), tt)
 
 skip-within-enum-known-end : (t : ℕ) → skip-within-lts.Need-enum-known-end (
+  is-end-reads.Asked,
+  is-end-reads.Learnt,
   read-field-reads.Asked,
   read-field-reads.Learnt,
   skip-within-below t,
@@ -137,6 +194,8 @@ skip-within-enum-known-end : (t : ℕ) → skip-within-lts.Need-enum-known-end (
 skip-within-enum-known-end t c = search needs
 
 skip-within-enum-told : (t : ℕ) → skip-within-lts.Need-enum-told (
+  is-end-reads.Asked,
+  is-end-reads.Learnt,
   read-field-reads.Asked,
   read-field-reads.Learnt,
   skip-within-below t,
@@ -144,17 +203,21 @@ skip-within-enum-told : (t : ℕ) → skip-within-lts.Need-enum-told (
 ) (skip-within-at t) skip-within.Post skip-within-Inv-loop skip-within-μ-loop
 skip-within-enum-told t c = search needs
 
-skip-within-returns-2 : (t : ℕ) → skip-within-lts.Need-returns-2 (
+skip-within-returns-3 : (t : ℕ) → skip-within-lts.Need-returns-3 (
+  is-end-reads.Asked,
+  is-end-reads.Learnt,
   read-field-reads.Asked,
   read-field-reads.Learnt,
   skip-within-below t,
   skip-within.Post,
 ) (skip-within-at t) skip-within.Post skip-within-Inv-loop skip-within-μ-loop
-skip-within-returns-2 t c =
+skip-within-returns-3 t c =
     let d = c .before .before .before .before .before .before in
-    sym (rw (c .before .before .before .before .inner .given .1, sym (c .before .before .skip-within .ensures) ∙ c .enum-told .given .1) at (field-here t d)) ∙ d .before .before .loop .inv
+    sym (rw (c .before .before .before .before .inner .given .1, sym (c .before .before .skip-within .ensures) ∙ c .enum-told .given .1) at (field-here t d)) ∙ d .before .before .before .before .loop .inv
 
 skip-within-enum-known-ended : (t : ℕ) → skip-within-lts.Need-enum-known-ended (
+  is-end-reads.Asked,
+  is-end-reads.Learnt,
   read-field-reads.Asked,
   read-field-reads.Learnt,
   skip-within-below t,
@@ -162,17 +225,9 @@ skip-within-enum-known-ended : (t : ℕ) → skip-within-lts.Need-enum-known-end
 ) (skip-within-at t) skip-within.Post skip-within-Inv-loop skip-within-μ-loop
 skip-within-enum-known-ended t c = search needs
 
-skip-within-returns-3 : (t : ℕ) → skip-within-lts.Need-returns-3 (
-  read-field-reads.Asked,
-  read-field-reads.Learnt,
-  skip-within-below t,
-  skip-within.Post,
-) (skip-within-at t) skip-within.Post skip-within-Inv-loop skip-within-μ-loop
-skip-within-returns-3 t c =
-    let d = c .before .before .before .before in
-    sym (rw (c .before .before .ended .given .1, eq-eqb _ _ (c .if2 .taken)) at (field-here t d)) ∙ d .before .before .loop .inv
-
 skip-within-returns-4 : (t : ℕ) → skip-within-lts.Need-returns-4 (
+  is-end-reads.Asked,
+  is-end-reads.Learnt,
   read-field-reads.Asked,
   read-field-reads.Learnt,
   skip-within-below t,
@@ -180,9 +235,23 @@ skip-within-returns-4 : (t : ℕ) → skip-within-lts.Need-returns-4 (
 ) (skip-within-at t) skip-within.Post skip-within-Inv-loop skip-within-μ-loop
 skip-within-returns-4 t c =
     let d = c .before .before .before .before in
-    sym (rw (c .before .before .ended .given .1, ne-eqb _ _ (c .if2 .left)) at (field-here t d)) ∙ d .before .before .loop .inv
+    sym (rw (c .before .before .ended .given .1, eq-eqb _ _ (c .if3 .taken)) at (field-here t d)) ∙ d .before .before .before .before .loop .inv
+
+skip-within-returns-5 : (t : ℕ) → skip-within-lts.Need-returns-5 (
+  is-end-reads.Asked,
+  is-end-reads.Learnt,
+  read-field-reads.Asked,
+  read-field-reads.Learnt,
+  skip-within-below t,
+  skip-within.Post,
+) (skip-within-at t) skip-within.Post skip-within-Inv-loop skip-within-μ-loop
+skip-within-returns-5 t c =
+    let d = c .before .before .before .before in
+    sym (rw (c .before .before .ended .given .1, ne-eqb _ _ (c .if3 .left)) at (field-here t d)) ∙ d .before .before .before .before .loop .inv
 
 skip-within-enum-told-2 : (t : ℕ) → skip-within-lts.Need-enum-told-2 (
+  is-end-reads.Asked,
+  is-end-reads.Learnt,
   read-field-reads.Asked,
   read-field-reads.Learnt,
   skip-within-below t,
@@ -190,17 +259,21 @@ skip-within-enum-told-2 : (t : ℕ) → skip-within-lts.Need-enum-told-2 (
 ) (skip-within-at t) skip-within.Post skip-within-Inv-loop skip-within-μ-loop
 skip-within-enum-told-2 t c = search needs
 
-skip-within-returns-5 : (t : ℕ) → skip-within-lts.Need-returns-5 (
+skip-within-returns-6 : (t : ℕ) → skip-within-lts.Need-returns-6 (
+  is-end-reads.Asked,
+  is-end-reads.Learnt,
   read-field-reads.Asked,
   read-field-reads.Learnt,
   skip-within-below t,
   skip-within.Post,
 ) (skip-within-at t) skip-within.Post skip-within-Inv-loop skip-within-μ-loop
-skip-within-returns-5 t c =
+skip-within-returns-6 t c =
     let d = c .before .before in
-    sym (rw (c .enum-told2 .given .1) at (field-here t d)) ∙ d .before .before .loop .inv
+    sym (rw (c .enum-told2 .given .1) at (field-here t d)) ∙ d .before .before .before .before .loop .inv
 
 skip-within-loop-less : (t : ℕ) → skip-within-lts.Need-loop-less (
+  is-end-reads.Asked,
+  is-end-reads.Learnt,
   read-field-reads.Asked,
   read-field-reads.Learnt,
   skip-within-below t,
@@ -208,13 +281,15 @@ skip-within-loop-less : (t : ℕ) → skip-within-lts.Need-loop-less (
 ) (skip-within-at t) skip-within.Post skip-within-Inv-loop skip-within-μ-loop
 skip-within-loop-less t c =
     let d = c .before .before .before in
-    let s = now (d .before .before .before .before .before .args .s) in
-    let p : ℕ = d .before .before .loop .p in
+    let s = now (d .before .before .before .before .before .before .before .args .s) in
+    let p : ℕ = d .before .before .before .before .loop .p in
     let v = c .before .next .given in
     let h : Ahead (length s) p (v .0 .1 .1 .0) = rw (sym (d .read-field .ensures) ∙ v .1) at (field-ahead s p) in
     omega arith
 
 skip-within-loop-again : (t : ℕ) → skip-within-lts.Need-loop-again (
+  is-end-reads.Asked,
+  is-end-reads.Learnt,
   read-field-reads.Asked,
   read-field-reads.Learnt,
   skip-within-below t,
@@ -222,9 +297,11 @@ skip-within-loop-again : (t : ℕ) → skip-within-lts.Need-loop-again (
 ) (skip-within-at t) skip-within.Post skip-within-Inv-loop skip-within-μ-loop
 skip-within-loop-again t c =
     let d = c .before .before .before in
-    sym (rw (c .before .next .given .1) at (field-here t d)) ∙ d .before .before .loop .inv
+    sym (rw (c .before .next .given .1) at (field-here t d)) ∙ d .before .before .before .before .loop .inv
 
 skip-within-loop-less-2 : (t : ℕ) → skip-within-lts.Need-loop-less-2 (
+  is-end-reads.Asked,
+  is-end-reads.Learnt,
   read-field-reads.Asked,
   read-field-reads.Learnt,
   skip-within-below t,
@@ -232,13 +309,15 @@ skip-within-loop-less-2 : (t : ℕ) → skip-within-lts.Need-loop-less-2 (
 ) (skip-within-at t) skip-within.Post skip-within-Inv-loop skip-within-μ-loop
 skip-within-loop-less-2 t c =
     let d = c .before .before .before in
-    let s = now (d .before .before .before .before .before .args .s) in
-    let p : ℕ = d .before .before .loop .p in
+    let s = now (d .before .before .before .before .before .before .before .args .s) in
+    let p : ℕ = d .before .before .before .before .loop .p in
     let v = c .before .next2 .given in
     let h : Ahead (length s) p (v .0 .1 .1 .1 .0) × (v .0 .1 .0 + v .0 .1 .1 .0 ≤ length s) = rw (sym (d .read-field .ensures) ∙ v .1) at (field-ahead s p) in
     omega arith
 
 skip-within-loop-again-2 : (t : ℕ) → skip-within-lts.Need-loop-again-2 (
+  is-end-reads.Asked,
+  is-end-reads.Learnt,
   read-field-reads.Asked,
   read-field-reads.Learnt,
   skip-within-below t,
@@ -246,9 +325,11 @@ skip-within-loop-again-2 : (t : ℕ) → skip-within-lts.Need-loop-again-2 (
 ) (skip-within-at t) skip-within.Post skip-within-Inv-loop skip-within-μ-loop
 skip-within-loop-again-2 t c =
     let d = c .before .before .before in
-    sym (rw (c .before .next2 .given .1) at (field-here t d)) ∙ d .before .before .loop .inv
+    sym (rw (c .before .next2 .given .1) at (field-here t d)) ∙ d .before .before .before .before .loop .inv
 
 skip-within-loop-less-3 : (t : ℕ) → skip-within-lts.Need-loop-less-3 (
+  is-end-reads.Asked,
+  is-end-reads.Learnt,
   read-field-reads.Asked,
   read-field-reads.Learnt,
   skip-within-below t,
@@ -256,13 +337,15 @@ skip-within-loop-less-3 : (t : ℕ) → skip-within-lts.Need-loop-less-3 (
 ) (skip-within-at t) skip-within.Post skip-within-Inv-loop skip-within-μ-loop
 skip-within-loop-less-3 t c =
     let d = c .before .before .before in
-    let s = now (d .before .before .before .before .before .args .s) in
-    let p : ℕ = d .before .before .loop .p in
+    let s = now (d .before .before .before .before .before .before .before .args .s) in
+    let p : ℕ = d .before .before .before .before .loop .p in
     let v = c .before .next3 .given in
     let h : Ahead (length s) p (v .0 .1 .0) = rw (sym (d .read-field .ensures) ∙ v .1) at (field-ahead s p) in
     omega arith
 
 skip-within-loop-again-3 : (t : ℕ) → skip-within-lts.Need-loop-again-3 (
+  is-end-reads.Asked,
+  is-end-reads.Learnt,
   read-field-reads.Asked,
   read-field-reads.Learnt,
   skip-within-below t,
@@ -270,9 +353,11 @@ skip-within-loop-again-3 : (t : ℕ) → skip-within-lts.Need-loop-again-3 (
 ) (skip-within-at t) skip-within.Post skip-within-Inv-loop skip-within-μ-loop
 skip-within-loop-again-3 t c =
     let d = c .before .before .before in
-    sym (rw (c .before .next3 .given .1) at (field-here t d)) ∙ d .before .before .loop .inv
+    sym (rw (c .before .next3 .given .1) at (field-here t d)) ∙ d .before .before .before .before .loop .inv
 
 skip-within-loop-less-4 : (t : ℕ) → skip-within-lts.Need-loop-less-4 (
+  is-end-reads.Asked,
+  is-end-reads.Learnt,
   read-field-reads.Asked,
   read-field-reads.Learnt,
   skip-within-below t,
@@ -280,9 +365,9 @@ skip-within-loop-less-4 : (t : ℕ) → skip-within-lts.Need-loop-less-4 (
 ) (skip-within-at t) skip-within.Post skip-within-Inv-loop skip-within-μ-loop
 skip-within-loop-less-4 t c =
     let d = c .before .before .before .before .before .before .before in
-    let a = d .before .before .before .before .before .args in
+    let a = d .before .before .before .before .before .before .before .args in
     let s = now (a .s) in
-    let p : ℕ = d .before .before .loop .p in
+    let p : ℕ = d .before .before .before .before .loop .p in
     let v = c .before .before .before .before .before .inner .given in
     let e = c .before .end .given in
     let h : Ahead (length s) p (v .0 .1 .0) = rw (sym (d .read-field .ensures) ∙ v .1) at (field-ahead s p) in
@@ -290,6 +375,8 @@ skip-within-loop-less-4 t c =
     omega arith
 
 skip-within-loop-again-4 : (t : ℕ) → skip-within-lts.Need-loop-again-4 (
+  is-end-reads.Asked,
+  is-end-reads.Learnt,
   read-field-reads.Asked,
   read-field-reads.Learnt,
   skip-within-below t,
@@ -297,21 +384,25 @@ skip-within-loop-again-4 : (t : ℕ) → skip-within-lts.Need-loop-again-4 (
 ) (skip-within-at t) skip-within.Post skip-within-Inv-loop skip-within-μ-loop
 skip-within-loop-again-4 t c =
     let d = c .before .before .before .before .before .before .before in
-    sym (rw (c .before .before .before .before .before .inner .given .1, sym (c .before .before .before .skip-within .ensures) ∙ c .before .end .given .1) at (field-here t d)) ∙ d .before .before .loop .inv
+    sym (rw (c .before .before .before .before .before .inner .given .1, sym (c .before .before .before .skip-within .ensures) ∙ c .before .end .given .1) at (field-here t d)) ∙ d .before .before .before .before .loop .inv
 
-skip-within-returns-6 : (t : ℕ) → skip-within-lts.Need-returns-6 (
+skip-within-returns-7 : (t : ℕ) → skip-within-lts.Need-returns-7 (
+  is-end-reads.Asked,
+  is-end-reads.Learnt,
   read-field-reads.Asked,
   read-field-reads.Learnt,
   skip-within-below t,
   skip-within.Post,
 ) (skip-within-at t) skip-within.Post skip-within-Inv-loop skip-within-μ-loop
-skip-within-returns-6 t c =
+skip-within-returns-7 t c =
     let a = c .before .before .before .before .args in
     let l = c .before .loop in
     sym (laws.group-end (now (a .s)) (a .depth) (a .number) (l .p) (c .loop-test .left)) ∙ l .inv
 
 pub +skip-within-spec : {M : Type 1} → statement M
 +skip-within-spec = close μ-skip-within λ t. skip-within-lts.spec (
+  is-end-reads.Asked,
+  is-end-reads.Learnt,
   read-field-reads.Asked,
   read-field-reads.Learnt,
   skip-within-below t,
@@ -323,6 +414,9 @@ pub +skip-within-spec : {M : Type 1} → statement M
     skip-within-μ-loop
     (skip-within-returns t)
     (skip-within-loop-holds t)
+    (skip-within-is-end-requires t)
+    (skip-within-add-t18 t)
+    (skip-within-returns-2 t)
     (skip-within-read-field-requires t)
     (skip-within-enum-known-next t)
     (skip-within-enum-known-next-2 t)
@@ -332,12 +426,12 @@ pub +skip-within-spec : {M : Type 1} → statement M
     (skip-within-skip-within-requires t)
     (skip-within-enum-known-end t)
     (skip-within-enum-told t)
-    (skip-within-returns-2 t)
-    (skip-within-enum-known-ended t)
     (skip-within-returns-3 t)
+    (skip-within-enum-known-ended t)
     (skip-within-returns-4 t)
-    (skip-within-enum-told-2 t)
     (skip-within-returns-5 t)
+    (skip-within-enum-told-2 t)
+    (skip-within-returns-6 t)
     (skip-within-loop-less t)
     (skip-within-loop-again t)
     (skip-within-loop-less-2 t)
@@ -346,4 +440,4 @@ pub +skip-within-spec : {M : Type 1} → statement M
     (skip-within-loop-again-3 t)
     (skip-within-loop-less-4 t)
     (skip-within-loop-again-4 t)
-    (skip-within-returns-6 t)
+    (skip-within-returns-7 t)
