@@ -1,13 +1,15 @@
--- Laws of `found`: by where the bytes end, of bytes that follow, and of how many are wanted.
-use mathlib.Core.Path.{_≡_, refl, sym, ap, _∙_}
-use Prim.Native.Nat.{ℕ, _+_, _≤_, _<_}
+-- Laws of `found`: by where the bytes end, of bytes that follow, and of how many are wanted or make a run.
+use mathlib.Core.Path.{_≡_, refl, sym, ap, subst, _∙_}
+use Prim.Native.Nat.{ℕ, _+_, _-_, _≤_, _<_}
 use mathlib.Core.Option.{Option, none, some}
-use mathlib.Core.List.{List, _++_}
+use mathlib.Core.List.{List, [], _∷_, _++_}
 use native.Mathlib.Omega.{arith}
 use borrow.Author.Tests.{lt-ltb, le-ltb, ltb-true, ltb-false, eq-eqb, ne-eqb, eqb-true, eqb-false}
-use lib.ListN.{length, take, drop, length-append}
+use lib.ListN.{length, take, drop, length-append, take-append-drop}
+use lib.Seq.{length-take-le}
 use lib.Dec.{ltb, eqb}
 use Rattle.wire.specs.Choice.{firstOf}
+use Rattle.wire.specs.Numbers.{field}
 use Rattle.wire.specs.Request.{magicNumber, magic, headerSize}
 use Rattle.wire.specs.Response.{responseHeaderSize, responseLeast, responseOf}
 use Rattle.wire.specs.declared.response.ResponseHeader.{ResponseHeader}
@@ -16,7 +18,7 @@ use Rattle.wire.proofs.NumberLaws.{field-append}
 use Rattle.reading.proofs.ReaderLaws.{decide}
 use Rattle.client.specs.Reading.{Asked, contentMost, refused, headerTests, bodyReply, foundBehind, found}
 use Rattle.client.specs.State.{responseMost}
-use Rattle.client.specs.code.Looked.{wantedOf}
+use Rattle.client.specs.code.Looked.{wantedOf, Run}
 use Rattle.client.specs.declared.ReadRefusal.{ReadRefusal}
 use Rattle.client.specs.declared.ReadRefusal.the-variants.{WrongMagic, WrongHeaderSize, ContentTooLong}
 
@@ -174,3 +176,75 @@ nothing-more asked s x e less = none-found asked (s ++ x) (go (begun asked s e))
         inBody (omega (arith, long)) (field-append 0 4 s x (omega arith) ∙ m) (field-append 4 2 s x (omega arith) ∙ h)
         (ap (λ (r : ResponseHeader). firstOf (headerTests asked r)) same ∙ c)
         (omega (arith, wanted-body s l, long, n))
+
+-- ---- a run of bytes
+
+-- as many as are wanted
+pub run-wanted : (asked : Asked) (s rest : List ℕ) → found asked s ≡ none → Run asked s rest (wantedOf s - length s)
+run-wanted asked s rest e =
+    let w = wanted asked s e in
+    let more = w .more in
+    let few = w .few in
+    record {
+      one = omega arith;
+      few = omega arith;
+      nothing-before = λ j h l. (let n = length-take-le j rest l in nothing-more asked s (take j rest) e (omega arith));
+    }
+
+no-bytes : (s : List ℕ) → length s ≡ 0 → s ≡ []
+no-bytes [] e = refl
+no-bytes (x ∷ s) e = absurd (omega arith)
+
+-- behind none
+pub run-first : (asked : Asked) (s rest : List ℕ) (k : ℕ) → length s ≡ 0 → Run asked [] rest k → Run asked s rest k
+run-first asked s rest k e r = subst (λ (l : List ℕ). Run asked l rest k) (sym (no-bytes s e)) r
+
+module _ (asked : Asked) (s : List ℕ) where
+  pub run-six : Run asked [] s 6
+  run-six = record {
+    one = omega arith;
+    few = omega arith;
+    nothing-before = λ j h l. (let n = length-take-le j s l in found-short asked (take j s) (omega arith));
+  }
+
+  module _ (m : magic s ≡ magicNumber) (h : headerSize s ≡ responseHeaderSize) where
+    -- of six bytes or more, up to j
+    module _ (j : ℕ) (there : j ≤ length s) (six : 6 ≤ j) where
+      long : length (take j s) ≡ j
+      long = length-take-le j s there
+
+      front : (at width : ℕ) → at + width ≤ j → field at width (take j s) ≡ field at width s
+      front at width g = sym (field-append at width (take j s) (drop j s) (omega (arith, long))) ∙ ap (field at width) (take-append-drop j s)
+
+      in-header : j < responseLeast → Begun asked (take j s)
+      in-header g = inHeader (omega (arith, long)) (front 0 4 (omega arith) ∙ m) (front 4 2 (omega arith) ∙ h) (omega (arith, long))
+
+      same-header : responseLeast ≤ j → responseOf (take j s) ≡ responseOf s
+      same-header g = sym (response-append (take j s) (drop j s) (omega (arith, long))) ∙ ap responseOf (take-append-drop j s)
+
+      in-body : firstOf (headerTests asked (responseOf s)) ≡ none → responseLeast ≤ j → j < responseLeast + responseOf s .«content_length» → Begun asked (take j s)
+      in-body c g k =
+          let same = same-header g in
+          let n = ap (λ (r : ResponseHeader). r .«content_length») same in
+          inBody (omega (arith, long)) (front 0 4 (omega arith) ∙ m) (front 4 2 (omega arith) ∙ h)
+          (ap (λ (r : ResponseHeader). firstOf (headerTests asked r)) same ∙ c)
+          (omega (arith, long, n))
+
+    before-header : (j : ℕ) → j < responseLeast → j ≤ length s → found asked (take j s) ≡ none
+    before-header j g l =
+        decide (ltb j 6) (λ t. run-six .nothing-before j (ltb-true _ _ t) l)
+        (λ t. none-found asked (take j s) (in-header j l (ltb-false _ _ t) g))
+
+    pub run-header : Run asked [] s responseLeast
+    run-header = record { one = omega arith; few = omega arith; nothing-before = before-header }
+
+    pub run-whole : firstOf (headerTests asked (responseOf s)) ≡ none → Run asked [] s (responseLeast + responseOf s .«content_length»)
+    run-whole c =
+        let few = content-few asked (responseOf s) s c in
+        record {
+          one = omega arith;
+          few = omega arith;
+          nothing-before = λ j g l.
+              decide (ltb j responseLeast) (λ t. before-header j (ltb-true _ _ t) l)
+              (λ t. (let b : responseLeast ≤ j = ltb-false _ _ t in none-found asked (take j s) (in-body j l (omega arith) c b g)));
+        }

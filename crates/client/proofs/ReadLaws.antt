@@ -9,7 +9,7 @@ use mathlib.Core.Logic.{inl, inr}
 use denote.Enum.Declared.{tagOf}
 use types.Run.{OneOf}
 use native.Mathlib.Decide.{decLt}
-use lib.ListN.{length, take, drop, getD, length-append, length-drop}
+use lib.ListN.{length, take, drop, getD, length-append}
 use lib.Seq.{take-suc, take-add, length-take-le}
 use Rattle.wire.specs.Choice.{isSome}
 use Rattle.wire.specs.Lists.{all}
@@ -22,12 +22,12 @@ use Rattle.reading.proofs.CallLaws.{Passed, pass-none, pass-run, stop-byte, sto
 use Rattle.client.specs.Reading.{Asked, Reply, found, responseReader}
 use Rattle.client.specs.State.{responseMost, stateSize, stateBytes, askedIn, bytesIn, layout, wellFormedState, illFormed, waiting, said, saidOf, ReadOutcome, refusal, readOutcome}
 use Rattle.client.specs.Handed.{saidIn, handed}
-use Rattle.client.specs.code.Looked.{wantedOf, Looked, Holding, Filled}
+use Rattle.client.specs.code.Looked.{Looked, Holding, Filled}
 use Rattle.client.specs.declared.look.Said.{Said as SaidPlaces}
 use Rattle.client.specs.declared.look.Said.the-variants.{IllFormed, Waiting, Response, Refused}
 use Rattle.client.proofs.look.Said.{the-type}
 use Rattle.client.proofs.StateLaws.{isListed, asked-back, held-back, size-there, well-there, Well, well, memory-is}
-use Rattle.client.proofs.FoundLaws.{wanted, nothing-more}
+use Rattle.client.proofs.FoundLaws.{wanted}
 
 -- ---- what is said
 
@@ -188,21 +188,9 @@ module _ (asked : Asked) (held chunk : List ℕ) where
       after-is : after ≡ stateBytes asked (kept (used + k))
       after-is = f .after-is ∙ ap₂ stateBytes part-asked (ap (λ (l : List ℕ). l ++ take k (drop used chunk)) part-bytes ∙ kept-more used k)
 
-      few : length (kept used) + k ≤ wantedOf (kept used)
-      few = subst (λ (l : List ℕ). length l + k ≤ wantedOf l) part-bytes (f .few)
-
-      some-more : used + k < length chunk → length (kept used) + k ≡ wantedOf (kept used)
-      some-more h = subst (λ (l : List ℕ). length l + k ≡ wantedOf l) part-bytes (f .more h)
-
-      -- the chunk goes on behind them, so that there is at least one
-      pub after-some : used + k < length chunk → 1 ≤ k
-      after-some h = let w = wanted asked (kept used) (p .begun) in let m = w .more in let e = some-more h in omega arith
-
       after-few : length (kept (used + k)) ≤ responseMost
       after-few =
-          let w = wanted asked (kept used) (p .begun) in
-          let most = w .few in
-          let h = few in
+          let few : length (kept used) + k ≤ responseMost = subst (λ (l : List ℕ). length l + k ≤ responseMost) part-bytes (f .few) in
           let l = kept-long used (p .left) in
           let l′ = kept-long (used + k) (f .left) in
           omega arith
@@ -226,11 +214,9 @@ module _ (asked : Asked) (held chunk : List ℕ) where
 
         none-before : (j : ℕ) → j < k → found asked (kept (used + j)) ≡ none
         none-before j h =
-            let fits = f .left in
-            let d = length-drop used chunk in
-            let long : length (take j (drop used chunk)) ≡ j = length-take-le j (drop used chunk) (omega arith) in
-            let most = few in
-            ap (found asked) (sym (kept-more used j)) ∙ nothing-more asked (kept used) (take j (drop used chunk)) (p .begun) (omega arith)
+            ap (found asked) (sym (kept-more used j))
+            ∙ sym (ap₂ (λ (a : Asked) (l : List ℕ). found a (l ++ take j (drop used chunk))) part-asked part-bytes)
+            ∙ f .nothing-before j h
 
         module _ (j : ℕ) (h : j ≤ k) (e : found asked (kept (used + j)) ≡ none) where
           nones : (i : ℕ) → i ≤ j → found asked (kept (used + i)) ≡ none

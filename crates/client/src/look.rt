@@ -20,6 +20,7 @@ use wire::response::read_response;
 ghost use mathlib.Core.Path.{_≡_};
 ghost use mathlib.Core.Bool.{true, _||_};
 ghost use mathlib.Core.Option.{none, some};
+ghost use mathlib.Core.List.{[]};
 ghost use Prim.Native.Nat.{_+_, _≤_, _<_};
 ghost use lib.ListN.{length, take, drop};
 ghost use Rattle.wire.specs.Choice.{firstOf};
@@ -27,7 +28,7 @@ ghost use Rattle.wire.specs.Numbers.{field};
 ghost use Rattle.messages.specs.Placed.{OutputWithin, SpanWithin};
 ghost use Rattle.client.specs.Reading.{providerFor, contentMost, isIts, isInvalidHeader, headerTests, bodyReply, foundBehind, found};
 ghost use Rattle.client.specs.State.{countAt, bytesAt, responseMost, stateSize, askedIn, bytesIn, wellFormedState};
-ghost use Rattle.client.specs.code.Looked.{bodyAt, spanMoved, outputMoved, checkOf, wantedOf, Looked};
+ghost use Rattle.client.specs.code.Looked.{bodyAt, spanMoved, outputMoved, checkOf, wantedOf, Looked, Run};
 
 pub const MAGIC: u32 = 0x5EC0A710;
 
@@ -233,4 +234,28 @@ pub fn wanted(memory: &[u8]) -> usize
     let end = BYTES_AT + count;
     let h = read_response(&memory[BYTES_AT..end]);
     RESPONSE_LEAST + h.content_length as usize
+}
+
+// How many bytes of a chunk a state that holds none can take before more can be said of them: up to the sixth; where these six
+// are right, to the header's end; where the header is, to the response's.
+pub fn first_run(memory: &[u8], chunk: &[u8]) -> usize
+    requires { ⌜ length (now memory) ≡ stateSize ⌝ }
+    ensures { λ r. ⌜ Run (askedIn (now (memory .entry))) [] (now (chunk .entry)) r ⌝ }
+{
+    if chunk.len() < RESPONSE_LEAST {
+        return 6;
+    }
+    if read_u32(chunk, 0) != MAGIC {
+        return 6;
+    }
+    if read_u16(chunk, 4) != HEADER_SIZE {
+        return 6;
+    }
+    let h = read_response(chunk);
+    let opcode = read_u16(memory, 0);
+    let session = read_u64(memory, SESSION_AT);
+    match check_header(opcode, session, h) {
+        HeaderCheck::Refused(_) => RESPONSE_LEAST,
+        HeaderCheck::Passed => RESPONSE_LEAST + h.content_length as usize,
+    }
 }

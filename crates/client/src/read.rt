@@ -1,6 +1,7 @@
-// A response read in chunks (document 02, "The client's half"): bytes are taken up to the sixth, to the header's end and to the
-// response's, a run at a time, and no byte behind it.
+// A response read in chunks (document 02, "The client's half"): bytes are taken a run at a time, up to where more can be said of
+// them, and no byte behind the response.
 use crate::look::Said;
+use crate::look::first_run;
 use crate::look::look;
 use crate::look::wanted;
 use crate::state::COUNT_AT;
@@ -10,9 +11,9 @@ use wire::number::read_u16;
 ghost use mathlib.Core.Path.{_≡_};
 ghost use Prim.Native.Nat.{_≤_, min};
 ghost use lib.ListN.{length};
-ghost use Rattle.client.specs.State.{readOutcome};
+ghost use Rattle.client.specs.State.{askedIn, bytesIn, readOutcome};
 ghost use Rattle.client.specs.Handed.{handed, SaidWithin};
-ghost use Rattle.client.specs.code.Looked.{Holding, Filled};
+ghost use Rattle.client.specs.code.Looked.{Holding, Run, Filled};
 
 // What a call says, and how many bytes of the chunk it took.
 pub struct ReadAnswer {
@@ -27,14 +28,26 @@ fn least(a: usize, b: usize) -> usize
     if a < b { a } else { b }
 }
 
-// Takes on as many bytes of the chunk, from `used` on, as are wanted or left.
+// How many bytes of `rest` can be put behind those held before more can be said of them.
+fn run(memory: &[u8], rest: &[u8]) -> usize
+    requires { ⌜ Holding (now memory) ⌝ }
+    ensures { λ r. ⌜ Run (askedIn (now (memory .entry))) (bytesIn (now (memory .entry))) (now (rest .entry)) r ⌝ }
+{
+    let held = read_u16(memory, COUNT_AT) as usize;
+    if held == 0 {
+        return first_run(memory, rest);
+    }
+    wanted(memory) - held
+}
+
+// Takes on as many bytes of the chunk, from `used` on, as make a run or are left.
 fn fill(memory: &mut [u8], chunk: &[u8], used: usize) -> usize
     requires { ⌜ Holding (now memory) × (used ≤ length (now chunk)) ⌝ }
     ensures { λ r. ⌜ Filled (now (memory .entry)) (now (chunk .entry)) used (now (memory .exit)) r ⌝ }
 {
     let held = read_u16(memory, COUNT_AT) as usize;
-    let want = wanted(memory);
-    let k = least(want - held, chunk.len() - used);
+    let most = run(memory, &chunk[used..]);
+    let k = least(most, chunk.len() - used);
     let stop = used + k;
     append(memory, held, &chunk[used..stop]);
     k

@@ -11,8 +11,8 @@ use Rattle.wire.specs.Response.{responseLeast, responseOf}
 use Rattle.messages.specs.declared.read.Span.{Span}
 use Rattle.messages.specs.declared.read.Output.{Output as OutputPlaces}
 use Rattle.messages.specs.declared.read.Output.the-variants.{Nothing, Version, Providers, Opcodes, Data}
-use Rattle.client.specs.Reading.{Reply, found}
-use Rattle.client.specs.State.{bytesAt, stateBytes, askedIn, bytesIn, wellFormedState, saidOf}
+use Rattle.client.specs.Reading.{Asked, Reply, found}
+use Rattle.client.specs.State.{bytesAt, responseMost, stateBytes, askedIn, bytesIn, wellFormedState, saidOf}
 use Rattle.client.specs.Handed.{saidIn, SaidWithin}
 use Rattle.client.specs.declared.ReadRefusal.{ReadRefusal}
 use Rattle.client.specs.declared.look.Said.{Said as SaidPlaces}
@@ -61,9 +61,17 @@ pub record Holding (memory : List ℕ) : Type 0 where
   pub memory-is : memory ≡ stateBytes (askedIn memory) (bytesIn memory)
   pub begun : found (askedIn memory) (bytesIn memory) ≡ none
 
--- k bytes of the chunk, from `used` on, stand behind those held: as many as are wanted or left
+-- k bytes of `rest` can be put behind the bytes held: nothing can be said of fewer
+pub record Run (asked : Asked) (bytes rest : List ℕ) (k : ℕ) : Type 0 where
+  pub one : 1 ≤ k
+  pub few : length bytes + k ≤ responseMost
+  pub nothing-before : (j : ℕ) → j < k → j ≤ length rest → found asked (bytes ++ take j rest) ≡ none
+
+-- k bytes of the chunk, from `used` on, stand behind those held: nothing can be said of fewer, and one at least is taken where
+-- the chunk goes on
 pub record Filled (memory chunk : List ℕ) (used : ℕ) (after : List ℕ) (k : ℕ) : Type 0 where
   pub left : used + k ≤ length chunk
-  pub few : length (bytesIn memory) + k ≤ wantedOf (bytesIn memory)
+  pub few : length (bytesIn memory) + k ≤ responseMost
+  pub nothing-before : (j : ℕ) → j < k → found (askedIn memory) (bytesIn memory ++ take j (drop used chunk)) ≡ none
   pub after-is : after ≡ stateBytes (askedIn memory) (bytesIn memory ++ take k (drop used chunk))
-  pub more : used + k < length chunk → length (bytesIn memory) + k ≡ wantedOf (bytesIn memory)
+  pub more : used + k < length chunk → 1 ≤ k

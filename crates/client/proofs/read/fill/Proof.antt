@@ -1,10 +1,12 @@
--- `client::read::fill` meets its contract: the bytes wanted or left are put behind those held.
+-- `client::read::fill` meets its contract: as many bytes as make a run or are left are put behind those held.
 use Prim.Native.Nat.{ℕ, _+_, _-_, _≤_}
 use mathlib.Core.Path.{_≡_, sym, ap, _∙_}
 use mathlib.Core.List.{List, _++_}
 use native.Mathlib.Omega.{arith}
 use lib.ListN.{length, take, drop, length-drop}
 use lib.Seq.{length-take-le}
+use Rattle.wire.proofs.ListLaws.{length-part, part-of-part}
+use Rattle.client.specs.Reading.{found}
 use Rattle.client.specs.State.{stateBytes, askedIn, bytesIn}
 use Rattle.client.proofs.StateLaws.{well}
 use borrow.Author.Needs.{needs}
@@ -17,14 +19,20 @@ read-u16-requires c κs = let w = well _ (c .before .before .before .pre .0 .wel
 cast-held : tie.Need-cast-held
 cast-held c = search needs
 
-wanted-requires : tie.Need-wanted-requires
-wanted-requires c κs = search needs
+sub-run : tie.Need-sub-run
+sub-run c = search needs
+
+part-run-start : tie.Need-part-run-start
+part-run-start c = search needs
+
+part-run-end : tie.Need-part-run-end
+part-run-end c = search needs
+
+run-requires : tie.Need-run-requires
+run-requires c κs = search needs
 
 sub-least : tie.Need-sub-least
 sub-least c = search needs
-
-sub-least-2 : tie.Need-sub-least-2
-sub-least-2 c = search needs
 
 least-requires : tie.Need-least-requires
 least-requires c κs = search needs
@@ -45,13 +53,13 @@ append-requires : tie.Need-append-requires
 append-requires c κs =
     let l = c .before .before in
     let w = l .before in
-    let k = w .before .before in
+    let k = w .before .before .before in
     let s = k .before .before .before .before in
     let m : List ℕ = s .args .memory .now in
     let chunk : List ℕ = s .args .chunk .now in
     let v = well m (s .pre .0 .well) in
-    let few = w .wanted .ensures .2 in
-    let more = w .wanted .ensures .1 in
+    let few = w .run .ensures .few in
+    let long = v .long in
     let held = k .read-u16 .ensures in
     let e = l .least .ensures in
     let d = length-drop (s .args .used) chunk in
@@ -67,14 +75,15 @@ returns c =
     let p = c .before .before in
     let l = p .before .before .before in
     let w = l .before in
-    let k = w .before .before in
+    let k = w .before .before .before in
     let s = k .before .before .before .before in
     let m : List ℕ = s .args .memory .now in
     let chunk : List ℕ = s .args .chunk .now in
     let v = well m (s .pre .0 .well) in
     let long = v .long in
-    let more = w .wanted .ensures .1 in
-    let want = w .wanted .ensures .0 in
+    let run = w .run .ensures in
+    let one = run .one in
+    let few = run .few in
     let held = k .read-u16 .ensures in
     let e = l .least .ensures in
     let n : ℕ = l .least .result in
@@ -82,6 +91,9 @@ returns c =
     record {
       left = omega arith;
       few = omega arith;
+      nothing-before = λ j h.
+          ap (λ (l : List ℕ). found (askedIn m) (bytesIn m ++ l)) (sym (part-of-part j 0 (length chunk - s .args .used) (drop (s .args .used) chunk) (omega arith)))
+          ∙ run .nothing-before j (omega arith) (let l = length-part chunk (s .args .used) (length chunk - s .args .used) (omega arith) in omega arith);
       after-is =
           p .append .ensures (askedIn m) (bytesIn m) (long ∙ sym held) (s .pre .0 .memory-is)
           ∙ ap (λ (j : ℕ). stateBytes (askedIn m) (bytesIn m ++ take j (drop (s .args .used) chunk))) n-is;
@@ -94,9 +106,11 @@ fill-spec =
     (tie.spec
     read-u16-requires
     cast-held
-    wanted-requires
+    sub-run
+    part-run-start
+    part-run-end
+    run-requires
     sub-least
-    sub-least-2
     least-requires
     add-stop
     sub-append

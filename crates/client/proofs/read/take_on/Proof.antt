@@ -7,7 +7,7 @@ use borrow.Author.Needs.{needs}
 use lib.ListN.{length}
 use Rattle.client.specs.State.{askedIn, bytesIn}
 use Rattle.client.proofs.StateLaws.{well}
-use Rattle.client.proofs.ReadLaws.{not-waiting, Part, part-none, part-holds, part-again, part-stops, after-some, after-well, after-size}
+use Rattle.client.proofs.ReadLaws.{not-waiting, Part, part-none, part-holds, part-again, part-stops, after-well, after-size}
 use Rattle.client.proofs.read.take_on.Statement.{statement}
 use Rattle.client.proofs.read.take_on.Tie as tie
 
@@ -73,9 +73,8 @@ loop-less c =
     let f = c .before .before .before .before .before .before .before in
     let l = f .before .before .loop in
     let s = f .before .before .before .before .before in
-    let m : List ℕ = s .args .memory .now in
     let left = f .fill .ensures .left in
-    let some = after-some (askedIn m) (bytesIn m) (s .args .chunk .now) (well m (s .pre .well) .listed) (l .memory) (l .taken) (l .inv) (f .fill .last .0) (f .fill .result) (f .fill .ensures) (let x : l .taken + f .fill .result < length (s .args .chunk .now) = omega arith in x) in
+    let one = f .fill .ensures .more (let x : l .taken + f .fill .result < length (s .args .chunk .now) = omega arith in x) in
     omega arith
 
 loop-again : tie.Need-loop-again Inv-loop μ-loop
