@@ -18,6 +18,15 @@ pub fn pings(registry: Registry) -> Row {
     row("Pings", registry, &[request(PING, None, &[])])
 }
 
+/// By each application in turn.
+pub fn named_pings(registry: Registry) -> Row {
+    let pings: Vec<_> = registry
+        .application_names()
+        .map(|name| request(PING, Some(&name), &[]))
+        .collect();
+    row("named Pings", registry, &pings)
+}
+
 /// Of each key in turn, by its application.
 pub fn exports(registry: Registry) -> Row {
     let exports: Vec<_> = registry

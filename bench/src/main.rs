@@ -7,6 +7,7 @@ mod check;
 mod client;
 mod registries;
 mod rows;
+mod searches;
 mod table;
 mod turns;
 

@@ -62,6 +62,10 @@ impl Registry {
         (0..self.applications).flat_map(move |line| (0..self.keys).map(move |slot| (line, slot)))
     }
 
+    pub fn application_names(self) -> impl Iterator<Item = Vec<u8>> {
+        (0..self.applications).map(move |line| self.application_name(line))
+    }
+
     pub fn application_name(self, line: usize) -> Vec<u8> {
         self.name(line, 64)
     }
@@ -81,9 +85,7 @@ impl Registry {
 
     /// Its bytes; every key may be exported.
     pub fn bytes(self) -> Vec<u8> {
-        let names: Vec<_> = (0..self.applications)
-            .map(|line| self.application_name(line))
-            .collect();
+        let names: Vec<_> = self.application_names().collect();
         let mut stream = Vec::new();
         for (line, slot) in self.places() {
             let key = Key {

@@ -1,7 +1,7 @@
 //! What is timed: rows of operations, each for several programs that do the same.
 
 use crate::registries::{ALIKE, ALL, FULL, ONE_KEY};
-use crate::{calls, check};
+use crate::{calls, check, searches};
 use std::time::Duration;
 
 /// The operations of a turn. Programs take turns, so that a slow moment of the machine is not one
@@ -22,9 +22,14 @@ pub struct Row {
 pub fn all() -> Vec<Row> {
     let checks = ALL.into_iter().chain(ALIKE).map(check::row);
     let pings = ALL.into_iter().map(calls::pings);
+    let named = [FULL, ALIKE[1]].into_iter().map(calls::named_pings);
     let exports = [FULL, ONE_KEY].into_iter().map(calls::exports);
-    let calls = pings.chain(exports);
-    checks.chain(calls).chain(client()).collect()
+    let calls = pings.chain(named).chain(exports);
+    checks
+        .chain(searches::rows())
+        .chain(calls)
+        .chain(client())
+        .collect()
 }
 
 #[cfg(feature = "client")]
