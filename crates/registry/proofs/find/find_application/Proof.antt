@@ -11,18 +11,18 @@ returns c =
     let s = c .before .before .before in
     sym (nameless (s .args .registry .now) (s .args .name .now) (omega arith))
 
-scan-requires : tie.Need-scan-requires
-scan-requires c κs = search needs
+line-named-requires : tie.Need-line-named-requires
+line-named-requires c κs = search needs
 
 returns-2 : tie.Need-returns-2
 returns-2 c =
     let s = c .before .before .before .before .before in
-    sym (application-there (s .args .registry .now) (s .args .name .now) (c .before .scan .result) (c .before .scan .ensures) (omega arith) (c .if2 .taken))
+    sym (application-there (s .args .registry .now) (s .args .name .now) (c .before .line-named .result) (c .before .line-named .ensures) (omega arith) (c .if2 .taken))
 
 returns-3 : tie.Need-returns-3
 returns-3 c =
     let s = c .before .before .before .before .before in
-    sym (application-missing (s .args .registry .now) (s .args .name .now) (c .before .scan .result) (c .before .scan .ensures) (omega arith) (c .if2 .left))
+    sym (application-missing (s .args .registry .now) (s .args .name .now) (c .before .line-named .result) (c .before .line-named .ensures) (omega arith) (c .if2 .left))
 
 pub find-application-spec : {M : Type 1} → statement M
-find-application-spec = tie.close (tie.spec returns scan-requires returns-2 returns-3)
+find-application-spec = tie.close (tie.spec returns line-named-requires returns-2 returns-3)
