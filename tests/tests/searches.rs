@@ -1,7 +1,7 @@
 //! Where an application and a key lie: document 01, "Order of judgement on one request" (11) and
 //! "Operations and their fields".
 
-use razidkot_tests::ask::{self, ask, import_body, name_body};
+use razidkot_tests::ask::{self, ask, import_body, name_body, registry_of};
 use razidkot_tests::foreign::{self, Refused};
 use razidkot_tests::generate::{self, Damage, Filling, Random};
 use razidkot_tests::layout::*;
@@ -23,7 +23,7 @@ fn some_registry(random: &mut Random) -> Vec<u8> {
 /// A name to look for: one that stands there, one close to it, or another.
 fn wanted(random: &mut Random, there: &[u8]) -> Vec<u8> {
     let mut name = there.to_vec();
-    match random.below(8) {
+    match random.below(9) {
         0 => name.push(b'x'),
         1 => {
             name.pop();
@@ -39,6 +39,12 @@ fn wanted(random: &mut Random, there: &[u8]) -> Vec<u8> {
             }
         }
         4 => name = generate::name(random, 61, 1),
+        5 => {
+            let middle = name.len() / 2;
+            if let Some(byte) = name.get_mut(middle) {
+                *byte ^= 1;
+            }
+        }
         _ => {}
     }
     name
@@ -65,6 +71,66 @@ fn an_application_is_found_by_its_whole_name_only() {
         }
     });
     outcomes.assert_often(&[true, false], 1_000);
+}
+
+/// Nine names of that length which differ in one byte only.
+fn names_but_for_one_byte(length: usize, at: usize) -> Vec<Vec<u8>> {
+    let names = (0..=LINES).map(|number| {
+        let mut name = vec![b'n'; length];
+        name[at] = b'A' + number as u8;
+        name
+    });
+    names.collect()
+}
+
+#[test]
+fn applications_are_told_apart_by_any_one_byte() {
+    for length in [1, 2, 3, 8, 9, 31, 32, 33, 63, 64] {
+        for at in 0..length {
+            let mut names = names_but_for_one_byte(length, at);
+            let ninth = names.split_off(LINES);
+            let registry = registry_of(&names);
+            for (line, name) in names.iter().enumerate() {
+                let found = foreign::find_application(&registry, name);
+                assert_eq!(found, Ok(Some(line)), "{length} bytes, byte {at}");
+            }
+            let found = foreign::find_application(&registry, &ninth[0]);
+            assert_eq!(found, Ok(None), "{length} bytes, byte {at}");
+        }
+    }
+}
+
+#[test]
+fn of_two_lines_with_one_name_the_first_is_found() {
+    for length in [1, 2, 17, 64] {
+        let names = &names_but_for_one_byte(length, length / 2)[..LINES];
+        let registry = registry_of(names);
+        for first in 0..LINES {
+            for second in first + 1..LINES {
+                let mut registry = registry.clone();
+                let name = line_at(first)..line_at(first) + 1 + length;
+                registry.copy_within(name, line_at(second));
+                let found = foreign::find_application(&registry, &names[first]);
+                assert_eq!(found, Ok(Some(first)), "{first} and {second}");
+                let found = foreign::find_application(&registry, &names[second]);
+                assert_eq!(found, Ok(None), "{first} and {second}");
+            }
+        }
+    }
+}
+
+#[test]
+fn a_name_longer_than_a_length_byte_says_is_on_no_roster() {
+    for length in 1..=64 {
+        let names = names_but_for_one_byte(length, 0);
+        let registry = registry_of(&names[..LINES]);
+        for more in [255, 256, 257, 512] {
+            let mut longer = names[3].clone();
+            longer.resize(length + more, b'n');
+            let found = foreign::find_application(&registry, &longer);
+            assert_eq!(found, Ok(None), "{length} bytes and {more}");
+        }
+    }
 }
 
 #[test]
