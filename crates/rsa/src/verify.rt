@@ -48,17 +48,17 @@ fn report_of(outcome: Outcome, multiplications: u32) -> Verification
 
 // The signature against a modulus n of as many bytes as em has; base, acc, t and em are room to work in.
 fn check_signature(
-    n: &[u32],
+    n: &[u64],
     e: u32,
     hash: &[u8],
     signature: &[u8],
-    base: &mut [u32],
-    acc: &mut [u32],
-    t: &mut [u32],
+    base: &mut [u64],
+    acc: &mut [u64],
+    t: &mut [u64],
     em: &mut [u8],
 ) -> Verification
-    requires { ⌜ (length (now base) ≡ length (now n)) × (length (now acc) ≡ length (now n)) × (length (now t) ≡ length (now n) + length (now n)) × (length (now n) ≤ 256) ⌝ }
-    requires { ⌜ (length (now em) ≤ 4 * length (now n)) × (62 ≤ length (now em)) × (valueOf (now n) ≤ 256 ^ length (now em)) × (0 < e) ⌝ }
+    requires { ⌜ (length (now base) ≡ length (now n)) × (length (now acc) ≡ length (now n)) × (length (now t) ≡ length (now n) + length (now n)) × (length (now n) ≤ 256) × (2 ≤ length (now n)) ⌝ }
+    requires { ⌜ (length (now em) ≤ 8 * length (now n)) × (62 ≤ length (now em)) × (valueOf (now n) ≤ 256 ^ length (now em)) × (0 < e) ⌝ }
     ensures { λ r. ⌜ r ≡ verified (valueOf (now (n .entry))) e (length (now (em .entry))) (now (hash .entry)) (now (signature .entry)) ⌝ }
 {
     if hash.len() != 32 {
@@ -85,14 +85,14 @@ fn check_with_modulus(
     e: u32,
     hash: &[u8],
     signature: &[u8],
-    n: &mut [u32],
-    base: &mut [u32],
-    acc: &mut [u32],
-    t: &mut [u32],
+    n: &mut [u64],
+    base: &mut [u64],
+    acc: &mut [u64],
+    t: &mut [u64],
     em: &mut [u8],
 ) -> Verification
-    requires { ⌜ (length (now base) ≡ length (now n)) × (length (now acc) ≡ length (now n)) × (length (now t) ≡ length (now n) + length (now n)) × (length (now n) ≤ 256) ⌝ }
-    requires { ⌜ (length (now em) ≤ 4 * length (now n)) × (62 ≤ length (now em)) × (modulus + length (now em) ≤ length (now key)) × (0 < e) ⌝ }
+    requires { ⌜ (length (now base) ≡ length (now n)) × (length (now acc) ≡ length (now n)) × (length (now t) ≡ length (now n) + length (now n)) × (length (now n) ≤ 256) × (2 ≤ length (now n)) ⌝ }
+    requires { ⌜ (length (now em) ≤ 8 * length (now n)) × (62 ≤ length (now em)) × (modulus + length (now em) ≤ length (now key)) × (0 < e) ⌝ }
     ensures { λ r. ⌜ r ≡ verified (numberIn (now (key .entry)) modulus (length (now (em .entry)))) e (length (now (em .entry))) (now (hash .entry)) (now (signature .entry)) ⌝ }
 {
     let end = modulus + em.len();
@@ -112,12 +112,12 @@ fn check_with_size(
     requires { ⌜ (62 ≤ size) × (size ≤ 512) × (modulus + size ≤ length (now key)) × (0 < e) ⌝ }
     ensures { λ r. ⌜ r ≡ verified (numberIn (now (key .entry)) modulus size) e size (now (hash .entry)) (now (signature .entry)) ⌝ }
 {
-    let k = (size + 3) / 4;
+    let k = (size + 7) / 8;
     let kk = k + k;
-    let mut n = [0u32; 128];
-    let mut base = [0u32; 128];
-    let mut acc = [0u32; 128];
-    let mut t = [0u32; 256];
+    let mut n = [0u64; 64];
+    let mut base = [0u64; 64];
+    let mut acc = [0u64; 64];
+    let mut t = [0u64; 128];
     let mut em = [0u8; 512];
     check_with_modulus(
         key,

@@ -90,7 +90,7 @@ power-requires : tie.Need-power-requires
 power-requires c κs =
     let r = c .before .before .before .before in
     let n = modulus (entry r) in
-    (search needs, search needs, search needs, leb-false n (base r) (sym (r .is-at-least .ensures) ∙ c .before .before .before .if3 .left))
+    (search needs, search needs, search needs, leb-false n (base r) (sym (r .is-at-least .ensures) ∙ c .before .before .before .if3 .left), start (entry r) .pre .0 .4)
 
 encode-requires : tie.Need-encode-requires
 encode-requires c κs = search needs

@@ -47,7 +47,7 @@ check-signature-requires c κs =
     let s = start k in
     let b : numberIn (s .args .key .now) (s .args .modulus) (size k) < 256 ^ size k = part-bound (s .args .key .now) (s .args .modulus) (size k) (s .pre .1 .2) (λ i. k .before .before .before .before .before .before .before .before .before .before .shared-slice-known .given i .fits) in
     let v : valueOf (k .read-big-endian .last .0) ≤ 256 ^ size k = rw (loaded k) (omega arith) in
-    ((search needs, search needs, search needs, search needs), (search needs, search needs, v, search needs))
+    ((search needs, search needs, search needs, search needs, search needs), (search needs, search needs, v, search needs))
 
 same-length : tie.Need-same-length
 same-length c = search needs

@@ -50,7 +50,7 @@ slice-aggregate-check-with-modulus-5 c = sym (length-take-le _ _ (omega arith))
 check-with-modulus-requires : tie.Need-check-with-modulus-requires
 check-with-modulus-requires c κs =
     let s = c .before .before .before .before .before .before .before .before in
-    ((refl, refl, simp length-take (omega arith), simp length-take (omega arith)), (simp length-take (omega arith), simp length-take (omega arith), simp length-take (omega (arith, s .pre .2)), s .pre .3))
+    ((refl, refl, simp length-take (omega arith), simp length-take (omega arith), simp length-take (omega arith)), (simp length-take (omega arith), simp length-take (omega arith), simp length-take (omega (arith, s .pre .2)), s .pre .3))
 
 returns : tie.Need-returns
 returns c =
