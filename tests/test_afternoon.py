@@ -5,6 +5,7 @@ import re
 import signal
 import subprocess
 import tempfile
+import time
 import unittest
 from pathlib import Path
 
@@ -159,6 +160,20 @@ class Readme(Afternoon):
         self.assertRaises(Refused, check_needed, steps[: LEAST_STEPS - 1])
 
 
+def ends_within(seconds, process):
+    """Whether it is gone by then. One that was killed stands there until somebody waits for it."""
+    status = Path("/proc") / process / "status"
+    end = time.monotonic() + seconds
+    while time.monotonic() < end:
+        try:
+            if "\nState:\tZ" in status.read_text():
+                return True
+        except (FileNotFoundError, ProcessLookupError):
+            return True
+        time.sleep(0.05)
+    return False
+
+
 class OtherTranscripts(Afternoon):
     """Each is refused, and the first of them alone is not."""
 
@@ -192,9 +207,7 @@ class OtherTranscripts(Afternoon):
         left = self.scratch / "left"
         reason = self.refused(f"$ echo so far; sleep 600 & echo $! >{left}", longest=1)
         self.assertTrue(reason.startswith("not over after 1 s:\nso far\n"), reason)
-        # One that was killed stands there until somebody waits for it.
-        status = Path("/proc") / left.read_text().strip() / "status"
-        self.assertTrue(not status.exists() or "\nState:\tZ" in status.read_text())
+        self.assertTrue(ends_within(10, left.read_text().strip()))
 
 
 if __name__ == "__main__":

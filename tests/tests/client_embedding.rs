@@ -324,7 +324,7 @@ fn read_refusals_are_judged_in_the_second_programs_order() {
         (ReadRefusal::WrongContentType, WrongContentType, 17, 0),
         (ReadRefusal::NotItsRequests, NotItsRequests, 8, 0),
         (ReadRefusal::ContentTooLong, ContentTooLong, 20, 1),
-        (ReadRefusal::UnreadableBody, UnreadableBody, 26, 0x08),
+        (ReadRefusal::UnreadableBody, UnreadableBody, 26, 0x0E),
     ];
     assert_eq!(damages.map(|(ours, ..)| ours), ReadRefusal::ALL);
     let opcode = reference::Opcode::from_number(7).expect("Export");

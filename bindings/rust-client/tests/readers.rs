@@ -203,7 +203,7 @@ fn damages() -> [(ReadRefusal, usize, usize, u8); 7] {
         (WrongContentType, 17, 26, 2),
         (NotItsRequests, 9, 26, 7),
         (ContentTooLong, 19, 26, 0xFF),
-        (UnreadableBody, 26, 28, 0x10),
+        (UnreadableBody, 26, 28, 0x0E),
     ]
 }
 
