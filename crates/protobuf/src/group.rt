@@ -17,7 +17,8 @@ pub enum Group {
     Unreadable,
 }
 
-// Whether the end of the group `number` stands at `at`, its tag one byte: most ends are so.
+// Whether the end of the group `number` stands at `at`, its tag one byte: most ends are so. `false` decides nothing: the field is
+// read then.
 fn is_end(s: &[u8], number: u64, at: usize) -> bool
     requires { ⌜ at < length (now s) ⌝ }
     ensures { λ r. ⌜ (r ≡ true → fieldAt (now (s .entry)) at ≡ GroupEnd number (at + 1)) ⌝ }
