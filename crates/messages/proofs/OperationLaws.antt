@@ -9,7 +9,7 @@ use Rattle.protobuf.specs.Written.{numberField, bytesField, packedField}
 use Rattle.messages.specs.Message.{Message, kindOf, AllFit, numberOf, octetsOf, numbersOf, valueAt}
 use Rattle.messages.specs.Format.{Format, messageBytes}
 use Rattle.messages.specs.Protobuf.{protobuf}
-use Rattle.messages.specs.Operations.{Operation, ping, listProviders, listOpcodes, importKey, destroyKey, exportPublicKey, opcodeOf, inputOf, operationBody, keyOf, whenRead, readBody, operationOf, Output, nothing, version, providers, opcodes, exported, Answers, ofPing, ofListProviders, ofListOpcodes, ofImport, ofDestroy, ofExport, messageOf, outputBytes, outputOf}
+use Rattle.messages.specs.Operations.{Operation, ping, listProviders, listOpcodes, importKey, destroyKey, exportPublicKey, verifySignature, opcodeOf, inputOf, operationBody, keyOf, whenRead, readBody, operationOf, Output, nothing, version, providers, opcodes, exported, Answers, ofPing, ofListProviders, ofListOpcodes, ofImport, ofDestroy, ofExport, ofVerify, messageOf, outputBytes, outputOf}
 use Rattle.messages.proofs.RoundTrip.{Lawful, round-trip}
 use Rattle.messages.proofs.ProtobufLaws.{protobuf-lawful}
 
@@ -26,6 +26,8 @@ module _ (format : Format) (law : Lawful format) where
   operation-back (importKey key) fits = body-back (inputOf (importKey key)) (λ m. importKey (keyOf m)) (omega arith) fits
   operation-back (destroyKey name) fits = body-back (inputOf (destroyKey name)) (λ m. destroyKey (octetsOf (valueAt m 1))) (omega arith) fits
   operation-back (exportPublicKey name) fits = body-back (inputOf (exportPublicKey name)) (λ m. exportPublicKey (octetsOf (valueAt m 1))) (omega arith) fits
+  operation-back (verifySignature name hash signature) fits =
+      body-back (inputOf (verifySignature name hash signature)) (λ m. verifySignature (octetsOf (valueAt m 1)) (octetsOf (valueAt m 2)) (octetsOf (valueAt m 3))) (omega arith) fits
 
   pub output-back : (opcode : ℕ) (output : Output) → Answers opcode output → AllFit (format .lengthMost) (messageOf output) → outputOf format opcode (outputBytes format output) ≡ some output
   unfolding outputOf outputBytes
@@ -35,6 +37,7 @@ module _ (format : Format) (law : Lawful format) where
   output-back opcode nothing ofImport fits = body-back [] (λ m. nothing) (omega arith) fits
   output-back opcode nothing ofDestroy fits = body-back [] (λ m. nothing) (omega arith) fits
   output-back opcode (exported data′) ofExport fits = body-back (messageOf (exported data′)) (λ m. exported (octetsOf (valueAt m 1))) (omega arith) fits
+  output-back opcode nothing ofVerify fits = body-back [] (λ m. nothing) (omega arith) fits
 
 -- ---- in Protocol Buffers
 

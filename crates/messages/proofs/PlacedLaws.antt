@@ -209,6 +209,10 @@ module _ (opcode : ℕ) (body : List ℕ) where
   unfolding outputOf
   of-export e = rw (e, outputOf)
 
-  pub of-other : (opcode ≡ 1 → ⊥) → (opcode ≡ 8 → ⊥) → (opcode ≡ 9 → ⊥) → (opcode ≡ 6 → ⊥) → (opcode ≡ 3 → ⊥) → (opcode ≡ 7 → ⊥) → Is none
+  pub of-verify : opcode ≡ 5 → Is (readBody protobuf [] body (λ m. nothing))
   unfolding outputOf
-  of-other a b c d e f = rw (ne-eqb _ _ a, ne-eqb _ _ b, ne-eqb _ _ c, ne-eqb _ _ d, ne-eqb _ _ e, ne-eqb _ _ f, outputOf)
+  of-verify e = rw (e, outputOf)
+
+  pub of-other : (opcode ≡ 1 → ⊥) → (opcode ≡ 8 → ⊥) → (opcode ≡ 9 → ⊥) → (opcode ≡ 6 → ⊥) → (opcode ≡ 3 → ⊥) → (opcode ≡ 7 → ⊥) → (opcode ≡ 5 → ⊥) → Is none
+  unfolding outputOf
+  of-other a b c d e f g = rw (ne-eqb _ _ a, ne-eqb _ _ b, ne-eqb _ _ c, ne-eqb _ _ d, ne-eqb _ _ e, ne-eqb _ _ f, ne-eqb _ _ g, outputOf)

@@ -8,9 +8,9 @@ use Rattle.wire.specs.Choice.{if_then_else_}
 abbrev pub coreOpcodes : List ℕ
 coreOpcodes = 1 ∷ 8 ∷ 9 ∷ []
 
--- PsaDestroyKey, PsaImportKey, PsaExportPublicKey
+-- PsaDestroyKey, PsaAsymmetricVerify, PsaImportKey, PsaExportPublicKey
 abbrev pub keystoreOpcodes : List ℕ
-keystoreOpcodes = 3 ∷ 6 ∷ 7 ∷ []
+keystoreOpcodes = 3 ∷ 5 ∷ 6 ∷ 7 ∷ []
 
 -- provider 0 is core, 1 keystore
 unfoldable pub opcodesOf : (provider : ℕ) → List ℕ

@@ -17,6 +17,7 @@ pub data Operation : Type 0 where
   importKey : Key → Operation
   destroyKey : (name : List ℕ) → Operation
   exportPublicKey : (name : List ℕ) → Operation
+  verifySignature : (name hash signature : List ℕ) → Operation
 
 abbrev pub opcodeOf : Operation → ℕ
 opcodeOf ping = 1
@@ -25,6 +26,7 @@ opcodeOf (listOpcodes provider) = 9
 opcodeOf (importKey key) = 6
 opcodeOf (destroyKey name) = 3
 opcodeOf (exportPublicKey name) = 7
+opcodeOf (verifySignature name hash signature) = 5
 
 -- provider 0 is core, 1 keystore
 abbrev pub providerOf : Operation → ℕ
@@ -34,6 +36,7 @@ providerOf (listOpcodes provider) = 0
 providerOf (importKey key) = 1
 providerOf (destroyKey name) = 1
 providerOf (exportPublicKey name) = 1
+providerOf (verifySignature name hash signature) = 1
 
 -- the fields of its body
 abbrev pub inputOf : Operation → Message
@@ -43,6 +46,7 @@ inputOf (listOpcodes provider) = number provider ∷ []
 inputOf (importKey key) = octets (key .name) ∷ octets (key .bytes) ∷ number (key .bits) ∷ flag (key .exportAllowed) ∷ flag (key .verifyAllowed) ∷ []
 inputOf (destroyKey name) = octets name ∷ []
 inputOf (exportPublicKey name) = octets name ∷ []
+inputOf (verifySignature name hash signature) = octets name ∷ octets hash ∷ octets signature ∷ []
 
 -- the body of the operation's request
 unfoldable pub operationBody : Format → Operation → List ℕ
@@ -75,6 +79,7 @@ operationOf format opcode body =
     else if eqb opcode 6 then readBody format (bytes ∷ bytes ∷ uint32 ∷ bool ∷ bool ∷ []) body (λ m. importKey (keyOf m))
     else if eqb opcode 3 then readBody format (bytes ∷ []) body (λ m. destroyKey (octetsOf (valueAt m 1)))
     else if eqb opcode 7 then readBody format (bytes ∷ []) body (λ m. exportPublicKey (octetsOf (valueAt m 1)))
+    else if eqb opcode 5 then readBody format (bytes ∷ bytes ∷ bytes ∷ []) body (λ m. verifySignature (octetsOf (valueAt m 1)) (octetsOf (valueAt m 2)) (octetsOf (valueAt m 3)))
     else none
 
 -- ---- what a served request answers
@@ -94,6 +99,7 @@ pub data Answers : (opcode : ℕ) → Output → Type 0 where
   ofImport : Answers 6 nothing
   ofDestroy : Answers 3 nothing
   ofExport : {data′ : List ℕ} → Answers 7 (exported data′)
+  ofVerify : Answers 5 nothing
 
 abbrev pub messageOf : Output → Message
 messageOf nothing = []
@@ -114,4 +120,5 @@ outputOf format opcode body =
     else if eqb opcode 6 then readBody format [] body (λ m. nothing)
     else if eqb opcode 3 then readBody format [] body (λ m. nothing)
     else if eqb opcode 7 then readBody format (bytes ∷ []) body (λ m. exported (octetsOf (valueAt m 1)))
+    else if eqb opcode 5 then readBody format [] body (λ m. nothing)
     else none

@@ -12,6 +12,8 @@ pub const LIST_OPCODES: u16 = 9;
 
 pub const PSA_DESTROY_KEY: u16 = 3;
 
+pub const PSA_ASYMMETRIC_VERIFY: u16 = 5;
+
 pub const PSA_IMPORT_KEY: u16 = 6;
 
 pub const PSA_EXPORT_PUBLIC_KEY: u16 = 7;
@@ -35,6 +37,9 @@ pub fn is_listed(opcode: u16) -> bool
         return true;
     }
     if opcode == PSA_DESTROY_KEY {
+        return true;
+    }
+    if opcode == PSA_ASYMMETRIC_VERIFY {
         return true;
     }
     if opcode == PSA_IMPORT_KEY {

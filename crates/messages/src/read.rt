@@ -3,6 +3,7 @@
 use crate::opcodes::LIST_OPCODES;
 use crate::opcodes::LIST_PROVIDERS;
 use crate::opcodes::PING;
+use crate::opcodes::PSA_ASYMMETRIC_VERIFY;
 use crate::opcodes::PSA_DESTROY_KEY;
 use crate::opcodes::PSA_EXPORT_PUBLIC_KEY;
 use crate::opcodes::PSA_IMPORT_KEY;
@@ -221,6 +222,9 @@ pub fn read_output(opcode: u16, body: &[u8]) -> OutputRead
     }
     if opcode == PSA_EXPORT_PUBLIC_KEY {
         return read_data(body);
+    }
+    if opcode == PSA_ASYMMETRIC_VERIFY {
+        return read_nothing(body);
     }
     OutputRead::Unreadable
 }

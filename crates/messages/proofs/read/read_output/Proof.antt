@@ -6,7 +6,7 @@ use lib.ListN.{length}
 use Rattle.messages.specs.Message.{Message, numbersOf, valueAt}
 use Rattle.messages.specs.Operations.{providers, opcodes}
 use Rattle.messages.specs.code.ListBody.{listSchema, entriesIn, ListWithin}
-use Rattle.messages.proofs.PlacedLaws.{body-then, of-ping, of-list-providers, of-list-opcodes, of-import, of-destroy, of-export, of-other}
+use Rattle.messages.proofs.PlacedLaws.{body-then, of-ping, of-list-providers, of-list-opcodes, of-import, of-destroy, of-export, of-verify, of-other}
 use borrow.Author.Needs.{needs}
 use Rattle.messages.proofs.read.read_output.Statement.{statement}
 use Rattle.messages.proofs.read.read_output.Tie as tie
@@ -102,11 +102,20 @@ returns-8 c =
     let a = c .before .before .before .before .before .before .before .before .args in
     (c .read-data .ensures .0 ∙ sym (of-export (a .opcode) (a .body .now) (c .before .if6 .taken)), c .read-data .ensures .1)
 
+read-nothing-requires-3 : tie.Need-read-nothing-requires-3
+read-nothing-requires-3 c κs = search needs
+
 returns-9 : tie.Need-returns-9
 returns-9 c =
-    let e = c .before .before .before .before in
+    let a = c .before .before .before .before .before .before .before .before .before .args in
+    (c .read-nothing3 .ensures .0 ∙ sym (of-verify (a .opcode) (a .body .now) (c .before .if7 .taken)), c .read-nothing3 .ensures .1)
+
+returns-10 : tie.Need-returns-10
+returns-10 c =
+    let d = c .before .before .before in
+    let e = d .before .before in
     let a = e .before .before .before .args in
-    (sym (of-other (a .opcode) (a .body .now) (e .before .if1 .left) (e .if2 .left) (c .before .before .before .if3 .left) (c .before .before .if4 .left) (c .before .if5 .left) (c .if6 .left)), tt)
+    (sym (of-other (a .opcode) (a .body .now) (e .before .if1 .left) (e .if2 .left) (d .before .if3 .left) (d .if4 .left) (c .before .before .if5 .left) (c .before .if6 .left) (c .if7 .left)), tt)
 
 pub read-output-spec : {M : Type 1} → statement M
 read-output-spec =
@@ -130,4 +139,6 @@ read-output-spec =
     returns-7
     read-data-requires
     returns-8
-    returns-9)
+    read-nothing-requires-3
+    returns-9
+    returns-10)
