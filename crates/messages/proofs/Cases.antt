@@ -1,4 +1,4 @@
--- Document 01's bodies, some damaged lists, and fields that are skipped, computed from the definitions.
+-- Document 01's bodies, one of Verify, some damaged lists, and fields that are skipped, computed from the definitions.
 use Prim.Native.Nat.{ℕ}
 use mathlib.Core.Path.{_≡_, refl}
 use mathlib.Core.Bool.{true, false}
@@ -14,7 +14,7 @@ use Rattle.protobuf.specs.Written.{varintWithin, varint, numberField, bytesFiel
 use Rattle.messages.specs.Message.{bytes, uint32s, octets, numbers}
 use Rattle.messages.specs.Format.{listed, messageBytes, Reading, read, broken, readMessage}
 use Rattle.messages.specs.Protobuf.{packedOf, protobuf}
-use Rattle.messages.specs.Operations.{importKey, operationBody, version, providers, outputBytes}
+use Rattle.messages.specs.Operations.{importKey, verifySignature, operationBody, version, providers, outputBytes}
 
 -- key `a`, data AA BB, 2,048 bits, export allowed
 abbrev keyA : Key
@@ -22,13 +22,14 @@ keyA = record { name = 0x61 ∷ []; bytes = 0xAA ∷ 0xBB ∷ []; bits = 2048; e
 
 pub cases :
     (operationBody protobuf (importKey keyA) ≡ 0x0A ∷ 0x01 ∷ 0x61 ∷ 0x12 ∷ 0x02 ∷ 0xAA ∷ 0xBB ∷ 0x18 ∷ 0x80 ∷ 0x10 ∷ 0x20 ∷ 0x01 ∷ [])
+    × (operationBody protobuf (verifySignature (0x61 ∷ []) (0xAA ∷ 0xBB ∷ []) (0xCC ∷ [])) ≡ 0x0A ∷ 0x01 ∷ 0x61 ∷ 0x12 ∷ 0x02 ∷ 0xAA ∷ 0xBB ∷ 0x1A ∷ 0x01 ∷ 0xCC ∷ [])
     × (outputBytes protobuf (version 1 0) ≡ 0x08 ∷ 0x01 ∷ [])
     × (outputBytes protobuf (providers (0 ∷ 1 ∷ [])) ≡ 0x0A ∷ 0x02 ∷ 0x00 ∷ 0x01 ∷ [])
     × (readMessage protobuf (uint32s ∷ []) (0x0A ∷ 0x01 ∷ 0x07 ∷ 0x0A ∷ 0x02 ∷ 0x00 ∷ 0x01 ∷ []) ≡ read (numbers (0 ∷ 1 ∷ []) ∷ []))
     × (readMessage protobuf (uint32s ∷ []) (0x0A ∷ 0x00 ∷ 0x0A ∷ 0x01 ∷ 0x80 ∷ 0x0A ∷ 0x02 ∷ 0x00 ∷ 0x01 ∷ []) ≡ broken 2)
     × (readMessage protobuf (uint32s ∷ []) (0x08 ∷ 0x01 ∷ []) ≡ read (numbers [] ∷ []))
 unfolding operationBody outputBytes messageBytes readMessage listed bind packedOf scanFrom scanAt varintOf numberAt fixedAt spanAt contentAt fieldAt varintWithin varint numberField bytesField packedField flatMap
-cases = (refl, refl, refl, refl, refl, refl)
+cases = (refl, refl, refl, refl, refl, refl, refl)
 
 -- ---- fields that are skipped, in a body with bytes as its one field
 

@@ -17,7 +17,7 @@ use Rattle.protobuf.proofs.WrittenLaws.{ends, goes-on, varint-short, bytes-fiel
 use Rattle.messages.specs.Message.{octets}
 use Rattle.messages.specs.Format.{messageBytes}
 use Rattle.messages.specs.Protobuf.{protobuf}
-use Rattle.messages.specs.Operations.{listOpcodes, importKey, operationBody}
+use Rattle.messages.specs.Operations.{listOpcodes, importKey, verifySignature, operationBody}
 use Rattle.messages.specs.code.Bodies.{fieldRoom, keyNumbers, bodyMost}
 
 -- ---- a field's length
@@ -33,6 +33,10 @@ bytes-field-within : (number : ℕ) (bytes : List ℕ)
     → length (bytesField number bytes) ≤ length (varint (8 * number + 2)) + length (varint (length bytes)) + length bytes
 bytes-field-within number [] = omega (arith, ap length (bytes-field-none number [] (omega arith)))
 bytes-field-within number (b ∷ bytes) = omega (arith, bytes-field-length number (b ∷ bytes) (omega arith))
+
+bytes-field-least : (number : ℕ) (bytes : List ℕ) → length bytes ≤ length (bytesField number bytes)
+bytes-field-least number [] = omega arith
+bytes-field-least number (b ∷ bytes) = omega (arith, bytes-field-length number (b ∷ bytes) (omega arith))
 
 module _ {d e : List ℕ} {r : ℕ} where
   pub number-short : (number value : ℕ) → Wrote (numberField number value) d e r → r ≤ fieldRoom
@@ -61,7 +65,24 @@ pub key-body : (key : Key) → operationBody protobuf (importKey key)
 unfolding operationBody messageBytes keyNumbers
 key-body key = simp (append-assoc, append-nil)
 
--- ---- how long the bodies of legal operations are at most
+pub verify-body : (name hash signature : List ℕ) → operationBody protobuf (verifySignature name hash signature)
+    ≡ (bytesField 1 name ++ bytesField 2 hash) ++ bytesField 3 signature
+unfolding operationBody messageBytes
+verify-body name hash signature = simp (append-assoc, append-nil)
+
+-- ---- how long Verify's body is
+
+pub verify-body-length : (name hash signature : List ℕ) → length (operationBody protobuf (verifySignature name hash signature))
+    ≡ length (bytesField 1 name) + length (bytesField 2 hash) + length (bytesField 3 signature)
+verify-body-length name hash signature = rw verify-body (simp length-append refl)
+
+-- at least what it carries
+pub verify-body-least : (name hash signature : List ℕ)
+    → length name + length hash + length signature ≤ length (operationBody protobuf (verifySignature name hash signature))
+verify-body-least name hash signature =
+    omega (arith, verify-body-length name hash signature, bytes-field-least 1 name, bytes-field-least 2 hash, bytes-field-least 3 signature)
+
+-- ---- how long the bodies of the other legal operations are at most
 
 one-byte : (n : ℕ) → n < 128 → length (varint n) ≡ 1
 unfolding varint

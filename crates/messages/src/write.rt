@@ -1,17 +1,18 @@
 // The bodies of requests, written over the front of a lent buffer ("Operations and their fields").
+use protobuf::write::bytes_field_size;
 use protobuf::write::write_bytes_field;
 use protobuf::write::write_number_field;
 ghost use mathlib.Core.Path.{_≡_};
 ghost use mathlib.Core.List.{[], _∷_};
-ghost use Prim.Native.Nat.{_+_, _≤_};
+ghost use Prim.Native.Nat.{_+_, _^_, _<_, _≤_};
 ghost use lib.ListN.{length};
 ghost use Rattle.wire.specs.Choice.{if_then_else_};
 ghost use Rattle.wire.specs.code.Wrote.{Wrote};
 ghost use Rattle.messages.specs.Message.{octets};
 ghost use Rattle.messages.specs.Format.{messageBytes};
 ghost use Rattle.messages.specs.Protobuf.{protobuf};
-ghost use Rattle.messages.specs.Operations.{listOpcodes, importKey, operationBody};
-ghost use Rattle.messages.specs.code.Bodies.{fieldRoom, nameBodyRoom, keyNumbers, keyNumbersRoom, keyBodyRoom};
+ghost use Rattle.messages.specs.Operations.{listOpcodes, importKey, verifySignature, operationBody};
+ghost use Rattle.messages.specs.code.Bodies.{fieldRoom, nameBodyRoom, keyNumbers, keyNumbersRoom, keyBodyRoom, verifyBodyRoom};
 
 // A bool as its field's number.
 fn flag_number(b: bool) -> u64
@@ -65,4 +66,27 @@ pub fn write_key_body(
     let behind = first + second;
     let third = write_key_numbers(&mut out[behind..], bits, exported, verified);
     behind + third
+}
+
+// Verify's.
+pub fn write_verify_body(out: &mut [u8], name: &[u8], hash: &[u8], signature: &[u8]) -> usize
+    requires { ⌜ verifyBodyRoom (now name) (now hash) (now signature) ≤ length (now out) ⌝ }
+    ensures { λ r. ⌜ Wrote (operationBody protobuf (verifySignature (now (name .entry)) (now (hash .entry)) (now (signature .entry)))) (now (out .entry)) (now (out .exit)) r ⌝ }
+{
+    let name_size = write_bytes_field(out, 1, name);
+    let hash_size = write_bytes_field(&mut out[name_size..], 2, hash);
+    let behind = name_size + hash_size;
+    let signature_size = write_bytes_field(&mut out[behind..], 3, signature);
+    behind + signature_size
+}
+
+// How many bytes Verify's would take, for a client that must refuse it before it writes any.
+pub fn verify_body_size(name: &[u8], hash: &[u8], signature: &[u8]) -> usize
+    requires { ⌜ (length (now name) < 2 ^ 32) × (length (now hash) < 2 ^ 32) × (length (now signature) < 2 ^ 32) ⌝ }
+    ensures { λ r. ⌜ r ≡ length (operationBody protobuf (verifySignature (now (name .entry)) (now (hash .entry)) (now (signature .entry)))) ⌝ }
+{
+    let name_size = bytes_field_size(1, name.len());
+    let hash_size = bytes_field_size(2, hash.len());
+    let signature_size = bytes_field_size(3, signature.len());
+    name_size + hash_size + signature_size
 }

@@ -1,5 +1,5 @@
--- How much room the bodies of requests ask for, how long those of legal operations are, and the part of Import's that is
--- written by itself.
+-- How much room the bodies of requests ask for, how long those of legal operations are but Verify's, and the part of Import's
+-- that is written by itself.
 use Prim.Native.Nat.{ℕ, _+_, _*_}
 use mathlib.Core.Bool.{Bool}
 use mathlib.Core.List.{List, _++_}
@@ -27,6 +27,10 @@ keyNumbersRoom = 3 * fieldRoom
 abbrev pub keyBodyRoom : (name bytes : List ℕ) → ℕ
 keyBodyRoom name bytes = length name + length bytes + 5 * fieldRoom
 
--- the longest body of a legal operation is Import's: tag, length and name; tag, length and data; bits; two permissions
+abbrev pub verifyBodyRoom : (name hash signature : List ℕ) → ℕ
+verifyBodyRoom name hash signature = length name + length hash + length signature + 3 * fieldRoom
+
+-- but for Verify's, whose signature only the client bounds, the longest body of a legal operation is Import's: tag, length and
+-- name; tag, length and data; bits; two permissions
 abbrev pub bodyMost : ℕ
 bodyMost = (1 + 1 + keyNameMost) + (1 + 2 + dataMost) + (1 + 2) + 2 * (1 + 1)
