@@ -7,21 +7,21 @@ use lib.ListN.{length}
 use Rattle.messages.specs.declared.read.Span.{Span}
 use Rattle.messages.specs.declared.read.Output.{Output}
 use Rattle.messages.specs.declared.read.Output.the-variants.{Nothing, Version, Providers, Opcodes, Data}
-use Rattle.client.specs.Writing.{WriteOutcome}
-use Rattle.client.specs.State.{Beginning, ReadOutcome}
-use Rattle.client.specs.Handed.{handed, SaidWithin}
-use Rattle.client.specs.declared.WriteRefusal.{WriteRefusal}
-use Rattle.client.specs.declared.WriteRefusal.the-variants.{BufferTooSmall, ApplicationNameIllegal, KeyNameIllegal, DataIllegal, BitsIllegal}
-use Rattle.client.specs.declared.Written.{Written}
-use Rattle.client.specs.declared.Written.the-variants.{Bytes, Refused}
-use Rattle.client.specs.declared.Begun.{Begun}
-use Rattle.client.specs.declared.Begun.the-variants.{Fresh, WrongSize, UnlistedOpcode}
-use Rattle.client.specs.declared.ReadRefusal.{ReadRefusal}
-use Rattle.client.specs.declared.ReadRefusal.the-variants.{WrongMagic, WrongHeaderSize, WrongVersion, WrongContentType, NotItsRequests, ContentTooLong, UnreadableBody}
-use Rattle.client.specs.declared.look.Response.{Response}
-use Rattle.client.specs.declared.look.Said.{Said}
-use Rattle.client.specs.declared.look.Said.the-variants.{IllFormed, Waiting, Response as Answered, Refused as NotRead}
-use Rattle.client.specs.declared.read.ReadAnswer.{ReadAnswer}
+use Rattle.client_requests.specs.Writing.{WriteOutcome}
+use Rattle.client_responses.specs.State.{Beginning, ReadOutcome}
+use Rattle.client_responses.specs.Handed.{handed, SaidWithin}
+use Rattle.client_requests.specs.declared.WriteRefusal.{WriteRefusal}
+use Rattle.client_requests.specs.declared.WriteRefusal.the-variants.{BufferTooSmall, ApplicationNameIllegal, KeyNameIllegal, DataIllegal, BitsIllegal}
+use Rattle.client_requests.specs.declared.Written.{Written}
+use Rattle.client_requests.specs.declared.Written.the-variants.{Bytes, Refused}
+use Rattle.client_responses.specs.declared.Begun.{Begun}
+use Rattle.client_responses.specs.declared.Begun.the-variants.{Fresh, WrongSize, UnlistedOpcode}
+use Rattle.client_responses.specs.declared.ReadRefusal.{ReadRefusal}
+use Rattle.client_responses.specs.declared.ReadRefusal.the-variants.{WrongMagic, WrongHeaderSize, WrongVersion, WrongContentType, NotItsRequests, ContentTooLong, UnreadableBody}
+use Rattle.client_responses.specs.declared.look.Response.{Response}
+use Rattle.client_responses.specs.declared.look.Said.{Said}
+use Rattle.client_responses.specs.declared.look.Said.the-variants.{IllFormed, Waiting, Response as Answered, Refused as NotRead}
+use Rattle.client_responses.specs.declared.read.ReadAnswer.{ReadAnswer}
 use Rattle.client_abi.specs.declared.write.Request.{Request}
 use Rattle.client_abi.specs.declared.read.OutputNumbers.{OutputNumbers}
 use Rattle.client_abi.specs.declared.read.Answer.{Answer}

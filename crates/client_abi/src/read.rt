@@ -1,17 +1,17 @@
 // Responses read in chunks ("The client's half").
-use client::Begun;
-use client::ReadRefusal;
-use client::look::Response;
-use client::look::Said;
-use client::read::ReadAnswer;
-use client::read::read;
-use client::state::begin;
+use client_responses::Begun;
+use client_responses::ReadRefusal;
+use client_responses::look::Response;
+use client_responses::look::Said;
+use client_responses::read::ReadAnswer;
+use client_responses::read::read;
+use client_responses::state::begin;
 use messages::read::Output;
 use messages::read::Span;
 use messages::read::read_list;
 ghost use mathlib.Core.Path.{_≡_};
 ghost use Rattle.messages.specs.Placed.{readListOutcome};
-ghost use Rattle.client.specs.State.{beginState, readOutcome};
+ghost use Rattle.client_responses.specs.State.{beginState, readOutcome};
 ghost use Rattle.client_abi.specs.Numbers.{beganWith, readRefusalNumber, placedNumbers, outputNumbers, withoutResponse, responseNumbers, saidNumbers, answerNumbers, Says};
 
 // An output: its number; a version's two; the place, in the state's memory, of data or of a list's packed varints. What an output

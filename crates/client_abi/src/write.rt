@@ -1,15 +1,15 @@
 // Requests written ("The client's half").
-use client::WriteRefusal;
-use client::Written;
-use client::write::write_destroy;
-use client::write::write_export;
-use client::write::write_import;
-use client::write::write_list_opcodes;
-use client::write::write_list_providers;
-use client::write::write_ping;
+use client_requests::WriteRefusal;
+use client_requests::Written;
+use client_requests::write::write_destroy;
+use client_requests::write::write_export;
+use client_requests::write::write_import;
+use client_requests::write::write_list_opcodes;
+use client_requests::write::write_list_providers;
+use client_requests::write::write_ping;
 ghost use mathlib.Core.Path.{_≡_};
 ghost use Rattle.messages.specs.Operations.{ping, listProviders, listOpcodes, importKey, destroyKey, exportPublicKey};
-ghost use Rattle.client.specs.Writing.{writeOutcome, senderOf};
+ghost use Rattle.client_requests.specs.Writing.{writeOutcome, senderOf};
 ghost use Rattle.client_abi.specs.Numbers.{refusalNumber, requestNumbers, writtenWith};
 
 // What writing a request says: 0 if it was written, else why not; and how many bytes it has, 0 where there is none.

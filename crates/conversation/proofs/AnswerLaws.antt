@@ -18,8 +18,8 @@ use Rattle.judgement.specs.Counts.{Counts}
 use Rattle.judgement.specs.Operations.{Result}
 use Rattle.judgement.specs.Judgement.{resultOf, verdictOf, judgement}
 use Rattle.judgement.proofs.ResponseLaws.{judge-short}
-use Rattle.client.specs.Writing.{Sender, requestFor}
-use Rattle.client.specs.Reading.{answered, contentMost, found}
+use Rattle.client_requests.specs.Writing.{Sender, requestFor}
+use Rattle.client_responses.specs.Reading.{answered, contentMost, found}
 use Rattle.conversation.proofs.Asked.{Writable, read-as-written}
 use Rattle.conversation.proofs.Answered.{askedFor, result-read}
 use Rattle.conversation.proofs.Results.{result-sound}

@@ -20,7 +20,7 @@ use Rattle.messages.proofs.OperationLaws.{nothing-bytes, answered-back}
 use Rattle.judgement.specs.Status.{statusNumber}
 use Rattle.judgement.specs.Operations.{Result}
 use Rattle.wire.specs.Lists.{oneOf}
-use Rattle.client.specs.Reading.{Asked, providerFor, answered, contentMost, isIts, isInvalidHeader, headerTests, bodyReply, foundBehind, found}
+use Rattle.client_responses.specs.Reading.{Asked, providerFor, answered, contentMost, isIts, isInvalidHeader, headerTests, bodyReply, foundBehind, found}
 
 -- ---- a response of any status and body that is for the request
 

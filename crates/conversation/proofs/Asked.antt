@@ -21,8 +21,8 @@ use Rattle.messages.specs.Operations.{Operation, ping, listProviders, listOpcod
 use Rattle.messages.proofs.OperationLaws.{asked-back}
 use Rattle.messages.specs.code.Bodies.{bodyMost}
 use Rattle.messages.proofs.WriteLaws.{provider-body-short, name-body-short, key-body-short}
-use Rattle.client.proofs.WritingLaws.{auth-short}
-use Rattle.client.specs.Writing.{Sender, requestFor, legalSender, legalKeyName, legalKeyData, legalKeyBits}
+use Rattle.client_requests.proofs.WritingLaws.{auth-short}
+use Rattle.client_requests.specs.Writing.{Sender, requestFor, legalSender, legalKeyName, legalKeyData, legalKeyBits}
 use Rattle.stream.specs.Frame.{contentMost, authMost, legalStart, oversized, whole, next}
 use Rattle.stream.proofs.FrameLaws.{next-whole}
 use Rattle.registry.specs.Registry.{applicationNamed}

@@ -23,8 +23,8 @@ use Rattle.judgement.specs.Counts.{Counts}
 use Rattle.judgement.specs.Operations.{Result}
 use Rattle.judgement.specs.Judgement.{resultOf, verdictOf, judgement}
 use Rattle.judgement.proofs.JudgementLaws.{judge-good}
-use Rattle.client.specs.Writing.{requestFor}
-use Rattle.client.specs.Reading.{Asked, Reply, answered, found, responseReader}
+use Rattle.client_requests.specs.Writing.{requestFor}
+use Rattle.client_responses.specs.Reading.{Asked, Reply, answered, found, responseReader}
 use Rattle.conversation.specs.Conversation.{Ask, written, askedFor, repliesFrom}
 use Rattle.conversation.proofs.Asked.{Writable, legal}
 use Rattle.conversation.proofs.Answered.{its-own}

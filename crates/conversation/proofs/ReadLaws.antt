@@ -16,7 +16,7 @@ use Rattle.wire.specs.declared.response.ResponseHeader.{ResponseHeader}
 use Rattle.wire.proofs.NumberLaws.{field-append}
 use Rattle.wire.proofs.ResponseLaws.{response-long, response-magic, response-size, response-back}
 use Rattle.reading.specs.Reader.{Reader, Reading, nothing, withEvent, readFrom, read}
-use Rattle.client.specs.Reading.{Asked, Reply, contentMost, headerTests, foundBehind, found, responseReader}
+use Rattle.client_responses.specs.Reading.{Asked, Reply, contentMost, headerTests, foundBehind, found, responseReader}
 use Rattle.conversation.proofs.Answered.{headerOf, Its, passes}
 
 -- ---- a response's proper beginnings say nothing yet

@@ -30,7 +30,7 @@ use Rattle.judgement.specs.Operations.{success, refuse, importable, performImpo
 use Rattle.judgement.specs.Judgement.{applicationOf, refusals, askersSlots, resultOf}
 use Rattle.judgement.specs.declared.Status.{Status}
 use Rattle.judgement.proofs.JudgementLaws.{asks}
-use Rattle.client.specs.Writing.{Sender, requestFor}
+use Rattle.client_requests.specs.Writing.{Sender, requestFor}
 use Rattle.conversation.proofs.Asked.{Writable, read-as-written}
 use Rattle.conversation.proofs.Answered.{Sound, notServed, served}
 

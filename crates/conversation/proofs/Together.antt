@@ -20,17 +20,17 @@ use Rattle.registry.specs.WellFormed.{wellFormedRegistry}
 use Rattle.service.specs.Call.{fresh}
 use Rattle.service.proofs.CodeDemand3.{Ran, Runs, answersIn}
 use Rattle.messages.specs.Operations.{Operation, ping, listProviders, listOpcodes, importKey, destroyKey, exportPublicKey, opcodeOf}
-use Rattle.client.specs.Reading.{Asked, Reply, found, responseReader}
-use Rattle.client.specs.State.{stateBytes, bytesIn, layout, Said, waiting, said, saidOf, ReadOutcome, refusal, readOutcome}
-use Rattle.client.specs.Handed.{saidIn, handed}
-use Rattle.client.specs.declared.read.ReadAnswer.{ReadAnswer}
-use Rattle.client.proofs.StateLaws.{isListed, held-back, well-there}
-use Rattle.client.proofs.CutLaws.{Fits, response-whole, outcome-is, call-fits}
+use Rattle.client_responses.specs.Reading.{Asked, Reply, found, responseReader}
+use Rattle.client_responses.specs.State.{stateBytes, bytesIn, layout, Said, waiting, said, saidOf, ReadOutcome, refusal, readOutcome}
+use Rattle.client_responses.specs.Handed.{saidIn, handed}
+use Rattle.client_responses.specs.declared.read.ReadAnswer.{ReadAnswer}
+use Rattle.client_responses.proofs.StateLaws.{isListed, held-back, well-there}
+use Rattle.client_responses.proofs.CutLaws.{Fits, response-whole, outcome-is, call-fits}
 use Rattle.conversation.specs.Conversation.{Ask, written, askedFor, repliesTo}
 use Rattle.conversation.proofs.HeardLaws.{AllWritable, Hears, AllHeard}
 use Rattle.conversation.proofs.ServiceLaws.{service-heard}
 
--- ---- calls of `client::read::read`: what each returned, and the memory that it left
+-- ---- calls of `client_responses::read::read`: what each returned, and the memory that it left
 
 pub record ReadRun : Type 0 where
   pub says : ReadAnswer

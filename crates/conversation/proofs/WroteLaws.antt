@@ -11,10 +11,10 @@ use lib.Seq.{take-append-seam}
 use Rattle.wire.specs.Choice.{firstOf}
 use Rattle.wire.specs.Lists.{over}
 use Rattle.wire.proofs.TestLaws.{none-at}
-use Rattle.client.specs.Writing.{legalSender, legalKeyName, legalKeyData, legalKeyBits, writeTests, WriteOutcome, writeOutcome}
-use Rattle.client.specs.declared.WriteRefusal.{WriteRefusal}
-use Rattle.client.specs.declared.WriteRefusal.the-variants.{BufferTooSmall}
-use Rattle.client.specs.declared.Written.the-variants.{Bytes, Refused}
+use Rattle.client_requests.specs.Writing.{legalSender, legalKeyName, legalKeyData, legalKeyBits, writeTests, WriteOutcome, writeOutcome}
+use Rattle.client_requests.specs.declared.WriteRefusal.{WriteRefusal}
+use Rattle.client_requests.specs.declared.WriteRefusal.the-variants.{BufferTooSmall}
+use Rattle.client_requests.specs.declared.Written.the-variants.{Bytes, Refused}
 use Rattle.conversation.specs.Conversation.{Ask, written}
 use Rattle.conversation.proofs.Asked.{Small, Writable}
 

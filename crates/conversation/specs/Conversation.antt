@@ -6,8 +6,8 @@ use Rattle.messages.specs.Operations.{Operation, opcodeOf}
 use Rattle.judgement.specs.Status.{statusNumber}
 use Rattle.judgement.specs.Counts.{Counts, noCounts}
 use Rattle.judgement.specs.Judgement.{resultOf, verdictOf}
-use Rattle.client.specs.Writing.{Sender, requestFor}
-use Rattle.client.specs.Reading.{Asked, Reply, answered}
+use Rattle.client_requests.specs.Writing.{Sender, requestFor}
+use Rattle.client_responses.specs.Reading.{Asked, Reply, answered}
 
 -- what the client is asked to write
 pub record Ask : Type 0 where

@@ -1,4 +1,4 @@
--- `client_abi::read::razidkot_client_read` meets its contract: the answer that its numbers are of is that of `client`.
+-- `client_abi::read::razidkot_client_read` meets its contract: the answer that its numbers are of is that of `client_responses`.
 use borrow.Author.Needs.{needs}
 use Rattle.client_abi.proofs.read.razidkot_client_read.Statement.{statement}
 use Rattle.client_abi.proofs.read.razidkot_client_read.Tie as tie

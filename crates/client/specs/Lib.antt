@@ -1,5 +1,0 @@
-pub mod Writing
-pub mod Reading
-pub mod State
-pub mod Handed
-pub mod code

@@ -1,3 +1,0 @@
-pub mod Looked
-pub mod Judged
-pub mod Around

@@ -1,0 +1,90 @@
+-- Laws of the tests before writing: what is left to be judged behind those that passed, and what they say of a request.
+use Prim.Native.Nat.{ℕ, _≤_}
+use mathlib.Core.Path.{_≡_, refl, ap, _∙_}
+use mathlib.Core.Bool.{Bool, true, false, not}
+use mathlib.Core.Option.{Option, none, some}
+use mathlib.Core.List.{List, [], _∷_, _++_}
+use borrow.Author.Tests.{ltb-false, not-false}
+use lib.ListN.{length, getD}
+use lib.Dec.{ltb}
+use Rattle.wire.specs.Choice.{firstOf}
+use Rattle.wire.proofs.TestLaws.{none-at}
+use Rattle.keys.specs.Names.{keyNameMost, legalName}
+use Rattle.keys.specs.Key.{Key, legalData, importBits}
+use Rattle.messages.specs.Operations.{Operation, ping, importKey, destroyKey}
+use Rattle.client_requests.specs.Writing.{Sender, requestBufferLeast, legalSender, legalKeyName, legalKeyData, legalKeyBits, writeTests}
+use Rattle.client_requests.specs.code.Judged.{judgedAs, firstRefusal}
+use Rattle.client_requests.specs.declared.WriteRefusal.{WriteRefusal}
+use Rattle.client_requests.specs.declared.WriteRefusal.the-variants.{BufferTooSmall, ApplicationNameIllegal, KeyNameIllegal, DataIllegal, BitsIllegal}
+use Rattle.client_requests.specs.declared.judge.Judged.{Judged}
+use Rattle.client_requests.specs.declared.judge.Judged.the-variants.{Legal, Refused}
+
+-- ---- what the code's answer says
+
+pub told-refused : (o : Option WriteRefusal) (refusal : WriteRefusal) → judgedAs o ≡ Refused refusal → o ≡ some refusal
+unfolding judgedAs
+told-refused none refusal e = cc
+told-refused (some x) refusal e = cc
+
+pub told-legal : (o : Option WriteRefusal) → judgedAs o ≡ Legal → o ≡ none
+unfolding judgedAs
+told-legal none e = refl
+told-legal (some x) e = cc
+
+-- ---- the tests of each operation, as the code joins them
+
+abbrev Tests : Type 0
+Tests = List (Bool × WriteRefusal)
+
+joined : (ts us : Tests) → firstRefusal (judgedAs (firstOf ts)) (judgedAs (firstOf us)) ≡ judgedAs (firstOf (ts ++ us))
+unfolding judgedAs firstOf firstRefusal
+joined [] us = refl
+joined ((true, refusal) ∷ ts) us = refl
+joined ((false, refusal) ∷ ts) us = joined ts us
+
+abbrev alone : (test : Bool) → WriteRefusal → Judged
+alone test refusal = judgedAs (firstOf ((test, refusal) ∷ []))
+
+module _ (out : List ℕ) (sender : Sender) where
+  senderTests : Tests
+  senderTests = (ltb (length out) requestBufferLeast, BufferTooSmall) ∷ (not (legalSender sender), ApplicationNameIllegal) ∷ []
+
+  nameTest : (name : List ℕ) → Tests
+  nameTest name = (not (legalName keyNameMost name), KeyNameIllegal) ∷ []
+
+  pub sender-judged : firstRefusal (alone (ltb (length out) requestBufferLeast) BufferTooSmall) (alone (not (legalSender sender)) ApplicationNameIllegal)
+      ≡ judgedAs (firstOf (writeTests out sender ping))
+  unfolding writeTests firstOf
+  sender-judged = joined ((ltb (length out) requestBufferLeast, BufferTooSmall) ∷ []) ((not (legalSender sender), ApplicationNameIllegal) ∷ [])
+
+  pub name-judged : (name : List ℕ) → firstRefusal (judgedAs (firstOf (writeTests out sender ping))) (alone (not (legalName keyNameMost name)) KeyNameIllegal)
+      ≡ judgedAs (firstOf (writeTests out sender (destroyKey name)))
+  unfolding writeTests firstOf senderTests nameTest
+  name-judged name = joined senderTests (nameTest name)
+
+  pub key-judged : (key : Key)
+      → firstRefusal (judgedAs (firstOf (writeTests out sender (destroyKey (key .name))))) (firstRefusal (alone (not (legalData (key .bytes))) DataIllegal) (alone (not (importBits (key .bits))) BitsIllegal))
+      ≡ judgedAs (firstOf (writeTests out sender (importKey key)))
+  unfolding writeTests firstOf senderTests nameTest
+  key-judged key =
+      let bytes : Tests = (not (legalData (key .bytes)), DataIllegal) ∷ [] in
+      let bits : Tests = (not (importBits (key .bits)), BitsIllegal) ∷ [] in
+      ap (firstRefusal (judgedAs (firstOf (senderTests ++ nameTest (key .name))))) (joined bytes bits)
+      ∙ joined (senderTests ++ nameTest (key .name)) (bytes ++ bits)
+
+-- ---- what holds where every test is passed
+
+pub record Passed (out : List ℕ) (sender : Sender) (operation : Operation) : Type 0 where
+  pub room : requestBufferLeast ≤ length out
+  pub legal : legalSender sender ≡ true
+  pub name : legalKeyName operation ≡ true
+  pub bytes : legalKeyData operation ≡ true
+  pub bits : legalKeyBits operation ≡ true
+
+pub passed : (out : List ℕ) (sender : Sender) (operation : Operation) → judgedAs (firstOf (writeTests out sender operation)) ≡ Legal → Passed out sender operation
+unfolding writeTests
+passed out sender operation e =
+    let none′ = told-legal (firstOf (writeTests out sender operation)) e in
+    let at : (k : ℕ) → getD (writeTests out sender operation) k (false, BufferTooSmall) .0 ≡ false
+    = λ k. none-at (writeTests out sender operation) k BufferTooSmall none′ in
+    record { room = ltb-false _ _ (at 0); legal = not-false _ (at 1); name = not-false _ (at 2); bytes = not-false _ (at 3); bits = not-false _ (at 4) }

@@ -1,0 +1,94 @@
+-- `client_requests::write::write_export` meets its contract.
+use mathlib.Core.Path.{_≡_, sym, _∙_}
+use native.Mathlib.Omega.{arith}
+use borrow.Author.Needs.{needs}
+use Rattle.wire.specs.Choice.{firstOf}
+use Rattle.keys.specs.Names.{keyNameMost}
+use Rattle.keys.proofs.NameLaws.{legal-short}
+use Rattle.messages.specs.Operations.{Operation, exportPublicKey, operationBody}
+use Rattle.client_requests.specs.Writing.{Sender, senderOf, writeTests}
+use Rattle.client_requests.specs.code.Judged.{judgedAs}
+use Rattle.client_requests.specs.declared.judge.Judged.the-variants.{Legal}
+use Rattle.client_requests.proofs.JudgeLaws.{Passed, passed}
+use Rattle.client_requests.proofs.WritingLaws.{written-short, refused-outcome, body-outcome}
+use Rattle.client_requests.proofs.write.write_export.Statement.{statement}
+use Rattle.client_requests.proofs.write.write_export.Tie as tie
+
+abbrev start : tie.After-enum-told → tie.Start
+start c = c .before .before .before .before .before .before .before
+
+abbrev operation : tie.Start → Operation
+operation s = exportPublicKey (s .args .name .now)
+
+abbrev sender : tie.Start → Sender
+sender s = senderOf (s .args .named) (s .args .application .now)
+
+legal : (c : tie.After-enum-told) → judgedAs (firstOf (writeTests (start c .args .out .now) (sender (start c)) (operation (start c)))) ≡ Legal
+unfolding writeTests
+legal c = sym (c .before .before .judge-name .ensures) ∙ c .enum-told .given .1
+
+passes : (c : tie.After-enum-told) → Passed (start c .args .out .now) (sender (start c)) (operation (start c))
+passes c = passed _ _ _ (legal c)
+
+judge-name-requires : tie.Need-judge-name-requires
+judge-name-requires c κs = search needs
+
+enum-known-refusal : tie.Need-enum-known-refusal
+enum-known-refusal c = search needs
+
+enum-told : tie.Need-enum-told
+enum-told c = search needs
+
+sub-write-name-body : tie.Need-sub-write-name-body
+sub-write-name-body c = omega (arith, passes c .room)
+
+part-write-name-body-start : tie.Need-part-write-name-body-start
+part-write-name-body-start c = omega (arith, passes c .room)
+
+part-write-name-body-end : tie.Need-part-write-name-body-end
+part-write-name-body-end c = search needs
+
+write-name-body-requires : tie.Need-write-name-body-requires
+write-name-body-requires c κs = let p = passes (c .before) in omega (arith, p .room, legal-short keyNameMost _ (p .name))
+
+write-around-requires : tie.Need-write-around-requires
+unfolding operationBody
+write-around-requires c κs =
+    let b = c .before .before .before in
+    let p = passes (b .before .before) in
+    (omega (arith, p .room), p .legal, written-short p (b .write-name-body .ensures))
+
+same-length : tie.Need-same-length
+same-length c = search needs
+
+returns : tie.Need-returns
+unfolding writeTests
+returns c = refused-outcome _ _ _ _ _ (sym (c .before .before .before .judge-name .ensures) ∙ c .before .refusal .given .1)
+
+same-length-2 : tie.Need-same-length-2
+same-length-2 c = search needs
+
+returns-2 : tie.Need-returns-2
+unfolding operationBody
+returns-2 c =
+    let around = c .before .before in
+    let b = around .before .before .before .before in
+    let told = b .before .before in
+    body-outcome _ _ _ _ (legal told) (omega (arith, passes told .room)) (b .write-name-body .ensures) (around .write-around .ensures)
+
+pub write-export-spec : {M : Type 1} → statement M
+write-export-spec =
+    tie.close
+    (tie.spec
+    judge-name-requires
+    enum-known-refusal
+    enum-told
+    sub-write-name-body
+    part-write-name-body-start
+    part-write-name-body-end
+    write-name-body-requires
+    write-around-requires
+    same-length
+    returns
+    same-length-2
+    returns-2)

@@ -1,0 +1,106 @@
+// What is refused before a byte of a request is written: the first test that holds (document 02, "The client's half").
+use crate::WriteRefusal;
+use keys::APPLICATION_NAME_MOST;
+use keys::DATA_MOST;
+use keys::KEY_NAME_MOST;
+use keys::bits::are_legal_bits;
+use keys::names::is_legal;
+ghost use mathlib.Core.Bool.{Bool};
+ghost use mathlib.Core.List.{[], _∷_};
+ghost use mathlib.Core.Path.{_≡_};
+ghost use Rattle.wire.specs.Choice.{firstOf};
+ghost use Rattle.keys.specs.Key.{legalData};
+ghost use Rattle.messages.specs.Operations.{ping, importKey, destroyKey};
+ghost use Rattle.client_requests.specs.Writing.{senderOf, legalSender, writeTests};
+ghost use Rattle.client_requests.specs.code.Judged.{judgedAs, firstRefusal};
+
+// The shortest buffer for a request.
+pub const REQUEST_BUFFER_LEAST: usize = 5120;
+
+pub enum Judged {
+    Legal,
+    Refused(WriteRefusal),
+}
+
+// Whether the application's name, if there is one, is legal.
+fn is_legal_sender(named: bool, application: &[u8]) -> bool
+    ensures { λ r. ⌜ r ≡ legalSender (senderOf named (now (application .entry))) ⌝ }
+{
+    if !named {
+        return true;
+    }
+    is_legal(application, APPLICATION_NAME_MOST)
+}
+
+fn is_legal_data(bytes: &[u8]) -> bool
+    ensures { λ r. ⌜ r ≡ legalData (now (bytes .entry)) ⌝ }
+{
+    if bytes.len() < 1 {
+        return false;
+    }
+    if DATA_MOST < bytes.len() {
+        return false;
+    }
+    true
+}
+
+// One test: whether it refuses.
+fn judge(test: bool, refusal: WriteRefusal) -> Judged
+    ensures { λ r. ⌜ r ≡ judgedAs (firstOf ((test, refusal) ∷ [])) ⌝ }
+{
+    if test {
+        return Judged::Refused(refusal);
+    }
+    Judged::Legal
+}
+
+// Of tests and later ones, the first that refuses.
+fn first_refusal(judged: Judged, later: Judged) -> Judged
+    ensures { λ r. ⌜ r ≡ firstRefusal judged later ⌝ }
+{
+    match judged {
+        Judged::Legal => later,
+        Judged::Refused(refusal) => Judged::Refused(refusal),
+    }
+}
+
+// The tests of an operation on no key, Ping for all.
+pub fn judge_sender(out: &[u8], named: bool, application: &[u8]) -> Judged
+    ensures { λ r. ⌜ r ≡ judgedAs (firstOf (writeTests (now (out .entry)) (senderOf named (now (application .entry))) ping)) ⌝ }
+{
+    let room = judge(
+        out.len() < REQUEST_BUFFER_LEAST,
+        WriteRefusal::BufferTooSmall,
+    );
+    let sender = judge(
+        !is_legal_sender(named, application),
+        WriteRefusal::ApplicationNameIllegal,
+    );
+    first_refusal(room, sender)
+}
+
+// Of one on a key by its name, Destroy for both.
+pub fn judge_name(out: &[u8], named: bool, application: &[u8], name: &[u8]) -> Judged
+    ensures { λ r. ⌜ r ≡ judgedAs (firstOf (writeTests (now (out .entry)) (senderOf named (now (application .entry))) (destroyKey (now (name .entry))))) ⌝ }
+{
+    let sender = judge_sender(out, named, application);
+    let key = judge(!is_legal(name, KEY_NAME_MOST), WriteRefusal::KeyNameIllegal);
+    first_refusal(sender, key)
+}
+
+// Of Import, whatever its permissions are.
+pub fn judge_key(
+    out: &[u8],
+    named: bool,
+    application: &[u8],
+    name: &[u8],
+    bytes: &[u8],
+    bits: u32,
+) -> Judged
+    ensures { λ r. ⌜ ((exported verified : Bool) → r ≡ judgedAs (firstOf (writeTests (now (out .entry)) (senderOf named (now (application .entry))) (importKey (record { name = now (name .entry); bytes = now (bytes .entry); bits = bits; exportAllowed = exported; verifyAllowed = verified }))))) ⌝ }
+{
+    let names = judge_name(out, named, application, name);
+    let data = judge(!is_legal_data(bytes), WriteRefusal::DataIllegal);
+    let size = judge(!are_legal_bits(bits as usize), WriteRefusal::BitsIllegal);
+    first_refusal(names, first_refusal(data, size))
+}

@@ -1,0 +1,6 @@
+pub mod StateLaws
+pub mod FoundLaws
+pub mod LookLaws
+pub mod ReadLaws
+pub mod CutLaws
+pub mod Cases

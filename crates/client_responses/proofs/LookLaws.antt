@@ -1,0 +1,146 @@
+-- Laws of looking at the bytes held: places moved, a header checked, a body read.
+use mathlib.Core.Path.{_≡_, refl, sym, ap, _∙_}
+use Prim.Native.Nat.{ℕ, _+_, _-_, _≤_}
+use mathlib.Core.Bool.{Bool, true, false}
+use mathlib.Core.Option.{Option, none, some}
+use mathlib.Core.List.{List, _∷_}
+use native.Mathlib.Omega.{arith}
+use borrow.Author.Tests.{eq-eqb, ne-eqb}
+use lib.ListN.{length, take, drop}
+use lib.Seq.{drop-drop}
+use Rattle.wire.specs.Choice.{firstOf}
+use Rattle.wire.specs.Numbers.{field}
+use Rattle.wire.specs.Response.{responseLeast}
+use Rattle.wire.proofs.ListLaws.{length-part, part-of-part}
+use Rattle.messages.specs.Protobuf.{packedOf, protobuf}
+use Rattle.messages.specs.Operations.{Output, nothing, providers, opcodes, exported, outputOf}
+use Rattle.messages.specs.Placed.{spanIn, entriesOf, listIn, outputIn, readIn, SpanWithin, OutputWithin}
+use Rattle.messages.specs.declared.read.Span.{Span}
+use Rattle.messages.specs.declared.read.Output.{Output as OutputPlaces}
+use Rattle.messages.specs.declared.read.Output.the-variants.{Nothing, Version, Providers, Opcodes, Data}
+use Rattle.messages.specs.declared.read.OutputRead.the-variants.{Read, Unreadable}
+use Rattle.client_responses.specs.Reading.{contentMost, Reply, answered, refused, ofOutput, bodyReply}
+use Rattle.client_responses.specs.State.{countAt, bytesAt, stateSize, bytesIn, saidOf, said}
+use Rattle.client_responses.specs.code.Looked.{bodyAt, spanMoved, outputMoved, checkOf, Looked}
+use Rattle.client_responses.specs.declared.ReadRefusal.{ReadRefusal}
+use Rattle.client_responses.specs.declared.ReadRefusal.the-variants.{UnreadableBody}
+use Rattle.client_responses.specs.declared.look.Said.{Said as SaidPlaces}
+use Rattle.client_responses.specs.declared.look.Said.the-variants.{Waiting, Response, Refused}
+use Rattle.client_responses.specs.declared.look.HeaderCheck.the-variants.{Passed, Refused as NotPassed}
+
+-- ---- places moved
+
+module _ (n k : ℕ) (m : List ℕ) where
+  span-moved : (span : Span) → SpanWithin n span → spanIn (take n (drop k m)) span ≡ spanIn m (spanMoved k span)
+  span-moved span w = part-of-part (span .len) (span .start) n (drop k m) w ∙ ap (take (span .len)) (drop-drop (span .start) k m)
+
+  list-moved : (span : Span) → SpanWithin n span → listIn (take n (drop k m)) span ≡ listIn m (spanMoved k span)
+  list-moved span w = ap (λ (l : List ℕ). entriesOf (packedOf l)) (span-moved span w)
+
+  -- an output in a part, as one in the whole
+  output-moved : (o : OutputPlaces) → OutputWithin n o → outputIn (take n (drop k m)) o ≡ outputIn m (outputMoved k o)
+  output-moved Nothing w = refl
+  output-moved (Version major minor) w = refl
+  output-moved (Providers span) w = ap providers (list-moved span w)
+  output-moved (Opcodes span) w = ap opcodes (list-moved span w)
+  output-moved (Data span) w = ap exported (span-moved span w)
+
+moved-within : (n k most : ℕ) → k + n ≤ most → (o : OutputPlaces) → OutputWithin n o → OutputWithin most (outputMoved k o)
+moved-within n k most h Nothing w = tt
+moved-within n k most h (Version major minor) w = tt
+moved-within n k most h (Providers span) w = omega arith
+moved-within n k most h (Opcodes span) w = omega arith
+moved-within n k most h (Data span) w = omega arith
+
+pub within-more : (n most : ℕ) → n ≤ most → (o : OutputPlaces) → OutputWithin n o → OutputWithin most o
+within-more n most h Nothing w = tt
+within-more n most h (Version major minor) w = tt
+within-more n most h (Providers span) w = omega arith
+within-more n most h (Opcodes span) w = omega arith
+within-more n most h (Data span) w = omega arith
+
+-- ---- a header checked, test by test
+
+module _ (t : Bool) (refusal : ReadRefusal) (tests : List (Bool × ReadRefusal)) where
+  pub stops : t ≡ true → checkOf (firstOf ((t, refusal) ∷ tests)) ≡ NotPassed refusal
+  unfolding firstOf
+  stops e = rw e
+
+  pub passes : t ≡ false → checkOf (firstOf ((t, refusal) ∷ tests)) ≡ checkOf (firstOf tests)
+  unfolding firstOf
+  passes e = rw e
+
+pub passed : (o : Option ReadRefusal) → checkOf o ≡ Passed → o ≡ none
+passed none e = refl
+passed (some r) e = absurd (let z : _≡_ {A = ℕ} 0 1 = cc in omega arith)
+
+pub not-passed : (o : Option ReadRefusal) (r : ReadRefusal) → checkOf o ≡ NotPassed r → o ≡ some r
+not-passed none r e = absurd (let z : _≡_ {A = ℕ} 0 1 = cc in omega arith)
+not-passed (some q) r e = cc
+
+-- ---- what is said
+
+module _ (m : List ℕ) (reply : Option Reply) where
+  pub looked-waiting : reply ≡ none → Looked m reply Waiting
+  looked-waiting e = record { said-is = ap saidOf (sym e); within = tt }
+
+  pub looked-refused : (r : ReadRefusal) → reply ≡ some (refused r) → Looked m reply (Refused r)
+  looked-refused r e = record { said-is = ap saidOf (sym e); within = tt }
+
+  pub looked-as : (other : Option Reply) (r : SaidPlaces) → Looked m other r → reply ≡ other → Looked m reply r
+  looked-as other r l e = record { said-is = l .said-is ∙ ap saidOf (sym e); within = l .within }
+
+-- ---- a body read
+
+module _ (opcode status : ℕ) (body : List ℕ) where
+  reply-output : status ≡ 0 → bodyReply opcode status body ≡ ofOutput (outputOf protobuf opcode body)
+  unfolding bodyReply
+  reply-output e = rw (eq-eqb status 0 e, bodyReply)
+
+  reply-none : (status ≡ 0 → ⊥) → length body ≡ 0 → bodyReply opcode status body ≡ answered status nothing
+  unfolding bodyReply
+  reply-none n e = rw (ne-eqb status 0 n, eq-eqb (length body) 0 e, bodyReply)
+
+  reply-some : (status ≡ 0 → ⊥) → (length body ≡ 0 → ⊥) → bodyReply opcode status body ≡ refused UnreadableBody
+  unfolding bodyReply
+  reply-some n e = rw (ne-eqb status 0 n, ne-eqb (length body) 0 e, bodyReply)
+
+module _ (m : List ℕ) (size : length m ≡ stateSize) (opcode status content : ℕ) (few : content ≤ contentMost) where
+  abbrev body : List ℕ
+  body = take content (drop bodyAt m)
+
+  pub body-long : length body ≡ content
+  body-long = length-part m bodyAt content (omega arith)
+
+  pub said-status : (status ≡ 0 → ⊥) → content ≡ 0 → Looked m (some (bodyReply opcode status body)) (Response (record { status = status; output = Nothing }))
+  said-status n e = record { said-is = ap said (sym (reply-none opcode status body n (body-long ∙ e))); within = tt }
+
+  pub said-body : (status ≡ 0 → ⊥) → (content ≡ 0 → ⊥) → Looked m (some (bodyReply opcode status body)) (Refused UnreadableBody)
+  said-body n e = looked-refused m _ UnreadableBody (ap some (reply-some opcode status body n (λ z. e (sym body-long ∙ z))))
+
+  pub said-output : (output : OutputPlaces) → status ≡ 0 → readIn body (Read output) ≡ outputOf protobuf opcode body → OutputWithin content output
+      → Looked m (some (bodyReply opcode status body)) (Response (record { status = 0; output = outputMoved bodyAt output }))
+  said-output output z e w = record {
+    said-is =
+        ap (λ (o : Output). said (answered 0 o)) (sym (output-moved content bodyAt m output w))
+        ∙ ap said (ap ofOutput e ∙ sym (reply-output opcode status body z));
+    within = moved-within content bodyAt (length m) (omega arith) output w;
+  }
+
+  pub said-unreadable : status ≡ 0 → readIn body Unreadable ≡ outputOf protobuf opcode body → Looked m (some (bodyReply opcode status body)) (Refused UnreadableBody)
+  said-unreadable z e = looked-refused m _ UnreadableBody (ap some (reply-output opcode status body z ∙ ap ofOutput (sym e)))
+
+-- ---- the bytes held, as the code lends them
+
+pub held-part : (m : List ℕ) (n : ℕ) → n ≡ field countAt 2 m → take (bytesAt + n - bytesAt) (drop bytesAt m) ≡ bytesIn m
+unfolding bytesIn
+held-part m n e = ap (λ (k : ℕ). take k (drop bytesAt m)) (let x : bytesAt + n - bytesAt ≡ n = omega arith in x ∙ e)
+
+pub count-part : (m : List ℕ) (n : ℕ) → n ≡ field countAt 2 m → take n (drop bytesAt m) ≡ bytesIn m
+unfolding bytesIn
+count-part m n e = ap (λ (k : ℕ). take k (drop bytesAt m)) e
+
+-- the body among them, in the whole
+pub body-part : (m : List ℕ) (count content : ℕ) → responseLeast + content ≤ count
+    → take content (drop responseLeast (take count (drop bytesAt m))) ≡ take content (drop bodyAt m)
+body-part m count content h = part-of-part content responseLeast count (drop bytesAt m) h ∙ ap (take content) (drop-drop responseLeast bytesAt m)

@@ -1,0 +1,25 @@
+-- What a call hands back, by the memory after it: its places read as their bytes there.
+use Prim.Native.Nat.{ℕ}
+use mathlib.Core.List.{List}
+use Rattle.messages.specs.Placed.{outputIn, OutputWithin}
+use Rattle.client_responses.specs.Reading.{answered, refused}
+use Rattle.client_responses.specs.State.{Said, illFormed, waiting, said, ReadOutcome}
+use Rattle.client_responses.specs.declared.look.Said.{Said as SaidPlaces}
+use Rattle.client_responses.specs.declared.look.Said.the-variants.{IllFormed, Waiting, Response, Refused}
+use Rattle.client_responses.specs.declared.read.ReadAnswer.{ReadAnswer}
+
+abbrev pub saidIn : (memory : List ℕ) → SaidPlaces → Said
+saidIn memory IllFormed = illFormed
+saidIn memory Waiting = waiting
+saidIn memory (Response response) = said (answered (response .status) (outputIn memory (response .output)))
+saidIn memory (Refused refusal) = said (refused refusal)
+
+abbrev pub handed : (memory : List ℕ) → ReadAnswer → ReadOutcome
+handed memory answer = record { said = saidIn memory (answer .said); taken = answer .taken; memory = memory }
+
+-- the places lie within so many bytes
+abbrev pub SaidWithin : (most : ℕ) → SaidPlaces → Type 0
+SaidWithin most IllFormed = Unit {0}
+SaidWithin most Waiting = Unit {0}
+SaidWithin most (Response response) = OutputWithin most (response .output)
+SaidWithin most (Refused refusal) = Unit {0}

@@ -1,0 +1,4 @@
+pub mod Reading
+pub mod State
+pub mod Handed
+pub mod code

@@ -1,0 +1,96 @@
+-- A response read, uncut (document 02, "The client's half").
+use Prim.Native.Nat.{ℕ, _+_}
+use mathlib.Core.Bool.{Bool, not, _&&_, _||_}
+use mathlib.Core.Option.{Option, none, some}
+use mathlib.Core.List.{List, [], _∷_, _++_}
+use lib.ListN.{length, take, drop}
+use lib.Dec.{ltb, eqb}
+use Rattle.wire.specs.Choice.{if_then_else_, firstOf, isSome}
+use Rattle.wire.specs.Lists.{every, oneOf}
+use Rattle.wire.specs.Request.{magicNumber, magic, headerSize}
+use Rattle.wire.specs.Response.{responseHeaderSize, responseLeast, responseOf}
+use Rattle.wire.specs.declared.response.ResponseHeader.{ResponseHeader}
+use Rattle.reading.specs.Reader.{Reader}
+use Rattle.messages.specs.Protobuf.{protobuf}
+use Rattle.messages.specs.Opcodes.{coreOpcodes}
+use Rattle.messages.specs.Operations.{Output, nothing, outputOf}
+use Rattle.client_responses.specs.declared.ReadRefusal.{ReadRefusal}
+use Rattle.client_responses.specs.declared.ReadRefusal.the-variants.{WrongMagic, WrongHeaderSize, WrongVersion, WrongContentType, NotItsRequests, ContentTooLong, UnreadableBody}
+
+-- the request that is answered
+pub record Asked : Type 0 where
+  pub opcode : ℕ
+  pub session : ℕ
+
+-- provider 0 is core, 1 keystore
+abbrev pub providerFor : (opcode : ℕ) → ℕ
+providerFor opcode = if oneOf coreOpcodes opcode then 0 else 1
+
+-- ---- what a response is read as
+
+pub data Reply : Type 0 where
+  answered : (status : ℕ) → Output → Reply
+  refused : ReadRefusal → Reply
+
+-- ---- the header, once it is whole
+
+abbrev pub contentMost : ℕ
+contentMost = 998
+
+-- its opcode, session and provider are its request's
+unfoldable pub isIts : Asked → ResponseHeader → Bool
+isIts asked h =
+    every (eqb (h .opcode) (asked .opcode) ∷ eqb (h .session) (asked .session) ∷ eqb (h .provider) (providerFor (asked .opcode)) ∷ [])
+
+-- status 17 with these three zero and no content, which is read as it stands
+unfoldable pub isInvalidHeader : ResponseHeader → Bool
+isInvalidHeader h =
+    every (eqb (h .status) 17 ∷ eqb (h .opcode) 0 ∷ eqb (h .session) 0 ∷ eqb (h .provider) 0 ∷ eqb (h .«content_length») 0 ∷ [])
+
+unfoldable pub headerTests : Asked → ResponseHeader → List (Bool × ReadRefusal)
+headerTests asked h =
+    (not (eqb (h .major) 1 && eqb (h .minor) 0), WrongVersion)
+    ∷ (not (eqb (h .«content_type») 1), WrongContentType)
+    ∷ (not (isIts asked h || isInvalidHeader h), NotItsRequests)
+    ∷ (ltb contentMost (h .«content_length»), ContentTooLong)
+    ∷ []
+
+-- ---- the body, once it is whole
+
+abbrev pub ofOutput : Option Output → Reply
+ofOutput none = refused UnreadableBody
+ofOutput (some output) = answered 0 output
+
+-- a status other than 0 has no body
+unfoldable pub bodyReply : (opcode status : ℕ) (body : List ℕ) → Reply
+bodyReply opcode status body =
+    if eqb status 0 then ofOutput (outputOf protobuf opcode body)
+    else if eqb (length body) 0 then answered status nothing
+    else refused UnreadableBody
+
+-- ---- what bytes are read as, if that can be said yet
+
+-- behind a whole header
+unfoldable pub foundBehind : Asked → ResponseHeader → (bytes : List ℕ) → Option Reply
+foundBehind asked h bytes = elim (firstOf (headerTests asked h)) [
+  | some refusal ↦ some (refused refusal)
+  | none ↦
+      if ltb (length bytes) (responseLeast + h .«content_length») then none
+      else some (bodyReply (asked .opcode) (h .status) (take (h .«content_length») (drop responseLeast bytes)))
+]
+
+unfoldable pub found : Asked → (bytes : List ℕ) → Option Reply
+found asked bytes =
+    if ltb (length bytes) 6 then none
+    else if not (eqb (magic bytes) magicNumber) then some (refused WrongMagic)
+    else if not (eqb (headerSize bytes) responseHeaderSize) then some (refused WrongHeaderSize)
+    else if ltb (length bytes) responseLeast then none
+    else foundBehind asked (responseOf bytes) bytes
+
+-- THE UNCUT READER: it keeps the bytes, and ends with a response or a refusal
+unfoldable pub responseReader : Asked → Reader (List ℕ) Reply
+responseReader asked = record {
+  begin = [];
+  byte = λ bytes b. record { kept = bytes ++ (b ∷ []); event = found asked (bytes ++ (b ∷ [])) };
+  ended = λ bytes. isSome (found asked bytes);
+}
