@@ -11,7 +11,7 @@ use Rattle.client_requests.specs.Writing.{WriteOutcome}
 use Rattle.client_responses.specs.State.{Beginning, ReadOutcome}
 use Rattle.client_responses.specs.Handed.{handed, SaidWithin}
 use Rattle.client_requests.specs.declared.WriteRefusal.{WriteRefusal}
-use Rattle.client_requests.specs.declared.WriteRefusal.the-variants.{BufferTooSmall, ApplicationNameIllegal, KeyNameIllegal, DataIllegal, BitsIllegal}
+use Rattle.client_requests.specs.declared.WriteRefusal.the-variants.{BufferTooSmall, ApplicationNameIllegal, KeyNameIllegal, DataIllegal, BitsIllegal, HashIllegal, BodyTooLong}
 use Rattle.client_requests.specs.declared.Written.{Written}
 use Rattle.client_requests.specs.declared.Written.the-variants.{Bytes, Refused}
 use Rattle.client_responses.specs.declared.Begun.{Begun}
@@ -34,6 +34,8 @@ refusalNumber ApplicationNameIllegal = 2
 refusalNumber KeyNameIllegal = 3
 refusalNumber DataIllegal = 4
 refusalNumber BitsIllegal = 5
+refusalNumber HashIllegal = 6
+refusalNumber BodyTooLong = 7
 
 -- a refused request has no bytes
 unfoldable pub requestNumbers : Written → Request

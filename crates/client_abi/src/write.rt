@@ -1,4 +1,4 @@
-// Requests written ("The client's half").
+// Requests written ("The client's half", "Checking signatures").
 use client_requests::WriteRefusal;
 use client_requests::Written;
 use client_requests::write::write_destroy;
@@ -7,8 +7,9 @@ use client_requests::write::write_import;
 use client_requests::write::write_list_opcodes;
 use client_requests::write::write_list_providers;
 use client_requests::write::write_ping;
+use client_requests::write::write_verify;
 ghost use mathlib.Core.Path.{_≡_};
-ghost use Rattle.messages.specs.Operations.{ping, listProviders, listOpcodes, importKey, destroyKey, exportPublicKey};
+ghost use Rattle.messages.specs.Operations.{ping, listProviders, listOpcodes, importKey, destroyKey, exportPublicKey, verifySignature};
 ghost use Rattle.client_requests.specs.Writing.{writeOutcome, senderOf};
 ghost use Rattle.client_abi.specs.Numbers.{refusalNumber, requestNumbers, writtenWith};
 
@@ -28,6 +29,8 @@ fn refusal_number(refusal: WriteRefusal) -> u32
         WriteRefusal::KeyNameIllegal => 3,
         WriteRefusal::DataIllegal => 4,
         WriteRefusal::BitsIllegal => 5,
+        WriteRefusal::HashIllegal => 6,
+        WriteRefusal::BodyTooLong => 7,
     }
 }
 
@@ -134,4 +137,19 @@ pub extern "C" fn razidkot_client_write_export(
     ensures { λ r. ⌜ (r, now (out .exit)) ≡ writtenWith (writeOutcome (now (out .entry)) session (senderOf named (now (application .entry))) (exportPublicKey (now (name .entry)))) ⌝ }
 {
     number(write_export(out, session, named, application, name))
+}
+
+#[no_mangle]
+pub extern "C" fn razidkot_client_write_verify(
+    out: &mut [u8],
+    session: u64,
+    named: bool,
+    application: &[u8],
+    name: &[u8],
+    hash: &[u8],
+    signature: &[u8],
+) -> Request
+    ensures { λ r. ⌜ (r, now (out .exit)) ≡ writtenWith (writeOutcome (now (out .entry)) session (senderOf named (now (application .entry))) (verifySignature (now (name .entry)) (now (hash .entry)) (now (signature .entry)))) ⌝ }
+{
+    number(write_verify(out, session, named, application, name, hash, signature))
 }

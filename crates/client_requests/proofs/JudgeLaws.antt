@@ -1,21 +1,24 @@
 -- Laws of the tests before writing: what is left to be judged behind those that passed, and what they say of a request.
-use Prim.Native.Nat.{ℕ, _≤_}
-use mathlib.Core.Path.{_≡_, refl, ap, _∙_}
+use Prim.Native.Nat.{ℕ, _+_, _≤_, _<_}
+use mathlib.Core.Path.{_≡_, refl, sym, ap, _∙_}
 use mathlib.Core.Bool.{Bool, true, false, not}
 use mathlib.Core.Option.{Option, none, some}
 use mathlib.Core.List.{List, [], _∷_, _++_}
-use borrow.Author.Tests.{ltb-false, not-false}
+use native.Mathlib.Omega.{arith}
+use borrow.Author.Tests.{ltb-false, lt-leb, not-false}
 use lib.ListN.{length, getD}
-use lib.Dec.{ltb}
+use lib.Dec.{ltb, eqb}
 use Rattle.wire.specs.Choice.{firstOf}
 use Rattle.wire.proofs.TestLaws.{none-at}
 use Rattle.keys.specs.Names.{keyNameMost, legalName}
 use Rattle.keys.specs.Key.{Key, legalData, importBits}
-use Rattle.messages.specs.Operations.{Operation, ping, importKey, destroyKey}
-use Rattle.client_requests.specs.Writing.{Sender, requestBufferLeast, legalSender, legalKeyName, legalKeyData, legalKeyBits, writeTests}
+use Rattle.messages.specs.Protobuf.{protobuf}
+use Rattle.messages.specs.Operations.{Operation, ping, importKey, destroyKey, verifySignature, operationBody}
+use Rattle.messages.proofs.WriteLaws.{verify-body-least}
+use Rattle.client_requests.specs.Writing.{Sender, requestBufferLeast, hashSize, requestBodyMost, legalSender, legalKeyName, legalKeyData, legalKeyBits, legalHash, legalBody, writeTests}
 use Rattle.client_requests.specs.code.Judged.{judgedAs, firstRefusal}
 use Rattle.client_requests.specs.declared.WriteRefusal.{WriteRefusal}
-use Rattle.client_requests.specs.declared.WriteRefusal.the-variants.{BufferTooSmall, ApplicationNameIllegal, KeyNameIllegal, DataIllegal, BitsIllegal}
+use Rattle.client_requests.specs.declared.WriteRefusal.the-variants.{BufferTooSmall, ApplicationNameIllegal, KeyNameIllegal, DataIllegal, BitsIllegal, HashIllegal, BodyTooLong}
 use Rattle.client_requests.specs.declared.judge.Judged.{Judged}
 use Rattle.client_requests.specs.declared.judge.Judged.the-variants.{Legal, Refused}
 
@@ -72,6 +75,23 @@ module _ (out : List ℕ) (sender : Sender) where
       ap (firstRefusal (judgedAs (firstOf (senderTests ++ nameTest (key .name))))) (joined bytes bits)
       ∙ joined (senderTests ++ nameTest (key .name)) (bytes ++ bits)
 
+  pub verify-judged : (name hash signature : List ℕ)
+      → firstRefusal (judgedAs (firstOf (writeTests out sender (destroyKey name)))) (firstRefusal (alone (not (eqb (length hash) hashSize)) HashIllegal) (alone (not (legalBody (verifySignature name hash signature))) BodyTooLong))
+      ≡ judgedAs (firstOf (writeTests out sender (verifySignature name hash signature)))
+  unfolding writeTests firstOf senderTests nameTest
+  verify-judged name hash signature =
+      let size : Tests = (not (eqb (length hash) hashSize), HashIllegal) ∷ [] in
+      let body : Tests = (not (legalBody (verifySignature name hash signature)), BodyTooLong) ∷ [] in
+      ap (firstRefusal (judgedAs (firstOf (senderTests ++ nameTest name)))) (joined size body)
+      ∙ joined (senderTests ++ nameTest name) (size ++ body)
+
+-- what verify carries is too long by itself
+pub too-long : (name hash signature : List ℕ) → requestBodyMost < length name + length hash + length signature
+    → false ≡ legalBody (verifySignature name hash signature)
+too-long name hash signature h =
+    let long : requestBodyMost < length (operationBody protobuf (verifySignature name hash signature)) = omega (arith, verify-body-least name hash signature) in
+    sym (lt-leb _ _ long)
+
 -- ---- what holds where every test is passed
 
 pub record Passed (out : List ℕ) (sender : Sender) (operation : Operation) : Type 0 where
@@ -80,6 +100,8 @@ pub record Passed (out : List ℕ) (sender : Sender) (operation : Operation) : T
   pub name : legalKeyName operation ≡ true
   pub bytes : legalKeyData operation ≡ true
   pub bits : legalKeyBits operation ≡ true
+  pub hash : legalHash operation ≡ true
+  pub body : legalBody operation ≡ true
 
 pub passed : (out : List ℕ) (sender : Sender) (operation : Operation) → judgedAs (firstOf (writeTests out sender operation)) ≡ Legal → Passed out sender operation
 unfolding writeTests
@@ -87,4 +109,12 @@ passed out sender operation e =
     let none′ = told-legal (firstOf (writeTests out sender operation)) e in
     let at : (k : ℕ) → getD (writeTests out sender operation) k (false, BufferTooSmall) .0 ≡ false
     = λ k. none-at (writeTests out sender operation) k BufferTooSmall none′ in
-    record { room = ltb-false _ _ (at 0); legal = not-false _ (at 1); name = not-false _ (at 2); bytes = not-false _ (at 3); bits = not-false _ (at 4) }
+    record {
+      room = ltb-false _ _ (at 0);
+      legal = not-false _ (at 1);
+      name = not-false _ (at 2);
+      bytes = not-false _ (at 3);
+      bits = not-false _ (at 4);
+      hash = not-false _ (at 5);
+      body = not-false _ (at 6);
+    }

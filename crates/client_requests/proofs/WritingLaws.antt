@@ -5,6 +5,7 @@ use mathlib.Core.Path.{_≡_, refl, sym, ap, _∙_}
 use mathlib.Core.Bool.{Bool, true, false}
 use mathlib.Core.Option.{none, some}
 use mathlib.Core.List.{List, _++_, append-assoc}
+use borrow.Author.Tests.{leb-true}
 use borrow.Rule.Slice.PartMut.{putMid}
 use lib.ListN.{length, take, drop, length-append, take-append-drop}
 use lib.Seq.{drop-drop, take-length, length-take-le, take-at, drop-at, drop-append-add}
@@ -21,10 +22,9 @@ use Rattle.keys.proofs.NameLaws.{legal-short}
 use Rattle.keys.proofs.KeyLaws.{legal-data, legal-bits}
 use Rattle.messages.specs.Format.{messageBytes}
 use Rattle.messages.specs.Protobuf.{protobuf}
-use Rattle.messages.specs.Operations.{Operation, ping, listProviders, listOpcodes, importKey, destroyKey, exportPublicKey, opcodeOf, providerOf, operationBody}
-use Rattle.messages.specs.code.Bodies.{bodyMost}
+use Rattle.messages.specs.Operations.{Operation, ping, listProviders, listOpcodes, importKey, destroyKey, exportPublicKey, verifySignature, opcodeOf, providerOf, operationBody}
 use Rattle.messages.proofs.WriteLaws.{provider-body-short, name-body-short, key-body-short}
-use Rattle.client_requests.specs.Writing.{Sender, senderOf, authTypeOf, authOf, legalSender, legalKeyName, legalKeyData, legalKeyBits, requestFor, writeTests, writeOutcome}
+use Rattle.client_requests.specs.Writing.{Sender, senderOf, authTypeOf, authOf, legalSender, legalKeyName, legalKeyData, legalKeyBits, legalBody, requestBodyMost, requestFor, writeTests, writeOutcome}
 use Rattle.client_requests.specs.code.Judged.{judgedAs}
 use Rattle.client_requests.specs.code.Around.{requestAround}
 use Rattle.client_requests.specs.declared.WriteRefusal.{WriteRefusal}
@@ -50,21 +50,23 @@ auth-short (some name) e = legal-short applicationNameMost name e
 
 -- ---- how long a legal body is at most
 
-body-short : (operation : Operation) → legalKeyName operation ≡ true → legalKeyData operation ≡ true → legalKeyBits operation ≡ true
-    → length (operationBody protobuf operation) ≤ bodyMost
+pub body-short :
+    (operation : Operation) → legalKeyName operation ≡ true → legalKeyData operation ≡ true → legalKeyBits operation ≡ true → legalBody operation ≡ true
+    → length (operationBody protobuf operation) ≤ requestBodyMost
 unfolding operationBody messageBytes importBits
-body-short ping n d b = omega arith
-body-short listProviders n d b = omega arith
-body-short (listOpcodes provider) n d b = provider-body-short provider
-body-short (importKey key) n d b = key-body-short key (legal-short keyNameMost (key .name) n) (legal-data (key .bytes) d) (legal-bits (key .bits) b)
-body-short (destroyKey name) n d b = name-body-short name (legal-short keyNameMost name n)
-body-short (exportPublicKey name) n d b = name-body-short name (legal-short keyNameMost name n)
+body-short ping n d b w = omega arith
+body-short listProviders n d b w = omega arith
+body-short (listOpcodes provider) n d b w = omega (arith, provider-body-short provider)
+body-short (importKey key) n d b w = omega (arith, key-body-short key (legal-short keyNameMost (key .name) n) (legal-data (key .bytes) d) (legal-bits (key .bits) b))
+body-short (destroyKey name) n d b w = omega (arith, name-body-short name (legal-short keyNameMost name n))
+body-short (exportPublicKey name) n d b w = omega (arith, name-body-short name (legal-short keyNameMost name n))
+body-short (verifySignature name hash signature) n d b w = leb-true _ _ w
 
 module _ {out : List ℕ} {sender : Sender} {operation : Operation} (p : Passed out sender operation) where
-  passed-short : length (operationBody protobuf operation) ≤ bodyMost
-  passed-short = body-short operation (p .name) (p .bytes) (p .bits)
+  pub passed-short : length (operationBody protobuf operation) ≤ requestBodyMost
+  passed-short = body-short operation (p .name) (p .bytes) (p .bits) (p .body)
 
-  pub written-short : {d e : List ℕ} {r : ℕ} → Wrote (operationBody protobuf operation) d e r → r ≤ bodyMost
+  pub written-short : {d e : List ℕ} {r : ℕ} → Wrote (operationBody protobuf operation) d e r → r ≤ requestBodyMost
   written-short w = omega (arith, w .count, passed-short)
 
 -- ---- around a body that is there
@@ -150,10 +152,10 @@ module _ (out : List ℕ) (session : ℕ) (sender : Sender) (operation : Operati
         bytes = w′ .bytes ∙ ap (over bytes) there ∙ over-more bytes (front ++ written) out covers;
       })
 
--- ---- A REQUEST THAT IS WRITTEN IS SHORT: 28 bytes, at most 644 of body, at most 64 of auth
+-- ---- A REQUEST THAT IS WRITTEN IS SHORT: 28 bytes, at most 4,096 of body, at most 64 of auth
 
 abbrev pub requestMost : ℕ
-requestMost = requestLeast + (bodyMost + applicationNameMost)
+requestMost = requestLeast + (requestBodyMost + applicationNameMost)
 
 pub request-short : (out : List ℕ) (session : ℕ) (sender : Sender) (operation : Operation) → firstOf (writeTests out sender operation) ≡ none
     → length (requestBytes (requestFor session sender operation)) ≤ requestMost

@@ -1,19 +1,19 @@
--- A request written for an operation (document 02, "The client's half").
+-- A request written for an operation (document 02, "The client's half", "Checking signatures").
 use Prim.Native.Nat.{ℕ}
 use mathlib.Core.Bool.{Bool, true, not}
 use mathlib.Core.Option.{Option, none, some}
 use mathlib.Core.List.{List, [], _∷_}
 use lib.ListN.{length}
-use lib.Dec.{ltb}
+use lib.Dec.{ltb, leb, eqb}
 use Rattle.wire.specs.Choice.{if_then_else_, firstOf}
 use Rattle.wire.specs.Lists.{over}
 use Rattle.wire.specs.Request.{Request, requestBytes}
 use Rattle.keys.specs.Names.{applicationNameMost, keyNameMost, legalName}
 use Rattle.keys.specs.Key.{legalData, importBits}
 use Rattle.messages.specs.Protobuf.{protobuf}
-use Rattle.messages.specs.Operations.{Operation, ping, listProviders, listOpcodes, importKey, destroyKey, exportPublicKey, opcodeOf, providerOf, operationBody}
+use Rattle.messages.specs.Operations.{Operation, ping, listProviders, listOpcodes, importKey, destroyKey, exportPublicKey, verifySignature, opcodeOf, providerOf, operationBody}
 use Rattle.client_requests.specs.declared.WriteRefusal.{WriteRefusal}
-use Rattle.client_requests.specs.declared.WriteRefusal.the-variants.{BufferTooSmall, ApplicationNameIllegal, KeyNameIllegal, DataIllegal, BitsIllegal}
+use Rattle.client_requests.specs.declared.WriteRefusal.the-variants.{BufferTooSmall, ApplicationNameIllegal, KeyNameIllegal, DataIllegal, BitsIllegal, HashIllegal, BodyTooLong}
 use Rattle.client_requests.specs.declared.Written.{Written}
 use Rattle.client_requests.specs.declared.Written.the-variants.{Bytes, Refused}
 
@@ -48,10 +48,16 @@ requestFor session sender operation = record {
   auth = authOf sender;
 }
 
--- ---- what is refused, before a byte is written: a buffer below 5,120 bytes; names; data; bits
+-- ---- what is refused, before a byte is written: a buffer below 5,120 bytes; names; data; bits; hash; body
 
 abbrev pub requestBufferLeast : ℕ
 requestBufferLeast = 5120
+
+abbrev pub hashSize : ℕ
+hashSize = 32
+
+abbrev pub requestBodyMost : ℕ
+requestBodyMost = 4096
 
 abbrev pub legalSender : Sender → Bool
 legalSender none = true
@@ -65,6 +71,7 @@ legalKeyName (listOpcodes provider) = true
 legalKeyName (importKey key) = legalName keyNameMost (key .name)
 legalKeyName (destroyKey name) = legalName keyNameMost name
 legalKeyName (exportPublicKey name) = legalName keyNameMost name
+legalKeyName (verifySignature name hash signature) = legalName keyNameMost name
 
 -- of Import
 abbrev pub legalKeyData : Operation → Bool
@@ -74,6 +81,7 @@ legalKeyData (listOpcodes provider) = true
 legalKeyData (importKey key) = legalData (key .bytes)
 legalKeyData (destroyKey name) = true
 legalKeyData (exportPublicKey name) = true
+legalKeyData (verifySignature name hash signature) = true
 
 abbrev pub legalKeyBits : Operation → Bool
 legalKeyBits ping = true
@@ -82,6 +90,27 @@ legalKeyBits (listOpcodes provider) = true
 legalKeyBits (importKey key) = importBits (key .bits)
 legalKeyBits (destroyKey name) = true
 legalKeyBits (exportPublicKey name) = true
+legalKeyBits (verifySignature name hash signature) = true
+
+-- of verify
+abbrev pub legalHash : Operation → Bool
+legalHash ping = true
+legalHash listProviders = true
+legalHash (listOpcodes provider) = true
+legalHash (importKey key) = true
+legalHash (destroyKey name) = true
+legalHash (exportPublicKey name) = true
+legalHash (verifySignature name hash signature) = eqb (length hash) hashSize
+
+-- as it would be written; the bodies of the others are short
+abbrev pub legalBody : Operation → Bool
+legalBody ping = true
+legalBody listProviders = true
+legalBody (listOpcodes provider) = true
+legalBody (importKey key) = true
+legalBody (destroyKey name) = true
+legalBody (exportPublicKey name) = true
+legalBody (verifySignature name hash signature) = leb (length (operationBody protobuf (verifySignature name hash signature))) requestBodyMost
 
 unfoldable pub writeTests : (out : List ℕ) → Sender → Operation → List (Bool × WriteRefusal)
 writeTests out sender operation =
@@ -90,6 +119,8 @@ writeTests out sender operation =
     ∷ (not (legalKeyName operation), KeyNameIllegal)
     ∷ (not (legalKeyData operation), DataIllegal)
     ∷ (not (legalKeyBits operation), BitsIllegal)
+    ∷ (not (legalHash operation), HashIllegal)
+    ∷ (not (legalBody operation), BodyTooLong)
     ∷ []
 
 -- ---- WRITING'S WHOLE OUTCOME

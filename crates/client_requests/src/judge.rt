@@ -1,21 +1,28 @@
-// What is refused before a byte of a request is written: the first test that holds (document 02, "The client's half").
+// What is refused before a byte of a request is written: the first test that holds (document 02, "The client's half", "Checking
+// signatures").
 use crate::WriteRefusal;
 use keys::APPLICATION_NAME_MOST;
 use keys::DATA_MOST;
 use keys::KEY_NAME_MOST;
 use keys::bits::are_legal_bits;
 use keys::names::is_legal;
+use messages::write::verify_body_size;
 ghost use mathlib.Core.Bool.{Bool};
 ghost use mathlib.Core.List.{[], _∷_};
 ghost use mathlib.Core.Path.{_≡_};
 ghost use Rattle.wire.specs.Choice.{firstOf};
 ghost use Rattle.keys.specs.Key.{legalData};
-ghost use Rattle.messages.specs.Operations.{ping, importKey, destroyKey};
-ghost use Rattle.client_requests.specs.Writing.{senderOf, legalSender, writeTests};
+ghost use Rattle.messages.specs.Operations.{ping, importKey, destroyKey, verifySignature};
+ghost use Rattle.client_requests.specs.Writing.{senderOf, legalSender, legalBody, writeTests};
 ghost use Rattle.client_requests.specs.code.Judged.{judgedAs, firstRefusal};
 
 // The shortest buffer for a request.
 pub const REQUEST_BUFFER_LEAST: usize = 5120;
+
+// The size of a hash, and of the longest body of a request.
+const HASH_SIZE: usize = 32;
+
+const BODY_MOST: usize = 4096;
 
 pub enum Judged {
     Legal,
@@ -42,6 +49,22 @@ fn is_legal_data(bytes: &[u8]) -> bool
         return false;
     }
     true
+}
+
+// Whether verify's body is short enough. A field that is too long by itself is told before sizes are added up.
+fn is_legal_body(name: &[u8], hash: &[u8], signature: &[u8]) -> bool
+    ensures { λ r. ⌜ r ≡ legalBody (verifySignature (now (name .entry)) (now (hash .entry)) (now (signature .entry))) ⌝ }
+{
+    if BODY_MOST < name.len() {
+        return false;
+    }
+    if BODY_MOST < hash.len() {
+        return false;
+    }
+    if BODY_MOST < signature.len() {
+        return false;
+    }
+    verify_body_size(name, hash, signature) <= BODY_MOST
 }
 
 // One test: whether it refuses.
@@ -103,4 +126,24 @@ pub fn judge_key(
     let data = judge(!is_legal_data(bytes), WriteRefusal::DataIllegal);
     let size = judge(!are_legal_bits(bits as usize), WriteRefusal::BitsIllegal);
     first_refusal(names, first_refusal(data, size))
+}
+
+// Of verify.
+pub fn judge_verify(
+    out: &[u8],
+    named: bool,
+    application: &[u8],
+    name: &[u8],
+    hash: &[u8],
+    signature: &[u8],
+) -> Judged
+    ensures { λ r. ⌜ r ≡ judgedAs (firstOf (writeTests (now (out .entry)) (senderOf named (now (application .entry))) (verifySignature (now (name .entry)) (now (hash .entry)) (now (signature .entry))))) ⌝ }
+{
+    let names = judge_name(out, named, application, name);
+    let size = judge(hash.len() != HASH_SIZE, WriteRefusal::HashIllegal);
+    let body = judge(
+        !is_legal_body(name, hash, signature),
+        WriteRefusal::BodyTooLong,
+    );
+    first_refusal(names, first_refusal(size, body))
 }

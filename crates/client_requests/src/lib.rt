@@ -9,6 +9,8 @@ pub enum WriteRefusal {
     KeyNameIllegal,
     DataIllegal,
     BitsIllegal,
+    HashIllegal,
+    BodyTooLong,
 }
 
 // What writing a request comes to: how many bytes it has, or why it was refused.

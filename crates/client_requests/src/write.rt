@@ -1,19 +1,23 @@
-// Requests written over the front of a lent buffer, one function an operation (document 02, "The client's half"). The body
-// is written straight to its place, then the header before it and the auth bytes behind it. Bytes past the request stay.
+// Requests written over the front of a lent buffer, one function an operation (document 02, "The client's half", "Checking
+// signatures"). The body is written straight to its place, then the header before it and the auth bytes behind it. Bytes past
+// the request stay.
 use crate::Written;
 use crate::judge::Judged;
 use crate::judge::judge_key;
 use crate::judge::judge_name;
 use crate::judge::judge_sender;
+use crate::judge::judge_verify;
 use messages::opcodes::LIST_OPCODES;
 use messages::opcodes::LIST_PROVIDERS;
 use messages::opcodes::PING;
+use messages::opcodes::PSA_ASYMMETRIC_VERIFY;
 use messages::opcodes::PSA_DESTROY_KEY;
 use messages::opcodes::PSA_EXPORT_PUBLIC_KEY;
 use messages::opcodes::PSA_IMPORT_KEY;
 use messages::write::write_key_body;
 use messages::write::write_name_body;
 use messages::write::write_provider_body;
+use messages::write::write_verify_body;
 use wire::bytes::copy_into;
 use wire::request::request_header;
 ghost use mathlib.Core.Bool.{true};
@@ -23,9 +27,8 @@ ghost use lib.ListN.{length, take, drop};
 ghost use Rattle.wire.specs.Choice.{if_then_else_};
 ghost use Rattle.wire.specs.Request.{requestLeast, requestBytes};
 ghost use Rattle.wire.specs.code.Wrote.{Wrote};
-ghost use Rattle.messages.specs.Operations.{ping, listProviders, listOpcodes, importKey, destroyKey, exportPublicKey};
-ghost use Rattle.messages.specs.code.Bodies.{bodyMost};
-ghost use Rattle.client_requests.specs.Writing.{senderOf, authOf, legalSender, requestBufferLeast, writeOutcome};
+ghost use Rattle.messages.specs.Operations.{ping, listProviders, listOpcodes, importKey, destroyKey, exportPublicKey, verifySignature};
+ghost use Rattle.client_requests.specs.Writing.{senderOf, authOf, legalSender, requestBufferLeast, requestBodyMost, writeOutcome};
 ghost use Rattle.client_requests.specs.code.Around.{requestAround};
 
 // Of every request that is written.
@@ -59,7 +62,7 @@ fn write_around(
     opcode: u16,
     size: usize,
 ) -> usize
-    requires { ⌜ (requestBufferLeast ≤ length (now out)) × (legalSender (senderOf named (now application)) ≡ true) × (size ≤ bodyMost) ⌝ }
+    requires { ⌜ (requestBufferLeast ≤ length (now out)) × (legalSender (senderOf named (now application)) ≡ true) × (size ≤ requestBodyMost) ⌝ }
     ensures { λ r. ⌜ Wrote (requestBytes (requestAround session (senderOf named (now (application .entry))) provider opcode (take size (drop requestLeast (now (out .entry)))))) (now (out .entry)) (now (out .exit)) r ⌝ }
 {
     let auth = auth_length(named, application);
@@ -212,6 +215,35 @@ pub fn write_export(
                 application,
                 KEYSTORE,
                 PSA_EXPORT_PUBLIC_KEY,
+                size,
+            );
+            Written::Bytes(length)
+        }
+    }
+}
+
+pub fn write_verify(
+    out: &mut [u8],
+    session: u64,
+    named: bool,
+    application: &[u8],
+    name: &[u8],
+    hash: &[u8],
+    signature: &[u8],
+) -> Written
+    ensures { λ r. ⌜ record { answer = r; out = now (out .exit) } ≡ writeOutcome (now (out .entry)) session (senderOf named (now (application .entry))) (verifySignature (now (name .entry)) (now (hash .entry)) (now (signature .entry))) ⌝ }
+{
+    match judge_verify(out, named, application, name, hash, signature) {
+        Judged::Refused(refusal) => Written::Refused(refusal),
+        Judged::Legal => {
+            let size = write_verify_body(&mut out[HEADER_LENGTH..], name, hash, signature);
+            let length = write_around(
+                out,
+                session,
+                named,
+                application,
+                KEYSTORE,
+                PSA_ASYMMETRIC_VERIFY,
                 size,
             );
             Written::Bytes(length)
