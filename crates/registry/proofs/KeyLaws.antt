@@ -15,10 +15,10 @@ use Rattle.wire.proofs.TestLaws.{every-at}
 use Rattle.wire.proofs.ListLaws.{length-part, part-of-part, zero-at}
 use Rattle.wire.proofs.NumberLaws.{zero-field, field-part}
 use Rattle.keys.specs.Key.{dataMost}
-use Rattle.registry.specs.Slots.{free, held, dataLengthAt, dataAt, exportAt, slotSize, dataIn, keyIn, slotOf, keyTests, wellFormedSlot}
+use Rattle.registry.specs.Slots.{free, held, dataLengthAt, dataAt, bitsAt, exportAt, verifyAt, slotSize, dataIn, keyIn, slotOf, keyTests, wellFormedSlot}
 use Rattle.registry.specs.Registry.{lineCount, slotCount, slotsOf, place}
 use Rattle.registry.specs.WellFormed.{wellFormedRegistry}
-use Rattle.registry.specs.code.Check.{bytesIn, exportIn}
+use Rattle.registry.specs.code.Check.{bytesIn, bitsIn, exportIn, verifyIn}
 use Rattle.registry.specs.declared.Line.{Line}
 use Rattle.keys.proofs.KeyLaws.{legal-data}
 use Rattle.registry.proofs.SlotLaws.{free-slot, key-slot}
@@ -43,6 +43,22 @@ module _ (slot : List ℕ) (good : wellFormedSlot slot ≡ true) where
     where
       go : (t : Bool) → eqb (getD slot 0 0) 0 ≡ t → exportIn (if t then free else held (keyIn slot)) ≡ eqb (getD slot exportAt 0) 1
       go true e = sym (ap (λ (n : ℕ). eqb n 1) (zero-at slot exportAt (all-zero e)))
+      go false e = refl
+
+  bits-in : bitsIn (slotOf slot) ≡ field bitsAt 2 slot
+  unfolding slotOf bitsIn
+  bits-in = go (eqb (getD slot 0 0) 0) refl
+    where
+      go : (t : Bool) → eqb (getD slot 0 0) 0 ≡ t → bitsIn (if t then free else held (keyIn slot)) ≡ field bitsAt 2 slot
+      go true e = sym (zero-field bitsAt 2 slot (all-zero e))
+      go false e = refl
+
+  verify-in : verifyIn (slotOf slot) ≡ eqb (getD slot verifyAt 0) 1
+  unfolding slotOf verifyIn
+  verify-in = go (eqb (getD slot 0 0) 0) refl
+    where
+      go : (t : Bool) → eqb (getD slot 0 0) 0 ≡ t → verifyIn (if t then free else held (keyIn slot)) ≡ eqb (getD slot verifyAt 0) 1
+      go true e = sym (ap (λ (n : ℕ). eqb n 1) (zero-at slot verifyAt (all-zero e)))
       go false e = refl
 
   data-small : length slot ≡ slotSize → field dataLengthAt 2 slot ≤ dataMost
@@ -83,3 +99,11 @@ module _ (r : List ℕ) (w : wellFormedRegistry r ≡ true) (line : Line) (hl : 
   export-there =
       ap exportIn (slot-there r line k hk) ∙ export-in slot good
       ∙ ap (λ (n : ℕ). eqb n 1) (getD-take slotSize (drop at r) exportAt 0 (omega arith) ∙ getD-drop at r exportAt 0)
+
+  pub bits-there : bitsIn (getD (slotsOf r line) k free) ≡ field (at + bitsAt) 2 r
+  bits-there = ap bitsIn (slot-there r line k hk) ∙ bits-in slot good ∙ field-part at slotSize bitsAt 2 r (omega arith)
+
+  pub verify-there : verifyIn (getD (slotsOf r line) k free) ≡ eqb (getD r (at + verifyAt) 0) 1
+  verify-there =
+      ap verifyIn (slot-there r line k hk) ∙ verify-in slot good
+      ∙ ap (λ (n : ℕ). eqb n 1) (getD-take slotSize (drop at r) verifyAt 0 (omega arith) ∙ getD-drop at r verifyAt 0)

@@ -1,9 +1,11 @@
 // What a slot holds, read where it lies ("Roster, registry, connection, tally").
+use crate::BITS_AT;
 use crate::DATA_AT;
 use crate::DATA_LENGTH_AT;
 use crate::EXPORT_AT;
 use crate::Line;
 use crate::Slot;
+use crate::VERIFY_AT;
 use crate::find::slot_at;
 use crate::slots::size_at;
 ghost use mathlib.Core.Path.{_≡_};
@@ -13,7 +15,7 @@ ghost use lib.ListN.{getD};
 ghost use Rattle.registry.specs.Slots.{free};
 ghost use Rattle.registry.specs.Registry.{lineCount, slotCount, slotsOf};
 ghost use Rattle.registry.specs.WellFormed.{wellFormedRegistry};
-ghost use Rattle.registry.specs.code.Check.{bytesIn, exportIn};
+ghost use Rattle.registry.specs.code.Check.{bytesIn, bitsIn, exportIn, verifyIn};
 
 // The data of the key in a slot, as a part of the registry; a free slot has none.
 pub fn key_data<'a>(registry: &'a [u8], line: Line, slot: Slot) -> &'a [u8]
@@ -34,4 +36,22 @@ pub fn is_exportable(registry: &[u8], line: Line, slot: Slot) -> bool
 {
     let a = slot_at(line, slot);
     registry[a + EXPORT_AT] == 1
+}
+
+// The bits of the key in a slot; of a free slot 0.
+pub fn key_bits(registry: &[u8], line: Line, slot: Slot) -> usize
+    requires { ⌜ (wellFormedRegistry (now registry) ≡ true) × (line .0 < lineCount) × (slot .0 < slotCount) ⌝ }
+    ensures { λ r. ⌜ r ≡ bitsIn (getD (slotsOf (now (registry .entry)) line) (slot .0) free) ⌝ }
+{
+    let a = slot_at(line, slot);
+    size_at(registry, a + BITS_AT)
+}
+
+// Whether the key in a slot may verify; of a free slot it may not.
+pub fn is_verifiable(registry: &[u8], line: Line, slot: Slot) -> bool
+    requires { ⌜ (wellFormedRegistry (now registry) ≡ true) × (line .0 < lineCount) × (slot .0 < slotCount) ⌝ }
+    ensures { λ r. ⌜ r ≡ verifyIn (getD (slotsOf (now (registry .entry)) line) (slot .0) free) ⌝ }
+{
+    let a = slot_at(line, slot);
+    registry[a + VERIFY_AT] == 1
 }

@@ -43,7 +43,7 @@ applicationFound (some line) = Named line
 abbrev pub keyFrom : (name bytes : List ℕ) (bits : ℕ) (exportAllowed verifyAllowed : Bool) → Key
 keyFrom n b k e v = record { name = n; bytes = b; bits = k; exportAllowed = e; verifyAllowed = v }
 
--- the data of a slot, and whether it may be exported
+-- the data of a slot, its bits, whether it may be exported, and whether it may verify
 unfoldable pub bytesIn : Entry → List ℕ
 bytesIn free = []
 bytesIn (held key) = key .bytes
@@ -51,3 +51,11 @@ bytesIn (held key) = key .bytes
 unfoldable pub exportIn : Entry → Bool
 exportIn free = false
 exportIn (held key) = key .exportAllowed
+
+unfoldable pub bitsIn : Entry → ℕ
+bitsIn free = 0
+bitsIn (held key) = key .bits
+
+unfoldable pub verifyIn : Entry → Bool
+verifyIn free = false
+verifyIn (held key) = key .verifyAllowed
