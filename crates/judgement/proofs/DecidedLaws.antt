@@ -1,11 +1,11 @@
 -- Laws of decisions: for each way an operation can end, what the rules make of it, from the facts that the code has there.
-use mathlib.Core.Path.{_≡_, sym, _∙_, subst}
+use mathlib.Core.Path.{_≡_, refl, sym, _∙_, subst}
 use mathlib.Core.Bool.{true, false, false≢true, and-true}
 use mathlib.Core.Option.{none, some}
 use mathlib.Core.List.{List, []}
 use Prim.Native.Nat.{ℕ, _≤_, _<_}
 use native.Mathlib.Omega.{arith}
-use borrow.Author.Tests.{lt-ltb, le-ltb, lt-leb, le-leb}
+use borrow.Author.Tests.{eq-eqb, ne-eqb, lt-ltb, le-ltb, lt-leb, le-leb}
 use lib.ListN.{length, getD}
 use Rattle.wire.proofs.ListLaws.{length-part}
 use Rattle.protobuf.specs.code.Body.{bodyOf}
@@ -19,19 +19,20 @@ use Rattle.keys.specs.Names.{legalName, keyNameMost}
 use Rattle.keys.specs.Key.{Key, dataMost, legalData, legalBits, importBits}
 use Rattle.registry.specs.Slots.{Entry, free, held, nameOf}
 use Rattle.registry.specs.Registry.{slotCount, slotNamed, unchanged, fill, clear}
-use Rattle.registry.specs.code.Check.{bytesIn, exportIn}
+use Rattle.registry.specs.code.Check.{bytesIn, bitsIn, exportIn, verifyIn}
 use Rattle.registry.specs.declared.Slot.{Slot}
 use Rattle.registry.specs.declared.Found.the-variants.{At, Nothing as Missing}
 use Rattle.keys.proofs.NameLaws.{legal-some, legal-short}
 use Rattle.keys.proofs.KeyLaws.{legal-data, legal-bits}
 use Rattle.registry.proofs.SlotLaws.{Legal}
 use Rattle.registry.proofs.RegistryLaws.{found-name}
+use Rattle.rsa.specs.Signature.{verification}
 use Rattle.messages.specs.Protobuf.{protobuf}
 use Rattle.messages.specs.Operations.{Operation, operationOf, nothing}
 use Rattle.messages.specs.Operations as message
-use Rattle.judgement.specs.Operations.{Result, success, refuse, importable, performImport, performDestroy, exportOf, performExport, performListOpcodes, perform, operated}
+use Rattle.judgement.specs.Operations.{Result, success, refuse, importable, performImport, performDestroy, exportOf, performExport, hashSize, checked, verifyWith, performVerify, performListOpcodes, perform, operated}
 use Rattle.judgement.specs.code.Placed.{readBody, keyOf, placedOperation}
-use Rattle.judgement.specs.code.Decided.{outputIn, changeOf, resultIn, refusedWith, ValuesIn, KeyParts, SafeOutput, Decided}
+use Rattle.judgement.specs.code.Decided.{outputIn, changeOf, resultIn, refusedWith, verifier, ValuesIn, KeyParts, SafeOutput, Decided}
 use Rattle.judgement.specs.declared.Status.{Status}
 use Rattle.judgement.specs.declared.Status.the-variants.{Success, ProviderDoesNotExist, DeserializingBodyFailed, PsaErrorNotPermitted, PsaErrorInvalidArgument, PsaErrorAlreadyExists, PsaErrorDoesNotExist, PsaErrorInsufficientStorage}
 use Rattle.judgement.specs.declared.Output.{Output}
@@ -72,7 +73,7 @@ module _ (slots : List Entry) (body : List ℕ) {x : Result} (v : Values) (slot 
 pub values-in : (k : Schema) (body : List ℕ) (v : Values) → bodyOf k body ≡ Message v → ValuesIn (length body) v
 values-in k body v e =
     let inside : AllIn (length body) v = subst (BodyIn (length body)) e (body-in k body) in
-    record { name = inside .in1; bytes = inside .in2 }
+    record { name = inside .in1; bytes = inside .in2; signature = inside .in3 }
 
 module _ (slots : List Entry) (body : List ℕ) (opcode : ℕ) (fields : Schema) (f : Values → Operation)
     (reads : placedOperation opcode body ≡ readBody fields body f) where
@@ -202,3 +203,46 @@ module _ (slots : List Entry) (name : List ℕ) where
       -- the slot holds a key, since its name is not empty
       pub not-exported : exportIn entry ≡ false → performExport name slots ≡ refuse PsaErrorNotPermitted
       not-exported a = exports ∙ may-not-export entry (rw (found-name name slots slot e) (legal-some keyNameMost name t)) a
+
+-- ---- Verify
+
+module _ (hash signature : List ℕ) where
+  module _ (key : Key) where
+    pub not-verifying : key .verifyAllowed ≡ false → verifyWith hash signature (held key) ≡ refuse PsaErrorNotPermitted
+    unfolding verifyWith
+    not-verifying a = rw a
+
+    module _ (a : key .verifyAllowed ≡ true) where
+      pub bad-hash : (length hash ≡ hashSize → ⊥) → verifyWith hash signature (held key) ≡ refuse PsaErrorInvalidArgument
+      unfolding verifyWith
+      bad-hash h = rw (a, ne-eqb (length hash) hashSize h)
+
+      pub verifying : length hash ≡ hashSize → verifyWith hash signature (held key) ≡ checked (verification (key .bytes) (key .bits) hash signature .outcome)
+      unfolding verifyWith
+      verifying h = rw (a, eq-eqb (length hash) hashSize h)
+
+  by-verifier : (entry : Entry) → 1 ≤ length (nameOf entry)
+      → verifyWith hash signature entry ≡ verifyWith hash signature (verifier (verifyIn entry) (bytesIn entry) (bitsIn entry))
+  unfolding verifyWith verifyIn bytesIn bitsIn
+  by-verifier free h = absurd (let z : ⊥ = omega arith in z)
+  by-verifier (held key) h = refl
+
+  module _ (slots : List Entry) (name : List ℕ) where
+    pub bad-verified : legalName keyNameMost name ≡ false → performVerify name hash signature slots ≡ refuse PsaErrorInvalidArgument
+    unfolding performVerify
+    bad-verified t = rw t
+
+    module _ (t : legalName keyNameMost name ≡ true) where
+      pub none-verified : slotNamed name slots ≡ Missing → performVerify name hash signature slots ≡ refuse PsaErrorDoesNotExist
+      unfolding performVerify
+      none-verified e = rw (t, e)
+
+      -- the slot holds a key, since its name is not empty
+      pub verified-by : (slot : Slot) → slotNamed name slots ≡ At slot
+          → (let entry = getD slots (slot .0) free in
+          performVerify name hash signature slots ≡ verifyWith hash signature (verifier (verifyIn entry) (bytesIn entry) (bitsIn entry)))
+      unfolding performVerify
+      verified-by slot e =
+          let entry : Entry = getD slots (slot .0) free in
+          let there : performVerify name hash signature slots ≡ verifyWith hash signature entry = rw (t, e) in
+          there ∙ by-verifier entry (rw (found-name name slots slot e) (legal-some keyNameMost name t))

@@ -49,7 +49,7 @@ listed-first x xs n e = go (eqb n x) refl e
     go true q w = inl (eqb-true n x q)
     go false q w = inr w
 
--- the opcodes of each provider are three
+-- the opcodes of provider 0 are three, those of provider 1 four
 pub one-of-three : (x y z n : ℕ) → oneOf (x ∷ y ∷ z ∷ []) n ≡ true → (n ≡ x) ⊎ ((n ≡ y) ⊎ (n ≡ z))
 unfolding oneOf
 one-of-three x y z n e = ⊎-elim inl (λ w. inr (second w)) (listed-first x (y ∷ z ∷ []) n e)
@@ -59,6 +59,9 @@ one-of-three x y z n e = ⊎-elim inl (λ w. inr (second w)) (listed-first x (y 
 
     second : oneOf (y ∷ z ∷ []) n ≡ true → (n ≡ y) ⊎ (n ≡ z)
     second w = ⊎-elim inl (λ q. inr (third q)) (listed-first y (z ∷ []) n w)
+
+pub one-of-four : (w x y z n : ℕ) → oneOf (w ∷ x ∷ y ∷ z ∷ []) n ≡ true → (n ≡ w) ⊎ ((n ≡ x) ⊎ ((n ≡ y) ⊎ (n ≡ z)))
+one-of-four w x y z n e = ⊎-elim inl (λ r. inr (one-of-three x y z n r)) (listed-first w (x ∷ y ∷ z ∷ []) n e)
 
 -- ---- the first test that applies, one test after another
 

@@ -1,5 +1,6 @@
 -- What a response's body is, as fields, and how long.
-use Prim.Native.Nat.{ℕ}
+use Prim.Native.Nat.{ℕ, _≤_}
+use native.Mathlib.Omega.{arith}
 use mathlib.Core.Path.{_≡_, refl, ap, _∙_}
 use mathlib.Core.Bool.{Bool, true, false}
 use mathlib.Core.List.{List, [], _∷_, flatMap}
@@ -41,13 +42,20 @@ module _ (slots : List Entry) where
   unfolding bytesField varint varintWithin
   providers-length = ap length providers-field
 
-  pub opcodes-length : (provider : ℕ) → length (outputBytes slots (Opcodes provider)) ≡ 5
+  pub core-length : (provider : ℕ) → provider ≡ 0 → length (outputBytes slots (Opcodes provider)) ≡ 5
   unfolding bytesField varint varintWithin
-  opcodes-length provider = go (eqb provider 0) refl
+  core-length provider e = ap length (core-field provider e)
+
+  pub keystore-length : (provider : ℕ) → (provider ≡ 0 → ⊥) → length (outputBytes slots (Opcodes provider)) ≡ 6
+  unfolding bytesField varint varintWithin
+  keystore-length provider e = ap length (keystore-field provider e)
+
+  pub opcodes-short : (provider : ℕ) → length (outputBytes slots (Opcodes provider)) ≤ 6
+  opcodes-short provider = go (eqb provider 0) refl
     where
-      go : (t : Bool) → eqb provider 0 ≡ t → length (outputBytes slots (Opcodes provider)) ≡ 5
-      go true e = ap length (core-field provider (eqb-true _ _ e))
-      go false e = ap length (keystore-field provider (eqb-false _ _ e))
+      go : (t : Bool) → eqb provider 0 ≡ t → length (outputBytes slots (Opcodes provider)) ≤ 6
+      go true e = omega (arith, core-length provider (eqb-true _ _ e))
+      go false e = omega (arith, keystore-length provider (eqb-false _ _ e))
 
   pub nothing-field : outputBytes slots Nothing ≡ []
   unfolding outputIn

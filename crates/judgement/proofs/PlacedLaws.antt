@@ -15,7 +15,7 @@ use Rattle.judgement.specs.code.Placed as placed-specs
 use Rattle.messages.specs.Message.{uint32, bool, bytes, Schema, Message, numberOf, octetsOf, valueAt}
 use Rattle.messages.specs.Protobuf.{protobuf}
 use Rattle.messages.specs.Operations as message
-use Rattle.messages.specs.Operations.{Operation, ping, listProviders, listOpcodes, importKey, destroyKey, exportPublicKey}
+use Rattle.messages.specs.Operations.{Operation, ping, listProviders, listOpcodes, importKey, destroyKey, exportPublicKey, verifySignature}
 use Rattle.messages.proofs.PlacesLaws.{schemaPlaced, NoLists, valuesOf, five, seen, placed}
 
 body-agrees :
@@ -44,4 +44,5 @@ operation-placed opcode body =
     (choice (eqb opcode 9) _ _ _ _ (body-agrees (uint32 ∷ []) body (λ m. listOpcodes (numberOf (valueAt m 1))) (omega arith) tt)
     (choice (eqb opcode 6) _ _ _ _ (body-agrees (bytes ∷ bytes ∷ uint32 ∷ bool ∷ bool ∷ []) body (λ m. importKey (message.keyOf m)) (omega arith) tt)
     (choice (eqb opcode 3) _ _ _ _ (body-agrees (bytes ∷ []) body (λ m. destroyKey (octetsOf (valueAt m 1))) (omega arith) tt)
-    (choice (eqb opcode 7) _ _ _ _ (body-agrees (bytes ∷ []) body (λ m. exportPublicKey (octetsOf (valueAt m 1))) (omega arith) tt) refl)))))
+    (choice (eqb opcode 7) _ _ _ _ (body-agrees (bytes ∷ []) body (λ m. exportPublicKey (octetsOf (valueAt m 1))) (omega arith) tt)
+    (choice (eqb opcode 5) _ _ _ _ (body-agrees (bytes ∷ bytes ∷ bytes ∷ []) body (λ m. verifySignature (octetsOf (valueAt m 1)) (octetsOf (valueAt m 2)) (octetsOf (valueAt m 3))) (omega arith) tt) refl))))))

@@ -3,20 +3,23 @@ use Prim.Native.Nat.{ℕ}
 use mathlib.Core.Bool.{Bool, not}
 use mathlib.Core.Option.{none, some}
 use mathlib.Core.List.{List, [], _∷_}
-use lib.ListN.{getD}
-use lib.Dec.{ltb}
+use lib.ListN.{length, getD}
+use lib.Dec.{ltb, eqb}
 use Rattle.wire.specs.Choice.{if_then_else_}
 use Rattle.wire.specs.Lists.{every}
 use Rattle.keys.specs.Names.{keyNameMost, legalName}
 use Rattle.keys.specs.Key.{Key, legalData, importBits}
 use Rattle.messages.specs.Protobuf.{protobuf}
 use Rattle.messages.specs.Opcodes.{opcodesOf}
-use Rattle.messages.specs.Operations.{Operation, ping, listProviders, listOpcodes, importKey, destroyKey, exportPublicKey, operationOf, Output, nothing, version, providers, opcodes, exported}
+use Rattle.messages.specs.Operations.{Operation, ping, listProviders, listOpcodes, importKey, destroyKey, exportPublicKey, verifySignature, operationOf, Output, nothing, version, providers, opcodes, exported}
 use Rattle.registry.specs.Slots.{Entry, free, held}
 use Rattle.registry.specs.Registry.{slotNamed, Change, unchanged, fill, clear}
 use Rattle.registry.specs.declared.Found.the-variants.{At, Nothing}
+use Rattle.rsa.specs.Signature.{verification}
+use Rattle.rsa.specs.declared.verify.Outcome.{Outcome}
+use Rattle.rsa.specs.declared.verify.Outcome.the-variants.{ValidSignature, InvalidSignature, InvalidKey}
 use Rattle.judgement.specs.declared.Status.{Status}
-use Rattle.judgement.specs.declared.Status.the-variants.{Success, ProviderDoesNotExist, DeserializingBodyFailed, PsaErrorNotPermitted, PsaErrorInvalidArgument, PsaErrorAlreadyExists, PsaErrorDoesNotExist, PsaErrorInsufficientStorage}
+use Rattle.judgement.specs.declared.Status.the-variants.{Success, ProviderDoesNotExist, DeserializingBodyFailed, PsaErrorNotPermitted, PsaErrorNotSupported, PsaErrorInvalidArgument, PsaErrorAlreadyExists, PsaErrorDoesNotExist, PsaErrorInsufficientStorage, PsaErrorInvalidSignature}
 
 pub record Result : Type 0 where
   pub status : Status
@@ -73,6 +76,31 @@ performExport name slots =
       | At slot ↦ exportOf (getD slots (slot .0) free)
     ]
 
+abbrev pub hashSize : ℕ
+hashSize = 32
+
+-- a good signature is answered with no output; a key that can't be used 1134, a signature that isn't the key's 1149
+unfoldable pub checked : Outcome → Result
+checked ValidSignature = success nothing unchanged
+checked InvalidKey = refuse PsaErrorNotSupported
+checked InvalidSignature = refuse PsaErrorInvalidSignature
+
+unfoldable pub verifyWith : (hash signature : List ℕ) → Entry → Result
+verifyWith hash signature free = refuse PsaErrorDoesNotExist
+verifyWith hash signature (held key) =
+    if not (key .verifyAllowed) then refuse PsaErrorNotPermitted
+    else if not (eqb (length hash) hashSize) then refuse PsaErrorInvalidArgument
+    else checked (verification (key .bytes) (key .bits) hash signature .outcome)
+
+-- 1135, 1140, then 1133 if verify isn't allowed, 1135 for a hash not of 32 bytes, 1134, 1149
+unfoldable pub performVerify : (name hash signature : List ℕ) (slots : List Entry) → Result
+performVerify name hash signature slots =
+    if not (legalName keyNameMost name) then refuse PsaErrorInvalidArgument
+    else elim (slotNamed name slots) [
+      | Nothing ↦ refuse PsaErrorDoesNotExist
+      | At slot ↦ verifyWith hash signature (getD slots (slot .0) free)
+    ]
+
 unfoldable pub perform : Operation → (slots : List Entry) → Result
 perform ping slots = success (version 1 0) unchanged  -- the wire protocol's version
 perform listProviders slots = success (providers (0 ∷ 1 ∷ [])) unchanged
@@ -80,6 +108,7 @@ perform (listOpcodes provider) slots = performListOpcodes provider
 perform (importKey key) slots = performImport key slots
 perform (destroyKey name) slots = performDestroy name slots
 perform (exportPublicKey name) slots = performExport name slots
+perform (verifySignature name hash signature) slots = performVerify name hash signature slots
 
 -- body not readable: 7; then the operation's own
 unfoldable pub operated : (opcode : ℕ) (body : List ℕ) (slots : List Entry) → Result

@@ -1,4 +1,4 @@
-// How one request is judged: the order of tests, and what the six operations come to ("Order of judgement on one request",
+// How one request is judged: the order of tests, and what the seven operations come to ("Order of judgement on one request",
 // "Operations and their fields").
 use protobuf::message::Values;
 use registry::Line;
@@ -6,6 +6,7 @@ use registry::Slot;
 
 pub mod operations;
 pub mod order;
+pub mod signature;
 pub mod statuses;
 
 // A response's status: document 01's table, ascending by number.
@@ -24,14 +25,16 @@ pub enum Status {
     NotAuthenticated,
     BodySizeExceedsLimit,
     PsaErrorNotPermitted,
+    PsaErrorNotSupported,
     PsaErrorInvalidArgument,
     PsaErrorAlreadyExists,
     PsaErrorDoesNotExist,
     PsaErrorInsufficientStorage,
+    PsaErrorInvalidSignature,
 }
 
 // All statuses but Success; each has a counter of the requests refused with it.
-pub const REFUSED_STATUSES: usize = 17;
+pub const REFUSED_STATUSES: usize = 19;
 
 // What the tests of a header find.
 pub enum Checked {

@@ -1,14 +1,16 @@
-// The six operations ("Operations and their fields"): what each comes to. Nothing is changed or written here.
+// The operations ("Operations and their fields"): what each comes to. Nothing is changed or written here.
 use crate::Decision;
 use crate::Edit;
 use crate::Output;
 use crate::Status;
+use crate::signature::perform_verify;
 use keys::DATA_MOST;
 use keys::KEY_NAME_MOST;
 use keys::bits::are_legal_bits;
 use keys::names::is_legal;
 use messages::opcodes::LIST_PROVIDERS;
 use messages::opcodes::PING;
+use messages::opcodes::PSA_ASYMMETRIC_VERIFY;
 use messages::opcodes::PSA_DESTROY_KEY;
 use messages::opcodes::PSA_IMPORT_KEY;
 use protobuf::body::Body;
@@ -94,7 +96,7 @@ pub fn name_fields() -> Schema
 }
 
 // A request that is served with this body in its response, and changes nothing.
-fn listed(output: Output) -> Decision
+pub fn listed(output: Output) -> Decision
     ensures { λ r. ⌜ r ≡ record { status = Status.Success; output = output; edit = Edit.Stays; values = message.allAbsent } ⌝ }
 {
     Decision {
@@ -250,6 +252,9 @@ pub fn perform_keystore(opcode: u16, body: &[u8], registry: &[u8], line: Line) -
             Body::Message(v) => import(registry, line, body, v),
             Body::Unreadable(_) => refused(Status::DeserializingBodyFailed),
         };
+    }
+    if opcode == PSA_ASYMMETRIC_VERIFY {
+        return perform_verify(body, registry, line);
     }
     match read_body(body, name_fields()) {
         Body::Message(v) => {

@@ -6,6 +6,7 @@ use crate::Status;
 use messages::opcodes::LIST_OPCODES;
 use messages::opcodes::LIST_PROVIDERS;
 use messages::opcodes::PING;
+use messages::opcodes::PSA_ASYMMETRIC_VERIFY;
 use messages::opcodes::PSA_DESTROY_KEY;
 use messages::opcodes::PSA_EXPORT_PUBLIC_KEY;
 use messages::opcodes::PSA_IMPORT_KEY;
@@ -27,6 +28,7 @@ fn is_listed(opcode: u16) -> bool
     match opcode {
         PING
         | PSA_DESTROY_KEY
+        | PSA_ASYMMETRIC_VERIFY
         | PSA_IMPORT_KEY
         | PSA_EXPORT_PUBLIC_KEY
         | LIST_PROVIDERS
@@ -45,7 +47,7 @@ fn is_opcode_of(provider: u8, opcode: u16) -> bool
         };
     }
     match opcode {
-        PSA_DESTROY_KEY | PSA_IMPORT_KEY | PSA_EXPORT_PUBLIC_KEY => true,
+        PSA_DESTROY_KEY | PSA_ASYMMETRIC_VERIFY | PSA_IMPORT_KEY | PSA_EXPORT_PUBLIC_KEY => true,
         _ => false,
     }
 }

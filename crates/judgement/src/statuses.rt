@@ -25,10 +25,12 @@ pub fn status_number(status: Status) -> u16
         Status::NotAuthenticated => 19,
         Status::BodySizeExceedsLimit => 20,
         Status::PsaErrorNotPermitted => 1133,
+        Status::PsaErrorNotSupported => 1134,
         Status::PsaErrorInvalidArgument => 1135,
         Status::PsaErrorAlreadyExists => 1139,
         Status::PsaErrorDoesNotExist => 1140,
         Status::PsaErrorInsufficientStorage => 1142,
+        Status::PsaErrorInvalidSignature => 1149,
     }
 }
 
@@ -51,10 +53,12 @@ pub fn refused_index(status: Status) -> usize
         Status::NotAuthenticated => 10,
         Status::BodySizeExceedsLimit => 11,
         Status::PsaErrorNotPermitted => 12,
-        Status::PsaErrorInvalidArgument => 13,
-        Status::PsaErrorAlreadyExists => 14,
-        Status::PsaErrorDoesNotExist => 15,
-        Status::PsaErrorInsufficientStorage => 16,
+        Status::PsaErrorNotSupported => 13,
+        Status::PsaErrorInvalidArgument => 14,
+        Status::PsaErrorAlreadyExists => 15,
+        Status::PsaErrorDoesNotExist => 16,
+        Status::PsaErrorInsufficientStorage => 17,
+        Status::PsaErrorInvalidSignature => 18,
     }
 }
 
@@ -73,10 +77,12 @@ const REFUSED_NUMBERS: [u64; REFUSED_STATUSES] = [
     19,
     20,
     1133,
+    1134,
     1135,
     1139,
     1140,
     1142,
+    1149,
 ];
 
 // The number of the status whose refused requests counter i counts.

@@ -2,7 +2,7 @@
 use Prim.Native.Nat.{ℕ, _+_, _≤_, _<_}
 use mathlib.Core.Path.{_≡_}
 use mathlib.Core.Logic.{_⊎_}
-use mathlib.Core.Bool.{Bool, _&&_, not}
+use mathlib.Core.Bool.{Bool, false, _&&_, not}
 use mathlib.Core.Option.{Option, none, some}
 use mathlib.Core.List.{List, [], _∷_, _++_}
 use lib.ListN.{length, getD}
@@ -17,9 +17,9 @@ use Rattle.keys.specs.Key.{dataMost, bitsMost}
 use Rattle.keys.specs.Names.{keyNameMost}
 use Rattle.messages.specs.Protobuf.{protobuf}
 use Rattle.messages.specs.Operations as message
-use Rattle.registry.specs.Slots.{Entry, free}
+use Rattle.registry.specs.Slots.{Entry, free, held}
 use Rattle.registry.specs.Registry.{lineCount, slotCount, Change, unchanged, fill, clear}
-use Rattle.registry.specs.code.Check.{bytesIn}
+use Rattle.registry.specs.code.Check.{keyFrom, bytesIn}
 use Rattle.registry.specs.declared.Line.{Line}
 use Rattle.messages.specs.Opcodes.{coreOpcodes, keystoreOpcodes, opcodesOf}
 use Rattle.judgement.specs.Operations.{Result}
@@ -97,6 +97,10 @@ resultIn slots body d = record { status = d .status; output = outputIn slots (d 
 abbrev pub refusedWith : Status → Decision
 refusedWith status = record { status = status; output = Nothing; edit = Stays; values = allAbsent }
 
+-- a key that was found, as far as Verify looks at it
+abbrev pub verifier : (allowed : Bool) (bytes : List ℕ) (bits : ℕ) → Entry
+verifier allowed bytes bits = held (keyFrom [] bytes bits false allowed)
+
 -- ---- what whoever carries a decision out may rely on
 
 -- a value's bytes lie within n bytes
@@ -106,6 +110,7 @@ Within n v = v .start + v .len ≤ n
 pub record ValuesIn (n : ℕ) (v : Values) : Type 0 where
   pub name : Within n (v .f1)
   pub bytes : Within n (v .f2)
+  pub signature : Within n (v .f3)
 
 -- the parts of a key that is filled in
 pub record KeyParts (n : ℕ) (v : Values) : Type 0 where
@@ -145,4 +150,4 @@ abbrev pub oneOfCore : (opcode : ℕ) → Type 0
 oneOfCore opcode = (opcode ≡ 1) ⊎ ((opcode ≡ 8) ⊎ (opcode ≡ 9))
 
 abbrev pub oneOfKeystore : (opcode : ℕ) → Type 0
-oneOfKeystore opcode = (opcode ≡ 3) ⊎ ((opcode ≡ 6) ⊎ (opcode ≡ 7))
+oneOfKeystore opcode = (opcode ≡ 3) ⊎ ((opcode ≡ 5) ⊎ ((opcode ≡ 6) ⊎ (opcode ≡ 7)))

@@ -13,7 +13,7 @@ use Rattle.protobuf.specs.declared.message.Value.{Value}
 use Rattle.protobuf.specs.declared.message.Values.{Values}
 use Rattle.protobuf.specs.declared.body.Body.the-variants.{Message, Unreadable}
 use Rattle.keys.specs.Key.{Key}
-use Rattle.messages.specs.Operations.{Operation, ping, listProviders, listOpcodes, importKey, destroyKey, exportPublicKey}
+use Rattle.messages.specs.Operations.{Operation, ping, listProviders, listOpcodes, importKey, destroyKey, exportPublicKey, verifySignature}
 
 -- no input
 abbrev pub noFields : Schema
@@ -30,6 +30,10 @@ importFields = record { k1 = Bytes; k2 = Bytes; k3 = Uint32; k4 = Boolean; k5 = 
 -- 1 name (bytes)
 abbrev pub nameFields : Schema
 nameFields = record { k1 = Bytes; k2 = Unlisted; k3 = Unlisted; k4 = Unlisted; k5 = Unlisted }
+
+-- 1 name, 2 hash, 3 signature (bytes)
+abbrev pub verifyFields : Schema
+verifyFields = record { k1 = Bytes; k2 = Bytes; k3 = Bytes; k4 = Unlisted; k5 = Unlisted }
 
 -- what `f` makes of the values in a readable body
 unfoldable pub readBody : Schema → (body : List ℕ) → (Values → Operation) → Option Operation
@@ -63,4 +67,5 @@ placedOperation opcode body =
     else if eqb opcode 6 then readBody importFields body (λ v. importKey (keyOf body v))
     else if eqb opcode 3 then readBody nameFields body (λ v. destroyKey (bytesOf body (v .f1)))
     else if eqb opcode 7 then readBody nameFields body (λ v. exportPublicKey (bytesOf body (v .f1)))
+    else if eqb opcode 5 then readBody verifyFields body (λ v. verifySignature (bytesOf body (v .f1)) (bytesOf body (v .f2)) (bytesOf body (v .f3)))
     else none

@@ -2,7 +2,7 @@
 use Prim.Native.Nat.{ℕ, _+_, _-_}
 use mathlib.Core.Path.{_≡_, refl, sym, ap, _∙_}
 use mathlib.Core.List.{List}
-use mathlib.Core.Logic.{⊎-elim}
+use mathlib.Core.Logic.{_⊎_, inl, inr, ⊎-elim}
 use native.Mathlib.Omega.{arith}
 use borrow.Author.Needs.{needs}
 use lib.ListN.{length, take, drop}
@@ -71,10 +71,18 @@ returns-2 c =
     let e = body-read1 r ∙ c .before .enum-told .given .1 in
     rw (c .refused .ensures, r .before .before .if1 .taken) (unreadable _ (bytes s) 6 importFields (λ v. importKey (keyOf (bytes s) v)) refl _ e)
 
+-- ---- Verify
+
+perform-verify-requires : tie.Need-perform-verify-requires
+perform-verify-requires c κs = search needs
+
+returns-3 : tie.Need-returns-3
+returns-3 c = rw (c .before .if2 .taken) (c .perform-verify .ensures)
+
 -- ---- Destroy and Export
 
 abbrev start2 : tie.After-read-body2 → tie.Start
-start2 c = c .before .before .before .before .before
+start2 c = c .before .before .before .before .before .before
 
 body-read2 : (c : tie.After-read-body2) → bodyOf nameFields (bytes (start2 c)) ≡ c .read-body2 .result
 body-read2 c = sym (c .read-body2 .ensures ∙ ap (λ (k : Schema). bodyOf k (bytes (start2 c))) (c .before .name-fields .ensures))
@@ -120,13 +128,13 @@ name-part v body =
     let n : v .f1 .start + v .f1 .len - v .f1 .start ≡ v .f1 .len = omega arith in
     ap (λ (m : ℕ). take m (drop (v .f1 .start) body)) n
 
-returns-3 : tie.Need-returns-3
+returns-4 : tie.Need-returns-4
 unfolding placedOperation perform
-returns-3 c =
+returns-4 c =
     let k = at-v (c .before .before .before) in
     let s = start2 (k .before .before) in
     let x = slotsOf (s .args .registry .now) (s .args .line) in
-    rw (c .before .before .if2 .taken, readable x (bytes s) 3 nameFields (λ v. destroyKey (bytesOf (bytes s) (v .f1))) refl _ (message2 k), ← name-part (k .v2 .given .0 .0) (bytes s))
+    rw (c .before .before .if3 .taken, readable x (bytes s) 3 nameFields (λ v. destroyKey (bytesOf (bytes s) (v .f1))) refl _ (message2 k), ← name-part (k .v2 .given .0 .0) (bytes s))
     (c .destroy .ensures (bytes s))
 
 sub-export : tie.Need-sub-export
@@ -147,31 +155,33 @@ enum-told-2 c = search needs
 refused-requires-2 : tie.Need-refused-requires-2
 refused-requires-2 c κs = search needs
 
--- the one opcode that is left
-seven : (c : tie.Else2) → start2 (at-v (c .before) .before .before) .args .opcode ≡ 7
-seven c =
-    let r = at-v (c .before) .before .before in
-    ⊎-elim (λ e. absurd (c .if2 .left e)) (λ h. ⊎-elim (λ e. absurd (r .before .before .if1 .left e)) (λ e. e) h) (start2 r .pre .0)
+-- the opcodes that are left
+left : (c : tie.After-read-body2) → (start2 c .args .opcode ≡ 3) ⊎ (start2 c .args .opcode ≡ 7)
+left c =
+    let e = c .before .before in
+    ⊎-elim inl (λ h. ⊎-elim (λ o. absurd (e .if2 .left o)) (λ g. ⊎-elim (λ o. absurd (e .before .if1 .left o)) inr g) h) (start2 c .pre .0)
 
-returns-4 : tie.Need-returns-4
+seven : (c : tie.Else3) → start2 (at-v (c .before) .before .before) .args .opcode ≡ 7
+seven c = ⊎-elim (λ e. absurd (c .if3 .left e)) (λ e. e) (left (at-v (c .before) .before .before))
+
+returns-5 : tie.Need-returns-5
 unfolding placedOperation perform
-returns-4 c =
+returns-5 c =
     let k = at-v (c .before .before .before) in
     let s = start2 (k .before .before) in
     let x = slotsOf (s .args .registry .now) (s .args .line) in
     rw (seven (c .before .before), readable x (bytes s) 7 nameFields (λ v. exportPublicKey (bytesOf (bytes s) (v .f1))) refl _ (message2 k), ← name-part (k .v2 .given .0 .0) (bytes s))
     (c .export .ensures (bytes s))
 
-returns-5 : tie.Need-returns-5
+returns-6 : tie.Need-returns-6
 unfolding placedOperation
-returns-5 c =
+returns-6 c =
     let r = c .before .before .before in
     let s = start2 r in
     let e = body-read2 r ∙ c .before .enum-told2 .given .1 in
     ⊎-elim (λ (o : s .args .opcode ≡ 3). rw (c .refused2 .ensures, o) (unreadable _ (bytes s) 3 nameFields (λ v. destroyKey (bytesOf (bytes s) (v .f1))) refl _ e))
-    (λ h. ⊎-elim (λ o. absurd (r .before .before .if1 .left o))
-    (λ (o : s .args .opcode ≡ 7). rw (c .refused2 .ensures, o) (unreadable _ (bytes s) 7 nameFields (λ v. exportPublicKey (bytesOf (bytes s) (v .f1))) refl _ e)) h)
-    (s .pre .0)
+    (λ (o : s .args .opcode ≡ 7). rw (c .refused2 .ensures, o) (unreadable _ (bytes s) 7 nameFields (λ v. exportPublicKey (bytesOf (bytes s) (v .f1))) refl _ e))
+    (left r)
 
 pub perform-keystore-spec : {M : Type 1} → statement M
 perform-keystore-spec =
@@ -185,6 +195,8 @@ perform-keystore-spec =
     refused-requires
     returns
     returns-2
+    perform-verify-requires
+    returns-3
     name-fields-requires
     read-body-requires-2
     enum-known-v-2
@@ -193,12 +205,12 @@ perform-keystore-spec =
     part-destroy-start
     part-destroy-end
     destroy-requires
-    returns-3
+    returns-4
     sub-export
     part-export-start
     part-export-end
     export-requires
     enum-told-2
     refused-requires-2
-    returns-4
-    returns-5)
+    returns-5
+    returns-6)

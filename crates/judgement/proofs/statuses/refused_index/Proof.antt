@@ -59,6 +59,12 @@ enum-told-17 c = search needs
 enum-told-18 : tie.Need-enum-told-18
 enum-told-18 c = search needs
 
+enum-told-19 : tie.Need-enum-told-19
+enum-told-19 c = search needs
+
+enum-told-20 : tie.Need-enum-told-20
+enum-told-20 c = search needs
+
 returns : tie.Need-returns
 unfolding indexOf statusNumber
 returns c = rw (c .enum-told .given .1)
@@ -131,6 +137,14 @@ returns-18 : tie.Need-returns-18
 unfolding indexOf statusNumber
 returns-18 c = rw (c .enum-told18 .given .1)
 
+returns-19 : tie.Need-returns-19
+unfolding indexOf statusNumber
+returns-19 c = rw (c .enum-told19 .given .1)
+
+returns-20 : tie.Need-returns-20
+unfolding indexOf statusNumber
+returns-20 c = rw (c .enum-told20 .given .1)
+
 pub refused-index-spec : {M : Type 1} → statement M
 refused-index-spec =
     tie.close
@@ -153,6 +167,8 @@ refused-index-spec =
     enum-told-16
     enum-told-17
     enum-told-18
+    enum-told-19
+    enum-told-20
     returns
     returns-2
     returns-3
@@ -170,4 +186,6 @@ refused-index-spec =
     returns-15
     returns-16
     returns-17
-    returns-18)
+    returns-18
+    returns-19
+    returns-20)

@@ -1,0 +1,116 @@
+// Verify ("Checking signatures", document 02): what it comes to. Where a key was found, and what is checked by it, are apart.
+use crate::Decision;
+use crate::Output;
+use crate::Status;
+use crate::operations::listed;
+use crate::operations::refused;
+use keys::KEY_NAME_MOST;
+use keys::names::is_legal;
+use protobuf::body::Body;
+use protobuf::body::read_body;
+use protobuf::message::Kind;
+use protobuf::message::Schema;
+use registry::Found;
+use registry::Line;
+use registry::find::find_slot;
+use registry::key::is_verifiable;
+use registry::key::key_bits;
+use registry::key::key_data;
+use rsa::verify::Outcome;
+ghost use mathlib.Core.Bool.{true};
+ghost use mathlib.Core.List.{List};
+ghost use mathlib.Core.Path.{_≡_};
+ghost use Prim.Native.Nat.{ℕ, _<_};
+ghost use Rattle.registry.specs.Slots.{Entry};
+ghost use Rattle.registry.specs.Registry.{lineCount, slotsOf};
+ghost use Rattle.registry.specs.WellFormed.{wellFormedRegistry};
+ghost use Rattle.judgement.specs.Operations.{checked, verifyWith, performVerify, operated};
+ghost use Rattle.judgement.specs.code.Placed.{verifyFields};
+ghost use Rattle.judgement.specs.code.Decided.{Decided, verifier};
+
+// The bytes of a SHA-256 hash.
+pub const HASH_SIZE: usize = 32;
+
+pub fn verify_fields() -> Schema
+    ensures { λ r. ⌜ r ≡ verifyFields ⌝ }
+{
+    Schema {
+        k1: Kind::Bytes,
+        k2: Kind::Bytes,
+        k3: Kind::Bytes,
+        k4: Kind::Unlisted,
+        k5: Kind::Unlisted,
+    }
+}
+
+// What a signature that was checked comes to.
+fn judge_outcome(outcome: Outcome) -> Decision
+    ensures { λ r. ⌜ ((slots : List Entry) (body : List ℕ) → Decided slots body (checked outcome) r) ⌝ }
+{
+    match outcome {
+        Outcome::ValidSignature => listed(Output::Nothing),
+        Outcome::InvalidKey => refused(Status::PsaErrorNotSupported),
+        Outcome::InvalidSignature => refused(Status::PsaErrorInvalidSignature),
+    }
+}
+
+// Verify by a key that was found, wherever it lies: by whether it is allowed, its data and its bits.
+pub fn verify_with(
+    allowed: bool,
+    key: &[u8],
+    bits: usize,
+    hash: &[u8],
+    signature: &[u8],
+) -> Decision
+    ensures { λ r. ⌜ ((slots : List Entry) (body : List ℕ) → Decided slots body (verifyWith (now (hash .entry)) (now (signature .entry)) (verifier allowed (now (key .entry)) bits)) r) ⌝ }
+{
+    if !allowed {
+        return refused(Status::PsaErrorNotPermitted);
+    }
+    if hash.len() != HASH_SIZE {
+        return refused(Status::PsaErrorInvalidArgument);
+    }
+    let verification = rsa::verify::verify(key, bits, hash, signature);
+    let outcome = verification.outcome;
+    judge_outcome(outcome)
+}
+
+// Verify, of a name, a hash and a signature in its body.
+fn verify(registry: &[u8], line: Line, name: &[u8], hash: &[u8], signature: &[u8]) -> Decision
+    requires { ⌜ (wellFormedRegistry (now registry) ≡ true) × (line .0 < lineCount) ⌝ }
+    ensures { λ r. ⌜ ((body : List ℕ) → Decided (slotsOf (now (registry .entry)) line) body (performVerify (now (name .entry)) (now (hash .entry)) (now (signature .entry)) (slotsOf (now (registry .entry)) line)) r) ⌝ }
+{
+    if !is_legal(name, KEY_NAME_MOST) {
+        return refused(Status::PsaErrorInvalidArgument);
+    }
+    let found = find_slot(registry, line, name);
+    let Found::At(slot) = found else {
+        return refused(Status::PsaErrorDoesNotExist);
+    };
+    let allowed = is_verifiable(registry, line, slot);
+    let bits = key_bits(registry, line, slot);
+    let key = key_data(registry, line, slot);
+    verify_with(allowed, key, bits, hash, signature)
+}
+
+// Verify, of its body.
+pub fn perform_verify(body: &[u8], registry: &[u8], line: Line) -> Decision
+    requires { ⌜ (wellFormedRegistry (now registry) ≡ true) × (line .0 < lineCount) ⌝ }
+    ensures { λ r. ⌜ Decided (slotsOf (now (registry .entry)) line) (now (body .entry)) (operated 5 (now (body .entry)) (slotsOf (now (registry .entry)) line)) r ⌝ }
+{
+    match read_body(body, verify_fields()) {
+        Body::Message(v) => {
+            let name = v.f1;
+            let hash = v.f2;
+            let signature = v.f3;
+            let a = name.start;
+            let b = a + name.len;
+            let c = hash.start;
+            let d = c + hash.len;
+            let e = signature.start;
+            let f = e + signature.len;
+            verify(registry, line, &body[a..b], &body[c..d], &body[e..f])
+        }
+        Body::Unreadable(_) => refused(Status::DeserializingBodyFailed),
+    }
+}
