@@ -37,7 +37,7 @@ use Rattle.judgement.specs.code.Placed.{noFields, opcodesFields, readBody, plac
 use Rattle.judgement.specs.Counts.{Counts, countRefused, count}
 use Rattle.judgement.specs.Judgement.{applicationOf, refusals, askersSlots, resultOf, changedBy, verdictOf, refusedEarly, oversizedStatus, judgement}
 use Rattle.judgement.specs.code.Decided.{headerTests, namedOr, authOf, askersLine, outputBytes, resultIn, Decided, oneOfCore, oneOfKeystore, AskerBelow}
-use Rattle.judgement.proofs.OrderLaws.{one-of-three}
+use Rattle.judgement.proofs.OrderLaws.{one-of-three, one-of-four}
 use Rattle.judgement.specs.declared.Status.{Status}
 use Rattle.judgement.specs.declared.Status.the-variants.{AuthenticationError, NotAuthenticated, BodySizeExceedsLimit}
 use Rattle.judgement.specs.declared.Asker.{Asker}
@@ -68,7 +68,7 @@ module _ (h : Header) (passed : PassedHeader h) where
 
   pub keystore-opcode : (h .provider ≡ 0 → ⊥) → oneOfKeystore (h .opcode)
   unfolding opcodesOf
-  keystore-opcode n = one-of-three 3 6 7 (h .opcode) (rw (ne-eqb (h .provider) 0 n) at of-provider)
+  keystore-opcode n = one-of-four 3 5 6 7 (h .opcode) (rw (ne-eqb (h .provider) 0 n) at of-provider)
 
   pub provider-small : h .provider ≤ 1
   unfolding headerTests

@@ -32,7 +32,12 @@ fn output_size(registry: &[u8], line: Line, output: Output) -> usize
         Output::Nothing => 0,
         Output::Version => 2,
         Output::Providers => 4,
-        Output::Opcodes(_) => 5,
+        Output::Opcodes(provider) => {
+            if provider == 0 {
+                return 5;
+            }
+            6
+        }
         Output::Data(slot) => {
             let data = key_data(registry, line, slot);
             bytes_field_size(1, data.len())
@@ -57,7 +62,7 @@ fn write_output(out: &mut [u8], registry: &[u8], line: Line, output: Output) -> 
                 let core = [1u8, 8, 9];
                 return write_bytes_field(out, 1, &core);
             }
-            let keystore = [3u8, 6, 7];
+            let keystore = [3u8, 5, 6, 7];
             write_bytes_field(out, 1, &keystore)
         }
         Output::Data(slot) => {

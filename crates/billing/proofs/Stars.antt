@@ -44,7 +44,7 @@ case-opcodes-0 = case-of [] (request 1 0 9 0 [] []) (response 0 9 0 0 (0x0A ∷ 
     (ascii "taken 28\nopen 1\ndropped 0\nheld 0\n")
 
 case-opcodes-1 : Case
-case-opcodes-1 = case-of [] (request 1 0 9 0 (0x08 ∷ 0x01 ∷ []) []) (response 0 9 0 0 (0x0A ∷ 0x03 ∷ 0x03 ∷ 0x06 ∷ 0x07 ∷ []) ∷ []) []
+case-opcodes-1 = case-of [] (request 1 0 9 0 (0x08 ∷ 0x01 ∷ []) []) (response 0 9 0 0 (0x0A ∷ 0x04 ∷ 0x03 ∷ 0x05 ∷ 0x06 ∷ 0x07 ∷ []) ∷ []) []
     (ascii "taken 30\nopen 1\ndropped 0\nheld 0\n")
 
 case-import : Case

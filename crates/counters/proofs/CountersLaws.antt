@@ -12,7 +12,7 @@ use Rattle.wire.proofs.TestLaws.{both}
 use Rattle.judgement.specs.Status.{statusNumber, refusedStatuses}
 use Rattle.judgement.specs.Counts.{indexOf}
 use Rattle.judgement.specs.declared.Status.{Status}
-use Rattle.judgement.specs.declared.Status.the-variants.{Success, WrongProviderId, ContentTypeNotSupported, AcceptTypeNotSupported, WireProtocolVersionNotSupported, ProviderDoesNotExist, DeserializingBodyFailed, OpcodeDoesNotExist, AuthenticationError, AuthenticatorDoesNotExist, InvalidHeader, NotAuthenticated, BodySizeExceedsLimit, PsaErrorNotPermitted, PsaErrorInvalidArgument, PsaErrorAlreadyExists, PsaErrorDoesNotExist, PsaErrorInsufficientStorage}
+use Rattle.judgement.specs.declared.Status.the-variants.{Success, WrongProviderId, ContentTypeNotSupported, AcceptTypeNotSupported, WireProtocolVersionNotSupported, ProviderDoesNotExist, DeserializingBodyFailed, OpcodeDoesNotExist, AuthenticationError, AuthenticatorDoesNotExist, InvalidHeader, NotAuthenticated, BodySizeExceedsLimit, PsaErrorNotPermitted, PsaErrorNotSupported, PsaErrorInvalidArgument, PsaErrorAlreadyExists, PsaErrorDoesNotExist, PsaErrorInsufficientStorage, PsaErrorInvalidSignature}
 use Rattle.counters.specs.Counters.{maximum}
 
 -- ---- the largest of a list
@@ -54,7 +54,9 @@ index-below InvalidHeader h = lit< tt
 index-below NotAuthenticated h = lit< tt
 index-below BodySizeExceedsLimit h = lit< tt
 index-below PsaErrorNotPermitted h = lit< tt
+index-below PsaErrorNotSupported h = lit< tt
 index-below PsaErrorInvalidArgument h = lit< tt
 index-below PsaErrorAlreadyExists h = lit< tt
 index-below PsaErrorDoesNotExist h = lit< tt
 index-below PsaErrorInsufficientStorage h = lit< tt
+index-below PsaErrorInvalidSignature h = lit< tt
