@@ -14,7 +14,7 @@ use Rattle.wire.specs.Response.{responseHeaderSize, responseLeast, responseByte
 use Rattle.wire.specs.declared.response.ResponseHeader.{ResponseHeader}
 use Rattle.wire.proofs.ResponseLaws.{response-long, response-magic, response-size, response-body, response-back}
 use Rattle.messages.specs.Protobuf.{protobuf}
-use Rattle.messages.specs.Operations.{Operation, ping, listProviders, listOpcodes, importKey, destroyKey, exportPublicKey, opcodeOf, providerOf, Output, nothing, outputBytes, Answers, messageOf}
+use Rattle.messages.specs.Operations.{Operation, ping, listProviders, listOpcodes, importKey, destroyKey, exportPublicKey, verifySignature, opcodeOf, providerOf, Output, nothing, outputBytes, Answers, messageOf}
 use Rattle.messages.specs.Message.{AllFit}
 use Rattle.messages.proofs.OperationLaws.{nothing-bytes, answered-back}
 use Rattle.judgement.specs.Status.{statusNumber}
@@ -102,6 +102,7 @@ provider-known (listOpcodes provider) = refl
 provider-known (importKey key) = refl
 provider-known (destroyKey name) = refl
 provider-known (exportPublicKey name) = refl
+provider-known (verifySignature name hash signature) = refl
 
 pub its-own : (session : ℕ) (operation : Operation) (status : ℕ) (body : List ℕ)
     → Its (askedFor session operation) (headerOf (providerOf operation) session (opcodeOf operation) status body)

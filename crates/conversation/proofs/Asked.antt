@@ -6,7 +6,7 @@ use mathlib.Core.Bool.{true, false}
 use mathlib.Core.Option.{Option, none, some}
 use mathlib.Core.List.{List, [], _++_, append-nil}
 use native.Mathlib.Omega.{arith}
-use borrow.Author.Tests.{eq-eqb, le-leb, le-ltb}
+use borrow.Author.Tests.{eq-eqb, le-leb, leb-true, le-ltb}
 use lib.ListN.{length, length-append}
 use Rattle.wire.specs.Request.{magicNumber, magic, headerSize, contentLength, authLength, requestOf, requestBytes}
 use Rattle.wire.proofs.RequestLaws.{request-magic, request-size, request-content, request-auth, request-long, request-back}
@@ -16,13 +16,11 @@ use Rattle.keys.proofs.NameLaws.{legal-short}
 use Rattle.keys.proofs.KeyLaws.{legal-data, legal-bits}
 use Rattle.messages.specs.Message.{AllFit}
 use Rattle.messages.specs.Protobuf.{protobuf}
-use Rattle.messages.specs.Format.{messageBytes}
-use Rattle.messages.specs.Operations.{Operation, ping, listProviders, listOpcodes, importKey, destroyKey, exportPublicKey, inputOf, operationBody, operationOf}
+use Rattle.messages.specs.Operations.{Operation, ping, listProviders, listOpcodes, importKey, destroyKey, exportPublicKey, verifySignature, inputOf, operationBody, operationOf}
 use Rattle.messages.proofs.OperationLaws.{asked-back}
-use Rattle.messages.specs.code.Bodies.{bodyMost}
-use Rattle.messages.proofs.WriteLaws.{provider-body-short, name-body-short, key-body-short}
-use Rattle.client_requests.proofs.WritingLaws.{auth-short}
-use Rattle.client_requests.specs.Writing.{Sender, requestFor, legalSender, legalKeyName, legalKeyData, legalKeyBits}
+use Rattle.messages.proofs.WriteLaws.{verify-body-least}
+use Rattle.client_requests.proofs.WritingLaws.{auth-short, body-short}
+use Rattle.client_requests.specs.Writing.{Sender, requestFor, legalSender, legalKeyName, legalKeyData, legalKeyBits, legalHash, legalBody, requestBodyMost}
 use Rattle.stream.specs.Frame.{contentMost, authMost, legalStart, oversized, whole, next}
 use Rattle.stream.proofs.FrameLaws.{next-whole}
 use Rattle.registry.specs.Registry.{applicationNamed}
@@ -37,6 +35,7 @@ Small (listOpcodes provider) = provider < 2 ^ 32
 Small (importKey key) = Unit {0}
 Small (destroyKey name) = Unit {0}
 Small (exportPublicKey name) = Unit {0}
+Small (verifySignature name hash signature) = Unit {0}
 
 -- a request that is not refused
 pub record Writable (sender : Sender) (operation : Operation) : Type 0 where
@@ -44,6 +43,8 @@ pub record Writable (sender : Sender) (operation : Operation) : Type 0 where
   pub name-legal : legalKeyName operation ≡ true
   pub data-legal : legalKeyData operation ≡ true
   pub bits-legal : legalKeyBits operation ≡ true
+  pub hash-legal : legalHash operation ≡ true
+  pub body-legal : legalBody operation ≡ true
   pub small : Small operation
 
 -- ---- the values fit, and the body is short
@@ -60,16 +61,13 @@ fits sender (importKey key) w =
     (omega arith, (omega arith, (omega arith, (tt, (tt, tt)))))
 fits sender (destroyKey name) w = let n = legal-short keyNameMost name (w .name-legal) in (omega arith, tt)
 fits sender (exportPublicKey name) w = let n = legal-short keyNameMost name (w .name-legal) in (omega arith, tt)
+fits sender (verifySignature name hash signature) w =
+    let all = leb-true _ _ (w .body-legal) in
+    let parts = verify-body-least name hash signature in
+    (omega arith, (omega arith, (omega arith, tt)))
 
-short-body : (sender : Sender) (operation : Operation) → Writable sender operation → length (operationBody protobuf operation) ≤ bodyMost
-unfolding operationBody messageBytes importBits
-short-body sender ping w = omega arith
-short-body sender listProviders w = omega arith
-short-body sender (listOpcodes provider) w = provider-body-short provider
-short-body sender (importKey key) w =
-    key-body-short key (legal-short keyNameMost (key .name) (w .name-legal)) (legal-data (key .bytes) (w .data-legal)) (legal-bits (key .bits) (w .bits-legal))
-short-body sender (destroyKey name) w = name-body-short name (legal-short keyNameMost name (w .name-legal))
-short-body sender (exportPublicKey name) w = name-body-short name (legal-short keyNameMost name (w .name-legal))
+short-body : (sender : Sender) (operation : Operation) → Writable sender operation → length (operationBody protobuf operation) ≤ requestBodyMost
+short-body sender operation w = body-short operation (w .name-legal) (w .data-legal) (w .bits-legal) (w .body-legal)
 
 -- ---- the claim
 

@@ -16,7 +16,10 @@ use Rattle.keys.specs.Names.{keyNameMost, legalName}
 use Rattle.keys.specs.Key.{Key}
 use Rattle.messages.specs.Protobuf.{protobuf}
 use Rattle.messages.specs.Opcodes.{opcodesOf}
-use Rattle.messages.specs.Operations.{Operation, ping, listProviders, listOpcodes, importKey, destroyKey, exportPublicKey, ofPing, ofListProviders, ofListOpcodes, ofImport, ofDestroy, ofExport}
+use Rattle.messages.specs.Operations.{Operation, ping, listProviders, listOpcodes, importKey, destroyKey, exportPublicKey, verifySignature, ofPing, ofListProviders, ofListOpcodes, ofImport, ofDestroy, ofExport, ofVerify}
+use Rattle.rsa.specs.Signature.{verification}
+use Rattle.rsa.specs.declared.verify.Outcome.{Outcome}
+use Rattle.rsa.specs.declared.verify.Outcome.the-variants.{ValidSignature, InvalidSignature, InvalidKey}
 use Rattle.registry.specs.Slots.{Entry, free, held}
 use Rattle.registry.specs.Registry.{slotNamed}
 use Rattle.registry.specs.WellFormed.{wellFormedRegistry}
@@ -26,7 +29,7 @@ use Rattle.registry.specs.declared.Found.the-variants.{At, Nothing}
 use Rattle.registry.proofs.SlotLaws.{ShortEntry}
 use Rattle.registry.proofs.WellFormedLaws.{slots-short}
 use Rattle.judgement.specs.Status.{statusNumber}
-use Rattle.judgement.specs.Operations.{success, refuse, importable, performImport, performDestroy, exportOf, performExport, performListOpcodes, perform, operated}
+use Rattle.judgement.specs.Operations.{Result, success, refuse, importable, performImport, performDestroy, exportOf, performExport, hashSize, checked, verifyWith, performVerify, performListOpcodes, perform, operated}
 use Rattle.judgement.specs.Judgement.{applicationOf, refusals, askersSlots, resultOf}
 use Rattle.judgement.specs.declared.Status.{Status}
 use Rattle.judgement.proofs.JudgementLaws.{asks}
@@ -97,6 +100,38 @@ module _ (slots : List Entry) where
       go false e = rw (e, performExport) (refused (exportPublicKey name) _ (lit< tt))
       go true e = second e (slotNamed name slots) refl
 
+  module _ (name hash signature : List ℕ) where
+    abbrev SoundVerify : Result → Type 0
+    SoundVerify r = Sound (verifySignature name hash signature) r
+
+    sound-checked : (outcome : Outcome) → SoundVerify (checked outcome)
+    unfolding checked success statusNumber
+    sound-checked ValidSignature = served refl ofVerify tt
+    sound-checked InvalidKey = refused _ _ (lit< tt)
+    sound-checked InvalidSignature = refused _ _ (lit< tt)
+
+    sound-verifying : (entry : Entry) → SoundVerify (verifyWith hash signature entry)
+    unfolding verifyWith statusNumber
+    sound-verifying free = refused _ _ (lit< tt)
+    sound-verifying (held key) = go (key .verifyAllowed) refl (eqb (length hash) hashSize) refl
+      where
+        go : (a : Bool) → key .verifyAllowed ≡ a → (t : Bool) → eqb (length hash) hashSize ≡ t → SoundVerify (verifyWith hash signature (held key))
+        go false e t h = rw (e, verifyWith) (refused _ _ (lit< tt))
+        go true e false h = rw (e, h, verifyWith) (refused _ _ (lit< tt))
+        go true e true h = rw (e, h, verifyWith) (sound-checked (verification (key .bytes) (key .bits) hash signature .outcome))
+
+    sound-verify : SoundVerify (performVerify name hash signature slots)
+    unfolding performVerify statusNumber
+    sound-verify = go (legalName keyNameMost name) refl
+      where
+        second : legalName keyNameMost name ≡ true → (f : Found) → slotNamed name slots ≡ f → SoundVerify (performVerify name hash signature slots)
+        second v Nothing e = rw (v, e, performVerify) (refused _ _ (lit< tt))
+        second v (At slot) e = rw (v, e, performVerify) (sound-verifying (getD slots (slot .0) free))
+
+        go : (t : Bool) → legalName keyNameMost name ≡ t → SoundVerify (performVerify name hash signature slots)
+        go false e = rw (e, performVerify) (refused _ _ (lit< tt))
+        go true e = second e (slotNamed name slots) refl
+
   sound-opcodes : (provider : ℕ) → Sound (listOpcodes provider) (performListOpcodes provider)
   unfolding performListOpcodes success statusNumber
   sound-opcodes provider =
@@ -112,6 +147,7 @@ module _ (slots : List Entry) where
   sound-perform short (importKey key) = sound-import key
   sound-perform short (destroyKey name) = sound-destroy name
   sound-perform short (exportPublicKey name) = sound-export short name
+  sound-perform short (verifySignature name hash signature) = sound-verify name hash signature
 
 -- ---- the result of a request
 

@@ -19,7 +19,7 @@ use Rattle.stream.specs.Calls as stream
 use Rattle.registry.specs.WellFormed.{wellFormedRegistry}
 use Rattle.service.specs.Call.{fresh}
 use Rattle.service.proofs.CodeDemand3.{Ran, Runs, answersIn}
-use Rattle.messages.specs.Operations.{Operation, ping, listProviders, listOpcodes, importKey, destroyKey, exportPublicKey, opcodeOf}
+use Rattle.messages.specs.Operations.{Operation, ping, listProviders, listOpcodes, importKey, destroyKey, exportPublicKey, verifySignature, opcodeOf}
 use Rattle.client_responses.specs.Reading.{Asked, Reply, found, responseReader}
 use Rattle.client_responses.specs.State.{stateBytes, bytesIn, layout, Said, waiting, said, saidOf, ReadOutcome, refusal, readOutcome}
 use Rattle.client_responses.specs.Handed.{saidIn, handed}
@@ -221,6 +221,7 @@ listed-opcode (listOpcodes provider) = refl
 listed-opcode (importKey key) = refl
 listed-opcode (destroyKey name) = refl
 listed-opcode (exportPublicKey name) = refl
+listed-opcode (verifySignature name hash signature) = refl
 
 listening : (asks : List Ask) (responses : List (List ℕ)) (replies : List Reply) → AllHeard asks responses replies → Listening asks responses replies
 unfolding askedFor flatten

@@ -11,7 +11,7 @@ use lib.Seq.{take-append-seam}
 use Rattle.wire.specs.Choice.{firstOf}
 use Rattle.wire.specs.Lists.{over}
 use Rattle.wire.proofs.TestLaws.{none-at}
-use Rattle.client_requests.specs.Writing.{legalSender, legalKeyName, legalKeyData, legalKeyBits, writeTests, WriteOutcome, writeOutcome}
+use Rattle.client_requests.specs.Writing.{legalSender, legalKeyName, legalKeyData, legalKeyBits, legalHash, legalBody, writeTests, WriteOutcome, writeOutcome}
 use Rattle.client_requests.specs.declared.WriteRefusal.{WriteRefusal}
 use Rattle.client_requests.specs.declared.WriteRefusal.the-variants.{BufferTooSmall}
 use Rattle.client_requests.specs.declared.Written.the-variants.{Bytes, Refused}
@@ -34,6 +34,8 @@ module _ (ask : Ask) (small : Small (ask .operation)) (before : List ℕ) where
     name-legal = not-false (legalKeyName (ask .operation)) (none-at tests 2 BufferTooSmall e);
     data-legal = not-false (legalKeyData (ask .operation)) (none-at tests 3 BufferTooSmall e);
     bits-legal = not-false (legalKeyBits (ask .operation)) (none-at tests 4 BufferTooSmall e);
+    hash-legal = not-false (legalHash (ask .operation)) (none-at tests 5 BufferTooSmall e);
+    body-legal = not-false (legalBody (ask .operation)) (none-at tests 6 BufferTooSmall e);
     small = small;
   }
 
