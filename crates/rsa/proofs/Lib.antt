@@ -1,7 +1,3 @@
 pub mod PowerLaws
 pub mod EncodedLaws
-pub mod ModulusLaws
-pub mod IntegerLaws
-pub mod ElementLaws
-pub mod KeyLaws
 pub mod SignatureLaws

@@ -13,11 +13,12 @@ use Rattle.wire.proofs.ListLaws.{same-refl, same-true}
 use Rattle.wire.proofs.TestLaws.{both}
 use Rattle.bignum.proofs.Values.{Digits}
 use Rattle.bignum.proofs.ByteLaws.{bytes-back, number-back}
-use Rattle.rsa.specs.Primitives.{os2ip, i2osp, rsavp1}
+use Rattle.rsa_key.specs.Octets.{os2ip, i2osp}
+use Rattle.rsa.specs.Primitives.{rsavp1}
 use Rattle.rsa.specs.Power.{Powered, squareAndMultiply}
-use Rattle.rsa.specs.Key.{numberIn, publicKey, supportedBits, hasBits}
+use Rattle.rsa_key.specs.Key.{numberIn, publicKey, supportedBits, hasBits}
 use Rattle.rsa.specs.Signature.{encoded, outcomeOf, report, compared, verified, verifiedBy, verification}
-use Rattle.rsa.specs.declared.key.PublicKey.the-variants.{Valid, Invalid}
+use Rattle.rsa_key.specs.declared.key.PublicKey.the-variants.{Valid, Invalid}
 use Rattle.rsa.specs.declared.verify.Outcome.the-variants.{InvalidSignature, InvalidKey}
 use Rattle.rsa.specs.declared.verify.Verification.{Verification}
 

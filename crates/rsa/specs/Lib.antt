@@ -1,5 +1,4 @@
 pub mod Primitives
 pub mod Power
-pub mod Key
 pub mod Signature
 pub mod code

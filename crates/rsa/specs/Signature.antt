@@ -6,11 +6,12 @@ use lib.ListN.{length, replicate}
 use lib.Dec.{eqb, ltb}
 use Rattle.wire.specs.Choice.{if_then_else_}
 use Rattle.wire.specs.Lists.{every, same}
-use Rattle.rsa.specs.Primitives.{os2ip, i2osp, rsavp1}
+use Rattle.rsa_key.specs.Octets.{os2ip, i2osp}
+use Rattle.rsa.specs.Primitives.{rsavp1}
 use Rattle.rsa.specs.Power.{Powered, squareAndMultiply}
-use Rattle.rsa.specs.Key.{numberIn, publicKey, supportedBits, hasBits}
-use Rattle.rsa.specs.declared.key.PublicKey.{PublicKey}
-use Rattle.rsa.specs.declared.key.PublicKey.the-variants.{Valid, Invalid}
+use Rattle.rsa_key.specs.Key.{numberIn, publicKey, supportedBits, hasBits}
+use Rattle.rsa_key.specs.declared.key.PublicKey.{PublicKey}
+use Rattle.rsa_key.specs.declared.key.PublicKey.the-variants.{Valid, Invalid}
 use Rattle.rsa.specs.declared.verify.Outcome.{Outcome}
 use Rattle.rsa.specs.declared.verify.Outcome.the-variants.{ValidSignature, InvalidSignature, InvalidKey}
 use Rattle.rsa.specs.declared.verify.Verification.{Verification}

@@ -1,18 +1,18 @@
 // A signature checked by a public key (RFC 8017, section 8.2.2).
 use crate::encoding::encode;
-use crate::key::PublicKey;
-use crate::key::are_supported_bits;
-use crate::key::has_bits;
-use crate::key::read_key;
 use crate::power::power;
 use bignum::bytes::read_big_endian;
 use bignum::compare::equal;
 use bignum::compare::is_at_least;
+use rsa_key::key::PublicKey;
+use rsa_key::key::are_supported_bits;
+use rsa_key::key::has_bits;
+use rsa_key::key::read_key;
 ghost use mathlib.Core.Path.{_≡_};
 ghost use Prim.Native.Nat.{_+_, _*_, _^_, _≤_, _<_};
 ghost use lib.ListN.{length};
 ghost use Rattle.bignum.specs.Numbers.{valueOf};
-ghost use Rattle.rsa.specs.Key.{numberIn};
+ghost use Rattle.rsa_key.specs.Key.{numberIn};
 ghost use Rattle.rsa.specs.Signature.{outcomeOf, report, verified, verification};
 
 pub enum Outcome {

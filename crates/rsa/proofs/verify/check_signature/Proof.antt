@@ -8,7 +8,8 @@ use borrow.Author.Tests.{leb-true, leb-false}
 use lib.Dec.{eqb}
 use lib.ListN.{length}
 use Rattle.bignum.specs.Numbers.{valueOf}
-use Rattle.rsa.specs.Primitives.{os2ip, rsavp1}
+use Rattle.rsa_key.specs.Octets.{os2ip}
+use Rattle.rsa.specs.Primitives.{rsavp1}
 use Rattle.rsa.specs.Power.{Powered, powered, squareAndMultiply}
 use Rattle.rsa.specs.Signature.{outcomeOf, report, verified}
 use Rattle.rsa.specs.declared.verify.Outcome.{Outcome}

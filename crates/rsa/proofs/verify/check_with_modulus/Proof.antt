@@ -1,6 +1,6 @@
 -- `rsa::verify::check_with_modulus` meets its contract.
 use Rattle.bignum.proofs.ByteLaws.{part-bound}
-use Rattle.rsa.specs.Key.{numberIn}
+use Rattle.rsa_key.specs.Key.{numberIn}
 use Rattle.rsa.specs.Signature.{verified}
 use mathlib.Core.Path.{_≡_, ap, _∙_}
 use Prim.Native.Nat.{ℕ, _+_, _-_, _/_, _^_, _≤_, _<_}

@@ -6,7 +6,7 @@ use native.Mathlib.Omega.{arith}
 use borrow.Author.Needs.{needs}
 use lib.ListN.{replicate, length-take}
 use lib.Seq.{length-take-le}
-use Rattle.rsa.specs.Key.{numberIn}
+use Rattle.rsa_key.specs.Key.{numberIn}
 use Rattle.rsa.specs.Signature.{verified}
 use Rattle.rsa.proofs.verify.check_with_size.Statement.{statement}
 use Rattle.rsa.proofs.verify.check_with_size.Tie as tie

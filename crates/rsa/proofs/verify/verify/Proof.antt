@@ -10,11 +10,11 @@ use lib.Dec.{eqb}
 use lib.ListN.{getD}
 use Rattle.wire.proofs.TestLaws.{and-left, and-right}
 use Rattle.bignum.proofs.Values.{Digits}
-use Rattle.rsa.specs.Key.{numberIn, publicKey, supportedBits, hasBits}
+use Rattle.rsa_key.specs.Key.{numberIn, publicKey, supportedBits, hasBits}
 use Rattle.rsa.specs.Signature.{verified}
-use Rattle.rsa.specs.declared.key.PublicKey.the-variants.{Valid}
-use Rattle.rsa.proofs.IntegerLaws.{bits-by-bytes, behind-zero}
-use Rattle.rsa.proofs.KeyLaws.{Sound, key-sound, supported-least, supported-most, supported-whole}
+use Rattle.rsa_key.specs.declared.key.PublicKey.the-variants.{Valid}
+use Rattle.rsa_key.proofs.IntegerLaws.{bits-by-bytes, behind-zero}
+use Rattle.rsa_key.proofs.KeyLaws.{Sound, key-sound, supported-least, supported-most, supported-whole}
 use Rattle.rsa.proofs.SignatureLaws.{no-key, other-bits, other-size, by-key}
 use Rattle.rsa.proofs.verify.verify.Statement.{statement}
 use Rattle.rsa.proofs.verify.verify.Tie as tie

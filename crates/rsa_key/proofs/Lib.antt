@@ -1,0 +1,4 @@
+pub mod ModulusLaws
+pub mod IntegerLaws
+pub mod ElementLaws
+pub mod KeyLaws
