@@ -4,6 +4,7 @@ pub mod connections;
 pub mod headers;
 pub mod messages;
 pub mod registries;
+pub mod signatures;
 
 // No count of bytes, no line and no slot.
 pub const REFUSED: usize = 18446744073709551615;

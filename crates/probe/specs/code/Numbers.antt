@@ -1,5 +1,5 @@
 -- What the exported functions give back, as numbers.
-use Prim.Native.Nat.{ℕ}
+use Prim.Native.Nat.{ℕ, _+_, _*_}
 use mathlib.Core.List.{List, [], _∷_}
 use lib.ListN.{length, replicate}
 use lib.Dec.{ltb, eqb}
@@ -12,6 +12,9 @@ use Rattle.protobuf.specs.declared.varint.Varint.the-variants.{Read, Unreadable
 use Rattle.protobuf.specs.declared.message.Schema.{Schema}
 use Rattle.protobuf.specs.declared.body.Body.{Body}
 use Rattle.protobuf.specs.declared.body.Body.the-variants.{Message, Unreadable}
+use Rattle.rsa.specs.declared.verify.Outcome.{Outcome}
+use Rattle.rsa.specs.declared.verify.Outcome.the-variants.{ValidSignature, InvalidSignature, InvalidKey}
+use Rattle.rsa.specs.declared.verify.Verification.{Verification}
 use Rattle.judgement.specs.code.Placed.{noFields, opcodesFields, importFields, nameFields}
 
 abbrev pub fieldNumbers : Header → List ℕ
@@ -36,3 +39,11 @@ bodyNumbers (Message v) =
     1 ∷ v .f1 .start ∷ v .f1 .len ∷ v .f1 .number ∷ v .f2 .start ∷ v .f2 .len ∷ v .f2 .number ∷ v .f3 .start ∷ v .f3 .len
     ∷ v .f3 .number ∷ v .f4 .start ∷ v .f4 .len ∷ v .f4 .number ∷ v .f5 .start ∷ v .f5 .len ∷ v .f5 .number ∷ []
 bodyNumbers (Unreadable at) = 0 ∷ at ∷ replicate 14 0
+
+abbrev pub outcomeNumber : Outcome → ℕ
+outcomeNumber ValidSignature = 0
+outcomeNumber InvalidSignature = 1
+outcomeNumber InvalidKey = 2
+
+abbrev pub verificationNumber : Verification → ℕ
+verificationNumber v = outcomeNumber (v .outcome) + 4 * v .multiplications
