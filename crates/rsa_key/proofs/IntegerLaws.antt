@@ -4,19 +4,21 @@ use mathlib.Core.Bool.{Bool, true, false, _&&_, _||_}
 use mathlib.Core.List.{List, [], _∷_, reverse}
 use mathlib.Core.Logic.{⊎-elim, _⊎_, inl, inr}
 use Prim.Native.Nat.{ℕ, zero, suc, _+_, _*_, _-_, _/_, _%_, _^_, _≤_, _<_}
-use native.Mathlib.Nat.{eq-zero-or-pos}
+use native.Mathlib.Nat.{eq-zero-or-pos, mul-le-mul-left}
 use native.Mathlib.Numerals.{add-one}
 use native.Mathlib.Omega.{arith}
 use borrow.Author.Tests.{eq-eqb, ne-eqb, eqb-true, eqb-false, ltb-true, leb-true}
 use lib.Dec.{eqb, leb, ltb}
+use lib.Pow.{pow-add}
 use lib.ListN.{length, getD, take, drop, length-take, length-drop}
 use lib.Seq.{drop-cons, getD-take, getD-drop}
 use Rattle.bignum.specs.Numbers.{valueIn}
 use Rattle.rsa_key.specs.Octets.{os2ip}
-use Rattle.rsa_key.specs.Key.{unsigned, numberIn, hasBits}
+use Rattle.rsa_key.specs.Key.{unsigned, numberIn, hasBits, bitCount}
 use Rattle.bignum.proofs.Values.{Digits, digits-take, digits-drop, getD-reverse, rest-any}
 use Rattle.wire.proofs.TestLaws.{and-left, and-right}
-use Rattle.rsa_key.proofs.ModulusLaws.{exactly, set-first, at-least, os2ip-cons}
+use Rattle.rsa_key.proofs.ModulusLaws.{exactly, set-first, at-least, os2ip-cons, below, bytes-bits}
+use Rattle.rsa_key.proofs.BitLaws.{Counted, count-zero, count-is, count-range, power-below}
 
 or-cases : (a b : Bool) → a || b ≡ true → (a ≡ true) ⊎ (b ≡ true)
 or-cases true b h = inl refl
@@ -123,3 +125,59 @@ module _ (s : List ℕ) (start len : ℕ) (d : Digits 256 s) (fits : start + len
   behind-zero z =
       let c : os2ip (first ∷ others) ≡ os2ip others + 256 ^ length others * 0 = os2ip-cons first others ∙ ap (λ (x : ℕ). os2ip others + 256 ^ length others * x) z in
       sym (ap (λ (l : List ℕ). os2ip l) parts ∙ c ∙ omega arith)
+
+  value : numberIn s start len ≡ os2ip others + 2 ^ (8 * (len - 1)) * first
+  value =
+      let p : 256 ^ length others ≡ 2 ^ (8 * (len - 1)) = ap (λ (k : ℕ). 256 ^ k) others-length ∙ bytes-bits (len - 1) in
+      ap (λ (l : List ℕ). os2ip l) parts ∙ os2ip-cons first others ∙ ap (λ (k : ℕ). os2ip others + k * first) p
+
+  rest-below : os2ip others < 2 ^ (8 * (len - 1))
+  rest-below = rw (others-length, bytes-bits) at (below others others-digits)
+
+  pub in-bits : numberIn s start len < 2 ^ (8 * len)
+  in-bits =
+      let k : ℕ = 8 * (len - 1) in
+      let t : k + 8 ≡ 8 * len = omega (arith, some) in
+      let p : 2 ^ (8 * len) ≡ 2 ^ k * 256 = ap (λ (i : ℕ). 2 ^ i) (sym t) ∙ pow-add 2 k 8 in
+      let u : 2 ^ k * first ≤ 2 ^ k * 127 = mul-le-mul-left (2 ^ k) (omega (arith, small)) in
+      omega (arith, value, rest-below)
+
+  -- how many bits: eight for each byte behind the first, and the first's
+  pub bits-counted : bitCount (8 * len) (numberIn s start len) ≡ 8 * (len - 1) + bitCount 8 first
+  bits-counted = ⊎-elim (λ (z : first ≡ 0). by-zero z others refl) by-first (eq-zero-or-pos first)
+    where
+      whole : first ≡ 0 → numberIn s start len ≡ os2ip others
+      whole z = value ∙ ap (λ (k : ℕ). os2ip others + 2 ^ (8 * (len - 1)) * k) z ∙ omega arith
+
+      none : first ≡ 0 → bitCount 8 first ≡ 0
+      none z = ap (λ (k : ℕ). bitCount 8 k) z
+
+      by-zero : first ≡ 0 → (xs : List ℕ) → others ≡ xs → bitCount (8 * len) (numberIn s start len) ≡ 8 * (len - 1) + bitCount 8 first
+      by-zero z [] e =
+          let l : len - 1 ≡ 0 = sym others-length ∙ ap (λ (l : List ℕ). length l) e in
+          let v : numberIn s start len ≡ 0 = whole z ∙ ap (λ (l : List ℕ). os2ip l) e in
+          ap (λ (k : ℕ). bitCount (8 * len) k) v ∙ count-zero (8 * len) ∙ omega (arith, none z)
+      by-zero z (y ∷ ys) e =
+          let l : len - 1 ≡ suc (length ys) = sym others-length ∙ ap (λ (l : List ℕ). length l) e in
+          let b : ℕ = 8 * length ys + 7 in
+          let t : suc b ≡ 8 * (len - 1) = omega arith in
+          let p : 2 ^ b ≡ 256 ^ length ys * 128 = pow-add 2 (8 * length ys) 7 ∙ ap (λ (k : ℕ). k * 128) (sym (bytes-bits (length ys))) in
+          let u : 256 ^ length ys * 128 ≤ 256 ^ length ys * y = mul-le-mul-left (256 ^ length ys) (least y ys e z) in
+          let v : numberIn s start len ≡ os2ip ys + 256 ^ length ys * y = whole z ∙ ap (λ (l : List ℕ). os2ip l) e ∙ os2ip-cons y ys in
+          let h : numberIn s start len < 2 ^ suc b = rw (t, whole z) rest-below in
+          count-is (8 * len) b (numberIn s start len) (omega arith) h (omega arith) ∙ omega (arith, none z)
+
+      by-first : 0 < first → bitCount (8 * len) (numberIn s start len) ≡ 8 * (len - 1) + bitCount 8 first
+      by-first z =
+          let c : ℕ = bitCount 8 first in
+          let k : ℕ = 8 * (len - 1) in
+          let byte : first < 2 ^ 8 = omega (arith, small) in
+          let r : Counted first c = count-range 8 first z byte in
+          let o : 0 < c = r .some in
+          let t : suc (k + (c - 1)) ≡ k + c = omega arith in
+          let low : 2 ^ k * 2 ^ (c - 1) ≤ 2 ^ k * first = mul-le-mul-left (2 ^ k) (r .least) in
+          let high : 2 ^ k * (first + 1) ≤ 2 ^ k * 2 ^ c = mul-le-mul-left (2 ^ k) (omega (arith, r .most)) in
+          let l : 2 ^ (k + (c - 1)) ≤ numberIn s start len = rw (pow-add 2 k (c - 1), value) (omega arith) in
+          let h : numberIn s start len < 2 ^ suc (k + (c - 1)) = rw (t, pow-add 2 k c, value) (omega (arith, rest-below)) in
+          let i : k + (c - 1) < 8 * len = omega (arith, some, power-below (c - 1) 8 first (r .least) byte) in
+          count-is (8 * len) (k + (c - 1)) (numberIn s start len) l h i ∙ t

@@ -14,9 +14,10 @@ use Rattle.rsa_key.specs.declared.der.Element.{Element}
 use Rattle.rsa_key.specs.declared.der.Element.the-variants.{Contents, Unreadable}
 use Rattle.rsa_key.specs.declared.key.PublicKey.{PublicKey}
 use Rattle.rsa_key.specs.declared.key.PublicKey.the-variants.{Valid, Invalid}
-use Rattle.rsa_key.specs.Key.{elementAt, unsigned, numberIn, isModulus, isExponent, withExponent, withModulus, inSequence, publicKey, bitsLeast, bitsMost, supportedBits}
+use Rattle.rsa_key.specs.Key.{elementAt, unsigned, numberIn, isModulus, isExponent, withExponent, withModulus, inSequence, publicKey, bitsLeast, bitsMost, supportedBits, hasBits, bitCount, bitsIn, modulusBits}
 use Rattle.rsa_key.proofs.ElementLaws.{element-bound}
-use Rattle.rsa_key.proofs.IntegerLaws.{odd-by-last, long-is-large}
+use Rattle.rsa_key.proofs.BitLaws.{has-count}
+use Rattle.rsa_key.proofs.IntegerLaws.{odd-by-last, long-is-large, bits-counted, in-bits}
 
 module _ (s : List ℕ) (start len : ℕ) where
   pub not-unsigned : unsigned s start len ≡ false → false ≡ isModulus s start len
@@ -143,6 +144,46 @@ module _ (s : List ℕ) (d : Digits 256 s) where
   pub key-sound : (m l e : ℕ) → publicKey s ≡ Valid m l e → Sound s m l e
   unfolding publicKey AllSound
   key-sound = sequence-sound (elementAt s 0x30 0)
+
+-- a key's data is not long, and its modulus has the bits that are counted
+module _ (s : List ℕ) (d : Digits 256 s) where
+  Short : PublicKey → Type 0
+  Short r = (m l e : ℕ) → r ≡ Valid m l e → length s < 65540
+
+  none-short : Short Invalid
+  unfolding Short
+  none-short m l e q = absurd (let z : _≡_ {A = ℕ} 0 1 = cc in omega arith)
+
+  sequence-short : (el : Element) → elementAt s 0x30 0 ≡ el → Short (inSequence s el)
+  unfolding inSequence Short
+  sequence-short Unreadable q = none-short
+  sequence-short (Contents start len) q =
+      either Short (eqb (start + len) (length s))
+      (λ t. λ m l e r. omega (arith, eqb-true (start + len) (length s) t, element-bound s d 0 0x30 start len q .1))
+      (λ _. none-short)
+
+  pub key-short : (m l e : ℕ) → publicKey s ≡ Valid m l e → length s < 65540
+  unfolding publicKey Short
+  key-short = sequence-short (elementAt s 0x30 0) refl
+
+  module _ (m l e : ℕ) (read : publicKey s ≡ Valid m l e) where
+    pub bits-of-key : 8 * (l - 1) + bitCount 8 (getD s m 0) ≡ modulusBits s
+    unfolding modulusBits bitsIn
+    bits-of-key =
+        let k : Sound s m l e = key-sound s d m l e read in
+        sym (ap (λ (r : PublicKey). bitsIn s r) read ∙ bits-counted s m l d (k .inside) (k .as-integer))
+
+    -- bits are a key's where they are its modulus's count
+    pub bits-by-count : (bits : ℕ) → 0 < bits → hasBits (numberIn s m l) bits ≡ eqb (modulusBits s) bits
+    unfolding modulusBits bitsIn
+    bits-by-count bits p =
+        let k : Sound s m l e = key-sound s d m l e read in
+        has-count (8 * l) (numberIn s m l) bits (in-bits s m l d (k .inside) (k .as-integer)) p
+        ∙ ap (λ (r : PublicKey). eqb (bitsIn s r) bits) (sym read)
+
+pub no-bits : (s : List ℕ) → publicKey s ≡ Invalid → 0 ≡ modulusBits s
+unfolding modulusBits bitsIn
+no-bits s e = rw e
 
 -- bits that are supported
 module _ (bits : ℕ) (b : supportedBits bits ≡ true) where

@@ -1,3 +1,4 @@
+pub mod BitLaws
 pub mod ModulusLaws
 pub mod IntegerLaws
 pub mod ElementLaws

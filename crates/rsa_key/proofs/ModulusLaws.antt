@@ -34,7 +34,7 @@ os2ip-cons x xs =
     let f : valueIn 256 (reverse xs ++ (x ∷ [])) ≡ valueIn 256 (reverse xs) + 256 ^ length xs * (x + 256 * 0) = rw (length-reverse xs) at e in
     ap (λ (l : List ℕ). valueIn 256 l) (reverse-cons x xs) ∙ f ∙ omega arith
 
-below : (xs : List ℕ) → Digits 256 xs → os2ip xs < 256 ^ length xs
+pub below : (xs : List ℕ) → Digits 256 xs → os2ip xs < 256 ^ length xs
 below xs d = rw (length-reverse xs) at (bound 256 (reverse xs) (digits-reverse xs d))
 
 module _ (n x : ℕ) (xs : List ℕ) (d : Digits 256 xs) (small : x < 128) where

@@ -1,5 +1,5 @@
 -- RSAPublicKey (RFC 8017, appendix A.1.1) in DER (X.690), and what is demanded of its numbers ("Checking signatures", document 02).
-use Prim.Native.Nat.{ℕ, _+_, _-_, _*_, _/_, _%_, _^_}
+use Prim.Native.Nat.{ℕ, zero, suc, _+_, _-_, _*_, _/_, _%_, _^_}
 use mathlib.Core.Bool.{Bool, _&&_, _||_}
 use mathlib.Core.List.{List, [], _∷_}
 use lib.ListN.{length, getD, take, drop}
@@ -86,3 +86,16 @@ supportedBits bits = every (leb bitsLeast bits ∷ leb bits bitsMost ∷ eqb (bi
 -- n has exactly so many bits
 abbrev pub hasBits : (n bits : ℕ) → Bool
 hasBits n bits = eqb (n / 2 ^ (bits - 1)) 1
+
+-- how many bits n has, a number below 2 ^ w
+abbrev pub bitCount : (w n : ℕ) → ℕ
+bitCount zero n = 0
+bitCount (suc w) n = if leb (2 ^ w) n then suc w else bitCount w n
+
+unfoldable pub bitsIn : (key : List ℕ) → PublicKey → ℕ
+bitsIn key Invalid = 0
+bitsIn key (Valid modulus size e) = bitCount (8 * size) (numberIn key modulus size)
+
+-- how many bits the modulus of the key in these octets has; 0 where they are no RSAPublicKey
+unfoldable pub modulusBits : (key : List ℕ) → ℕ
+modulusBits key = bitsIn key (publicKey key)

@@ -10,7 +10,7 @@ ghost use mathlib.Core.Path.{_≡_};
 ghost use mathlib.Core.Bool.{true};
 ghost use Prim.Native.Nat.{_+_, _%_, _≤_, _<_};
 ghost use lib.ListN.{length};
-ghost use Rattle.rsa_key.specs.Key.{elementAt, unsigned, numberIn, isModulus, withExponent, withModulus, publicKey, supportedBits, hasBits};
+ghost use Rattle.rsa_key.specs.Key.{elementAt, unsigned, numberIn, isModulus, withExponent, withModulus, publicKey, supportedBits, hasBits, bitCount, modulusBits};
 
 pub const BITS_LEAST: usize = 1024;
 
@@ -131,4 +131,35 @@ pub fn has_bits(s: &[u8], start: usize, len: usize, bits: usize) -> bool
         return false;
     }
     byte_at(s, start) == 0
+}
+
+// How many bits a byte has.
+fn byte_bits(x: usize) -> usize
+    ensures { λ r. ⌜ (r ≡ bitCount 8 x) × (r ≤ 8) ⌝ }
+{
+    let mut w: usize = 8;
+    while 0 < w {
+        w -= 1;
+        if 0 < x >> w {
+            return w + 1;
+        }
+    }
+    0
+}
+
+// How many bits the modulus of a key has; 0 where there is no key. A zero byte in front has none, and the byte behind it has eight.
+pub fn modulus_bits(key: &[u8]) -> usize
+    ensures { λ r. ⌜ r ≡ modulusBits (now (key .entry)) ⌝ }
+{
+    let read = read_key(key);
+    let PublicKey::Valid {
+        modulus,
+        size,
+        exponent: _,
+    } = read
+    else {
+        return 0;
+    };
+    let first = byte_at(key, modulus);
+    8 * (size - 1) + byte_bits(first)
 }
