@@ -54,7 +54,7 @@ extern "C" {
 /* How many applications a roster may have. */
 #define RAZIDKOT_LINES 8
 /* How many statuses a request may be refused with. */
-#define RAZIDKOT_REFUSED_STATUSES 17
+#define RAZIDKOT_REFUSED_STATUSES 19
 
 /* The counters, which a call changes in place. A call with one above RAZIDKOT_HIGHEST_COUNTER is refused (C5). */
 typedef struct {
@@ -71,8 +71,8 @@ typedef struct {
     /*
      * Requests refused, for each status but 0, ascending:
      *
-     *   index   0  1  2  3  4  5  6   7   8   9  10  11    12    13    14    15    16
-     *   status  1  2  3  4  6  7  9  11  12  17  19  20  1133  1135  1139  1140  1142
+     *   index   0  1  2  3  4  5  6   7   8   9  10  11    12    13    14    15    16    17    18
+     *   status  1  2  3  4  6  7  9  11  12  17  19  20  1133  1134  1135  1139  1140  1142  1149
      */
     uint64_t refused[RAZIDKOT_REFUSED_STATUSES];
 } razidkot_counters;

@@ -9,9 +9,10 @@
  * for any bytes and any lengths:
  *
  *   - Short or long memory is answered: a request buffer below RAZIDKOT_CLIENT_LEAST_REQUEST_BUFFER, a state of a wrong
- *     size, names and data of a length that is not allowed, room for fewer entries than a list has.
- *   - NULL with length 0 is empty memory and is answered as such: an empty chunk, which is good; an empty name or empty
- *     data, which are refused; a request buffer that is too small; a state of a wrong size; no room for an entry.
+ *     size, names, data, hashes and signatures of a length that is not allowed, room for fewer entries than a list has.
+ *   - NULL with length 0 is empty memory and is answered as such: an empty chunk or signature, which are good; an empty
+ *     name, hash or empty data, which are refused; a request buffer that is too small; a state of a wrong size; no room for
+ *     an entry.
  *   - An ill-formed state of the right size is answered: RAZIDKOT_CLIENT_READ_STATE_ILL_FORMED.
  *
  * What it can't tell, and what is undefined:
@@ -41,7 +42,7 @@ extern "C" {
 /* A shorter request buffer is refused, whatever the request. */
 #define RAZIDKOT_CLIENT_LEAST_REQUEST_BUFFER 5120
 /* No request is longer. */
-#define RAZIDKOT_CLIENT_LONGEST_REQUEST 736
+#define RAZIDKOT_CLIENT_LONGEST_REQUEST 4188
 /* The one size of a reader's state. */
 #define RAZIDKOT_CLIENT_STATE_SIZE 1036
 /* No longer response is read. */
@@ -53,6 +54,10 @@ extern "C" {
 #define RAZIDKOT_CLIENT_LONGEST_APPLICATION_NAME 64
 #define RAZIDKOT_CLIENT_LONGEST_KEY_NAME 32
 #define RAZIDKOT_CLIENT_LONGEST_DATA 600
+/* The one size of a hash, SHA-256's. */
+#define RAZIDKOT_CLIENT_HASH_SIZE 32
+/* The most bytes of a request's body: a longer one, which only PsaAsymmetricVerify could have, is refused. */
+#define RAZIDKOT_CLIENT_LONGEST_BODY 4096
 /* A key's bits, which are a multiple of 8. */
 #define RAZIDKOT_CLIENT_LEAST_BITS 1024
 #define RAZIDKOT_CLIENT_MOST_BITS 4096
@@ -67,6 +72,7 @@ enum razidkot_client_provider {
 enum razidkot_client_opcode {
     RAZIDKOT_CLIENT_OPCODE_PING = 1,
     RAZIDKOT_CLIENT_OPCODE_PSA_DESTROY_KEY = 3,
+    RAZIDKOT_CLIENT_OPCODE_PSA_ASYMMETRIC_VERIFY = 5,
     RAZIDKOT_CLIENT_OPCODE_PSA_IMPORT_KEY = 6,
     RAZIDKOT_CLIENT_OPCODE_PSA_EXPORT_PUBLIC_KEY = 7,
     RAZIDKOT_CLIENT_OPCODE_LIST_PROVIDERS = 8,
@@ -87,7 +93,11 @@ enum razidkot_client_write_code {
     /* The data is not of 1 to 600 bytes. */
     RAZIDKOT_CLIENT_WRITE_DATA_ILLEGAL = 4,
     /* The bits are not 1,024 to 4,096, or no multiple of 8. */
-    RAZIDKOT_CLIENT_WRITE_BITS_ILLEGAL = 5
+    RAZIDKOT_CLIENT_WRITE_BITS_ILLEGAL = 5,
+    /* The hash is not of 32 bytes. */
+    RAZIDKOT_CLIENT_WRITE_HASH_ILLEGAL = 6,
+    /* The body would have more than RAZIDKOT_CLIENT_LONGEST_BODY bytes: the signature is too long. */
+    RAZIDKOT_CLIENT_WRITE_BODY_TOO_LONG = 7
 };
 
 /* What writing a request says, and how long it is. */
@@ -101,9 +111,10 @@ typedef struct {
 /*
  * Each writes one request to the front of the buffer, from the application of that name if `named` is true (auth type 1),
  * else from nobody (auth type 0); of nobody's the name is not looked at. The session is any number: the response repeats
- * it. Bytes of the buffer past the request stay. A request that is refused (code 1 to 5) leaves all of the buffer as it
- * was. Nothing else is refused: what the service will not do, a keystore operation for nobody or the opcodes of a provider
- * that is not there, is written as asked, and the response's status says so.
+ * it. Bytes of the buffer past the request stay. A request that is refused (code 1 to 7) leaves all of the buffer as it
+ * was. Nothing else is refused: what the service will not do, a keystore operation for nobody, the opcodes of a provider
+ * that is not there or a signature of another length than the key's, is written as asked, and the response's status says
+ * so.
  */
 
 /* Ping: which version of the protocol the service speaks. */
@@ -122,7 +133,8 @@ razidkot_client_request razidkot_client_write_list_opcodes(uint8_t *out, size_t 
 
 /*
  * PsaImportKey: keeps a public key under a name. `bytes` is its data, which the service keeps as it is, and `bits` the
- * key's length; `exported` and `verified` say whether it may be exported, and used to verify.
+ * key's length; `exported` and `verified` say whether it may be exported, and used to verify. A key that is to verify is a
+ * DER RSAPublicKey (RFC 8017); no other data is refused here.
  */
 razidkot_client_request razidkot_client_write_import(uint8_t *out, size_t out_length, uint64_t session,
                                                      bool named, const uint8_t *application, size_t application_length,
@@ -139,6 +151,20 @@ razidkot_client_request razidkot_client_write_destroy(uint8_t *out, size_t out_l
 razidkot_client_request razidkot_client_write_export(uint8_t *out, size_t out_length, uint64_t session,
                                                      bool named, const uint8_t *application, size_t application_length,
                                                      const uint8_t *name, size_t name_length);
+
+/*
+ * PsaAsymmetricVerify: is `signature` the key's on what has the SHA-256 `hash`? By RSASSA-PKCS1-v1_5 (RFC 8017, 8.2.2),
+ * the hash standing for the message's. The response's status says it and has no output: RAZIDKOT_SUCCESS for a signature
+ * that is good, RAZIDKOT_PSA_ERROR_INVALID_SIGNATURE for one that isn't, RAZIDKOT_PSA_ERROR_NOT_SUPPORTED for a key that
+ * can't be used so, RAZIDKOT_PSA_ERROR_NOT_PERMITTED for one that may not be, RAZIDKOT_PSA_ERROR_DOES_NOT_EXIST for none.
+ * The hash has RAZIDKOT_CLIENT_HASH_SIZE bytes. A signature of any length is written that leaves the body at most
+ * RAZIDKOT_CLIENT_LONGEST_BODY bytes: of 4,025 or fewer always.
+ */
+razidkot_client_request razidkot_client_write_verify(uint8_t *out, size_t out_length, uint64_t session,
+                                                     bool named, const uint8_t *application, size_t application_length,
+                                                     const uint8_t *name, size_t name_length,
+                                                     const uint8_t *hash, size_t hash_length,
+                                                     const uint8_t *signature, size_t signature_length);
 
 /* ---- Responses read */
 
@@ -185,7 +211,7 @@ enum razidkot_client_read_code {
 
 /* What a response has besides its status. Any status but RAZIDKOT_SUCCESS has nothing. */
 enum razidkot_client_output_kind {
-    /* Of PsaImportKey and PsaDestroyKey. */
+    /* Of PsaImportKey, PsaDestroyKey and PsaAsymmetricVerify. */
     RAZIDKOT_CLIENT_OUTPUT_NOTHING = 0,
     /* Of Ping: `major` and `minor`. */
     RAZIDKOT_CLIENT_OUTPUT_VERSION = 1,

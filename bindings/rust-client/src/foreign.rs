@@ -70,6 +70,20 @@ unsafe extern "C" {
         name: *const u8,
         name_length: usize,
     ) -> Request;
+    fn razidkot_client_write_verify(
+        out: *mut u8,
+        out_length: usize,
+        session: u64,
+        named: bool,
+        application: *const u8,
+        application_length: usize,
+        name: *const u8,
+        name_length: usize,
+        hash: *const u8,
+        hash_length: usize,
+        signature: *const u8,
+        signature_length: usize,
+    ) -> Request;
     fn razidkot_client_begin(state: *mut u8, state_length: usize, opcode: u16, session: u64)
         -> u32;
     fn razidkot_client_read(
@@ -212,6 +226,34 @@ pub fn write_export(
             application.len(),
             name.as_ptr(),
             name.len(),
+        )
+    }
+}
+
+/// Writes a PsaAsymmetricVerify of a signature on a hash with a key.
+pub fn write_verify(
+    out: &mut [u8],
+    session: u64,
+    named: bool,
+    application: &[u8],
+    name: &[u8],
+    hash: &[u8],
+    signature: &[u8],
+) -> Request {
+    unsafe {
+        razidkot_client_write_verify(
+            out.as_mut_ptr(),
+            out.len(),
+            session,
+            named,
+            application.as_ptr(),
+            application.len(),
+            name.as_ptr(),
+            name.len(),
+            hash.as_ptr(),
+            hash.len(),
+            signature.as_ptr(),
+            signature.len(),
         )
     }
 }

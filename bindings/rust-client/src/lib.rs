@@ -47,12 +47,12 @@ pub use opcode::{Opcode, Provider};
 pub use output::{Entries, Output};
 pub use razidkot_status::Status;
 pub use reader::{Answer, ReadRefusal, Reader, Reading, Response};
-pub use request::{Import, Operation, Request, WriteRefusal};
+pub use request::{Import, Operation, Request, Verify, WriteRefusal};
 
 /// A shorter request buffer is refused, whatever the request.
 pub const LEAST_REQUEST_BUFFER: usize = 5_120;
 /// No request is longer.
-pub const LONGEST_REQUEST: usize = 736;
+pub const LONGEST_REQUEST: usize = 4_188;
 /// The one size of a reader's state.
 pub const STATE_SIZE: usize = 1_036;
 /// No longer response is read.
@@ -65,6 +65,10 @@ pub const LONGEST_APPLICATION_NAME: usize = 64;
 pub const LONGEST_KEY_NAME: usize = 32;
 /// The most bytes of a key's data; it has at least 1.
 pub const LONGEST_DATA: usize = 600;
+/// The one size of a hash, SHA-256's.
+pub const HASH_SIZE: usize = 32;
+/// The most bytes of a request's body; only a verify could have a longer one.
+pub const LONGEST_BODY: usize = 4_096;
 /// The least bits of a key, which has a multiple of 8.
 pub const LEAST_BITS: u32 = 1_024;
 /// The most bits of a key.

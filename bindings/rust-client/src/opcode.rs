@@ -1,13 +1,14 @@
 //! The listed operations and the providers that have them: document 01, "Operations and their
-//! fields".
+//! fields", and document 02, "Checking signatures".
 
-/// A listed operation; `number` gives document 01's number.
+/// A listed operation; `number` gives the papers' number.
 #[derive(Clone, Copy, Debug, PartialEq, Eq, PartialOrd, Ord, Hash)]
 #[repr(u16)]
-#[allow(missing_docs)] // The names are document 01's.
+#[allow(missing_docs)] // The names are those of documents 01 and 02.
 pub enum Opcode {
     Ping = 1,
     PsaDestroyKey = 3,
+    PsaAsymmetricVerify = 5,
     PsaImportKey = 6,
     PsaExportPublicKey = 7,
     ListProviders = 8,
@@ -16,9 +17,10 @@ pub enum Opcode {
 
 impl Opcode {
     /// Every listed opcode, ascending.
-    pub const ALL: [Opcode; 6] = [
+    pub const ALL: [Opcode; 7] = [
         Opcode::Ping,
         Opcode::PsaDestroyKey,
+        Opcode::PsaAsymmetricVerify,
         Opcode::PsaImportKey,
         Opcode::PsaExportPublicKey,
         Opcode::ListProviders,
@@ -48,9 +50,10 @@ impl Opcode {
     pub fn provider(self) -> Provider {
         match self {
             Opcode::Ping | Opcode::ListProviders | Opcode::ListOpcodes => Provider::Core,
-            Opcode::PsaDestroyKey | Opcode::PsaImportKey | Opcode::PsaExportPublicKey => {
-                Provider::Keystore
-            }
+            Opcode::PsaDestroyKey
+            | Opcode::PsaAsymmetricVerify
+            | Opcode::PsaImportKey
+            | Opcode::PsaExportPublicKey => Provider::Keystore,
         }
     }
 }

@@ -6,7 +6,7 @@ use core::{fmt, iter};
 /// An output, read where it lies in the reader's memory. Any status but 0 has `Nothing`.
 #[derive(Clone, Debug, PartialEq, Eq)]
 pub enum Output<'a> {
-    /// Of an Import, a Destroy, or a request that was refused.
+    /// Of an Import, a Destroy, a verify whose signature is good, or a request that was refused.
     Nothing,
     /// Of a Ping.
     Version {

@@ -16,7 +16,7 @@
 
 pub use crate::foreign::{
     begin, read, read_list, write_destroy, write_export, write_import, write_list_opcodes,
-    write_list_providers, write_ping,
+    write_list_providers, write_ping, write_verify,
 };
 
 /// What writing a request says: the header's `razidkot_client_request`.

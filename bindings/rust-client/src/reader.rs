@@ -132,7 +132,7 @@ pub struct Response<'a> {
 }
 
 impl Response<'_> {
-    /// The status by its name, if document 01 lists it.
+    /// The status by its name, if it is listed.
     pub fn listed_status(&self) -> Option<Status> {
         Status::from_number(self.status)
     }

@@ -1,6 +1,6 @@
 //! A request, and writing it.
 
-use crate::{raw, Opcode};
+use crate::{raw, Opcode, HASH_SIZE};
 use core::fmt;
 
 /// A request: who asks for what, and the session that its response repeats.
@@ -18,8 +18,9 @@ impl Request<'_> {
     /// Writes the request to the front of `buffer` and says how many bytes it has; bytes past it
     /// stay. A refused request leaves all of `buffer` as it was.
     ///
-    /// What the service will not do, a keystore operation for nobody or the opcodes of a provider
-    /// that is not there, is written as asked, and the response's status says so.
+    /// What the service will not do, a keystore operation for nobody, the opcodes of a provider that
+    /// is not there or a signature of another length than the key's, is written as asked, and the
+    /// response's status says so.
     ///
     /// ```
     /// use razidkot_client::{Operation, Request, WriteRefusal, LEAST_REQUEST_BUFFER};
@@ -74,6 +75,11 @@ impl Request<'_> {
             Operation::ExportPublicKey { name } => {
                 raw::write_export(out, session, named, application, name)
             }
+            Operation::AsymmetricVerify(Verify {
+                name,
+                hash,
+                signature,
+            }) => raw::write_verify(out, session, named, application, name, hash, signature),
         }
     }
 }
@@ -102,6 +108,8 @@ pub enum Operation<'a> {
         /// 1 to 32 bytes, each 0x21 to 0x7E.
         name: &'a [u8],
     },
+    /// Is a signature the key's? Status 0 says that it is.
+    AsymmetricVerify(Verify<'a>),
 }
 
 impl Operation<'_> {
@@ -114,6 +122,7 @@ impl Operation<'_> {
             Operation::ImportKey(_) => Opcode::PsaImportKey,
             Operation::DestroyKey { .. } => Opcode::PsaDestroyKey,
             Operation::ExportPublicKey { .. } => Opcode::PsaExportPublicKey,
+            Operation::AsymmetricVerify(_) => Opcode::PsaAsymmetricVerify,
         }
     }
 }
@@ -129,8 +138,52 @@ pub struct Import<'a> {
     pub bits: u32,
     /// May it be exported?
     pub export_allowed: bool,
-    /// May it be used to verify?
+    /// May it be used to verify? Its data is to be a DER RSAPublicKey (RFC 8017) then; Import takes
+    /// any.
     pub verify_allowed: bool,
+}
+
+/// A signature to be checked: RSASSA-PKCS1-v1_5 with SHA-256 (RFC 8017, 8.2.2), the hash standing
+/// for the message's. Status 0 says that it is the key's, [`PsaErrorInvalidSignature`] that it is
+/// not, [`PsaErrorNotSupported`] that the key's data can't be used so.
+///
+/// [`PsaErrorInvalidSignature`]: crate::Status::PsaErrorInvalidSignature
+/// [`PsaErrorNotSupported`]: crate::Status::PsaErrorNotSupported
+#[derive(Clone, Copy, Debug, PartialEq, Eq)]
+pub struct Verify<'a> {
+    /// The key's name: 1 to 32 bytes, each 0x21 to 0x7E.
+    pub name: &'a [u8],
+    /// The SHA-256 of what is signed. It has [`HASH_SIZE`] bytes, or the request is refused.
+    pub hash: &'a [u8],
+    /// The signature: of any length, but the body has at most
+    /// [`LONGEST_BODY`](crate::LONGEST_BODY) bytes.
+    pub signature: &'a [u8],
+}
+
+impl<'a> Verify<'a> {
+    /// One whose hash has the right length by its type, so that
+    /// [`WriteRefusal::HashIllegal`] can't be said.
+    ///
+    /// ```
+    /// use razidkot_client::{Operation, Request, Verify, LEAST_REQUEST_BUFFER};
+    ///
+    /// let (hash, signature) = ([0x5A; 32], [0xA5; 256]);
+    /// let request = Request {
+    ///     session: 0,
+    ///     application: Some(b"scanner"),
+    ///     operation: Operation::AsymmetricVerify(Verify::new(b"a", &hash, &signature)),
+    /// };
+    /// let mut buffer = [0; LEAST_REQUEST_BUFFER];
+    /// // The header, the name's field, the hash's, the signature's, and the application's name.
+    /// assert_eq!(request.write(&mut buffer), Ok(28 + 3 + 34 + 259 + 7));
+    /// ```
+    pub const fn new(name: &'a [u8], hash: &'a [u8; HASH_SIZE], signature: &'a [u8]) -> Verify<'a> {
+        Verify {
+            name,
+            hash,
+            signature,
+        }
+    }
 }
 
 /// Why a request is not written; the first that applies, in this order.
@@ -147,16 +200,23 @@ pub enum WriteRefusal {
     DataIllegal = 4,
     /// Bits that are not 1,024 to 4,096, or no multiple of 8.
     BitsIllegal = 5,
+    /// A hash not of [`HASH_SIZE`] bytes.
+    HashIllegal = 6,
+    /// A body that would have more than [`LONGEST_BODY`](crate::LONGEST_BODY) bytes: the signature
+    /// is too long.
+    BodyTooLong = 7,
 }
 
 impl WriteRefusal {
     /// Every refusal, in the order in which they are judged.
-    pub const ALL: [WriteRefusal; 5] = [
+    pub const ALL: [WriteRefusal; 7] = [
         WriteRefusal::BufferTooSmall,
         WriteRefusal::ApplicationNameIllegal,
         WriteRefusal::KeyNameIllegal,
         WriteRefusal::DataIllegal,
         WriteRefusal::BitsIllegal,
+        WriteRefusal::HashIllegal,
+        WriteRefusal::BodyTooLong,
     ];
 
     /// The number that the archive says, `raw::Request::code`.
@@ -173,6 +233,8 @@ impl fmt::Display for WriteRefusal {
             WriteRefusal::KeyNameIllegal => "the key's name",
             WriteRefusal::DataIllegal => "the key's data",
             WriteRefusal::BitsIllegal => "the key's bits",
+            WriteRefusal::HashIllegal => "a hash not of 32 bytes",
+            WriteRefusal::BodyTooLong => "a body above 4,096 bytes",
         };
         write!(out, "request not written: {why}")
     }

@@ -2,7 +2,7 @@
 
 use razidkot_client::{
     Import, Opcode, Operation, Output, ReadRefusal, Reader, Reading, Request, Response, Status,
-    LONGEST_RESPONSE, MOST_ENTRIES, STATE_SIZE,
+    Verify, LONGEST_RESPONSE, MOST_ENTRIES, STATE_SIZE,
 };
 
 const SESSION: u64 = 0x0102_0304_0506_0708;
@@ -15,6 +15,9 @@ fn operation(opcode: Opcode) -> Operation<'static> {
         Opcode::ListOpcodes => Operation::ListOpcodes { provider: 1 },
         Opcode::PsaDestroyKey => Operation::DestroyKey { name },
         Opcode::PsaExportPublicKey => Operation::ExportPublicKey { name },
+        Opcode::PsaAsymmetricVerify => {
+            Operation::AsymmetricVerify(Verify::new(name, &[0; 32], b"\xCC"))
+        }
         Opcode::PsaImportKey => Operation::ImportKey(Import {
             name,
             data: b"\xAA",
@@ -72,8 +75,12 @@ fn a_version_is_read() {
 }
 
 #[test]
-fn imports_and_destroys_are_answered_with_nothing() {
-    for opcode in [Opcode::PsaImportKey, Opcode::PsaDestroyKey] {
+fn imports_destroys_and_verifies_are_answered_with_nothing() {
+    for opcode in [
+        Opcode::PsaImportKey,
+        Opcode::PsaDestroyKey,
+        Opcode::PsaAsymmetricVerify,
+    ] {
         expect_output(opcode, b"", |output| assert_eq!(output, Output::Nothing));
     }
 }

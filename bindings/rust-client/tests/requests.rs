@@ -1,8 +1,9 @@
 //! Requests written through the safe types: their bytes, their bounds and what is refused.
 
 use razidkot_client::{
-    Import, Opcode, Operation, Request, WriteRefusal, LEAST_BITS, LEAST_REQUEST_BUFFER,
-    LONGEST_APPLICATION_NAME, LONGEST_DATA, LONGEST_KEY_NAME, LONGEST_REQUEST, MOST_BITS,
+    Import, Opcode, Operation, Request, Verify, WriteRefusal, HASH_SIZE, LEAST_BITS,
+    LEAST_REQUEST_BUFFER, LONGEST_APPLICATION_NAME, LONGEST_BODY, LONGEST_DATA, LONGEST_KEY_NAME,
+    LONGEST_REQUEST, MOST_BITS,
 };
 
 const SESSION: u64 = 0x0102_0304_0506_0708;
@@ -14,6 +15,8 @@ const IMPORT: Import = Import {
     export_allowed: true,
     verify_allowed: true,
 };
+
+const VERIFY: Verify = Verify::new(b"a", &[0x5A; HASH_SIZE], b"\xCC\xDD");
 
 fn request<'a>(application: Option<&'a [u8]>, operation: Operation<'a>) -> Request<'a> {
     Request {
@@ -65,7 +68,9 @@ fn expect_refused(request: Request, refusal: WriteRefusal) {
 fn each_operation_is_written_as_asked() {
     use Operation::*;
     let import = b"\x0A\x01a\x12\x02\xAA\xBB\x18\x80\x10\x20\x01\x28\x01";
-    let named: [(Operation, u8, u16, &[u8]); 7] = [
+    let hash = [0x5A; 32];
+    let verify = [b"\x0A\x01a\x12\x20", &hash[..], b"\x1A\x02\xCC\xDD"].concat();
+    let named: [(Operation, u8, u16, &[u8]); 8] = [
         (Ping, 0, 1, b""),
         (ListProviders, 0, 8, b""),
         (ListOpcodes { provider: 1 }, 0, 9, b"\x08\x01"),
@@ -73,6 +78,7 @@ fn each_operation_is_written_as_asked() {
         (ImportKey(IMPORT), 1, 6, import),
         (DestroyKey { name: b"key" }, 1, 3, b"\x0A\x03key"),
         (ExportPublicKey { name: b"key" }, 1, 7, b"\x0A\x03key"),
+        (AsymmetricVerify(VERIFY), 1, 5, &verify),
     ];
     for (operation, provider, opcode, body) in named {
         assert_eq!(operation.opcode().number(), opcode);
@@ -111,7 +117,7 @@ fn bounds_themselves_are_written() {
         ..IMPORT
     };
     let (result, _) = written(&request(Some(&application), Operation::ImportKey(longest)));
-    assert_eq!(result, Ok(LONGEST_REQUEST));
+    assert_eq!(result, Ok(28 + 644 + LONGEST_APPLICATION_NAME));
     let least = Import {
         data: &[0],
         bits: LEAST_BITS,
@@ -119,6 +125,48 @@ fn bounds_themselves_are_written() {
     };
     let (result, _) = written(&request(Some(b"b"), Operation::ImportKey(least)));
     assert_eq!(result, Ok(28 + 13 + 1));
+}
+
+/// The name's field has 2 bytes more than the name, the hash's 34, the signature's 3 more than it.
+fn longest_signature(name: &[u8]) -> usize {
+    LONGEST_BODY - (2 + name.len()) - (2 + HASH_SIZE) - 3
+}
+
+#[test]
+fn a_signature_may_fill_the_body_and_not_a_byte_more() {
+    let application = [b'~'; LONGEST_APPLICATION_NAME];
+    for name in [&b"a"[..], &[b'!'; LONGEST_KEY_NAME]] {
+        let signature = vec![0xFF; longest_signature(name) + 1];
+        let verify = |length: usize| {
+            let signature = &signature[..length];
+            let verify = Verify {
+                name,
+                signature,
+                ..VERIFY
+            };
+            request(Some(&application), Operation::AsymmetricVerify(verify))
+        };
+        let (result, buffer) = written(&verify(signature.len() - 1));
+        assert_eq!(result, Ok(LONGEST_REQUEST));
+        assert_eq!(buffer[20..24], (LONGEST_BODY as u32).to_le_bytes());
+        expect_refused(verify(signature.len()), WriteRefusal::BodyTooLong);
+    }
+    // The least bound of all names: what the header promises.
+    assert_eq!(longest_signature(&[b'!'; LONGEST_KEY_NAME]), 4_025);
+}
+
+#[test]
+fn a_signature_without_bytes_is_left_out() {
+    let verify = Verify {
+        signature: b"",
+        ..VERIFY
+    };
+    let body = [b"\x0A\x01a\x12\x20", &[0x5A; 32][..]].concat();
+    let bytes = expected(1, 1, 5, &body, b"b");
+    expect_written(
+        request(Some(b"b"), Operation::AsymmetricVerify(verify)),
+        &bytes,
+    );
 }
 
 #[test]
@@ -131,7 +179,8 @@ fn past_the_bounds_requests_are_refused() {
         let import = Operation::ImportKey(Import { name, ..IMPORT });
         let destroy = Operation::DestroyKey { name };
         let export = Operation::ExportPublicKey { name };
-        for operation in [import, destroy, export] {
+        let verify = Operation::AsymmetricVerify(Verify { name, ..VERIFY });
+        for operation in [import, destroy, export, verify] {
             expect_refused(request(Some(b"b"), operation), KeyNameIllegal);
         }
     }
@@ -142,6 +191,19 @@ fn past_the_bounds_requests_are_refused() {
     for bits in [0, LEAST_BITS - 8, LEAST_BITS + 4, MOST_BITS + 8, u32::MAX] {
         let import = Operation::ImportKey(Import { bits, ..IMPORT });
         expect_refused(request(Some(b"b"), import), BitsIllegal);
+    }
+    for length in [0, 1, HASH_SIZE - 1, HASH_SIZE + 1, 64, LEAST_REQUEST_BUFFER] {
+        let hash = &vec![0x5A; length];
+        let verify = Operation::AsymmetricVerify(Verify { hash, ..VERIFY });
+        expect_refused(request(Some(b"b"), verify), HashIllegal);
+    }
+    for length in [4_057, LEAST_REQUEST_BUFFER, 70_000] {
+        let signature = &vec![0; length];
+        let verify = Operation::AsymmetricVerify(Verify {
+            signature,
+            ..VERIFY
+        });
+        expect_refused(request(Some(b"b"), verify), BodyTooLong);
     }
 }
 
@@ -176,6 +238,25 @@ fn the_first_refusal_that_applies_is_said() {
         request(Some(b"b"), Operation::ImportKey(with_data)),
         BitsIllegal,
     );
+}
+
+#[test]
+fn a_verify_is_refused_for_its_names_then_its_hash_then_its_body() {
+    use WriteRefusal::*;
+    let all = Verify {
+        name: b"",
+        hash: b"",
+        signature: &[0; LONGEST_BODY],
+    };
+    let by = |application, verify| request(Some(application), Operation::AsymmetricVerify(verify));
+    let mut short = [0xEE; LEAST_REQUEST_BUFFER - 1];
+    assert_eq!(by(b"", all).write(&mut short), Err(BufferTooSmall));
+    expect_refused(by(b"", all), ApplicationNameIllegal);
+    expect_refused(by(b"b", all), KeyNameIllegal);
+    let named = Verify { name: b"a", ..all };
+    expect_refused(by(b"b", named), HashIllegal);
+    let hash = &[0; HASH_SIZE];
+    expect_refused(by(b"b", Verify { hash, ..named }), BodyTooLong);
 }
 
 #[test]

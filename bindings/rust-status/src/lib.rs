@@ -1,15 +1,15 @@
-//! The statuses that a response carries: document 01, "Order of judgement on one request". The
-//! service's crate and the client's both hand them on, so that a program with both has one type,
-//! and neither links the other's archive.
+//! The statuses that a response carries: document 01, "Order of judgement on one request", and
+//! document 02, "Checking signatures". The service's crate and the client's both hand them on, so
+//! that a program with both has one type, and neither links the other's archive.
 #![no_std]
 
 /// How many statuses a request may be refused with.
-pub const REFUSED_STATUSES: usize = 17;
+pub const REFUSED_STATUSES: usize = 19;
 
-/// What a response says of its request; `number` gives document 01's number.
+/// What a response says of its request; `number` gives the papers' number.
 #[derive(Clone, Copy, Debug, PartialEq, Eq, PartialOrd, Ord, Hash)]
 #[repr(u16)]
-#[allow(missing_docs)] // The names are document 01's.
+#[allow(missing_docs)] // The names are those of documents 01 and 02.
 pub enum Status {
     Success = 0,
     WrongProviderID = 1,
@@ -25,10 +25,12 @@ pub enum Status {
     NotAuthenticated = 19,
     BodySizeExceedsLimit = 20,
     PsaErrorNotPermitted = 1133,
+    PsaErrorNotSupported = 1134,
     PsaErrorInvalidArgument = 1135,
     PsaErrorAlreadyExists = 1139,
     PsaErrorDoesNotExist = 1140,
     PsaErrorInsufficientStorage = 1142,
+    PsaErrorInvalidSignature = 1149,
 }
 
 impl Status {
@@ -47,10 +49,12 @@ impl Status {
         Status::NotAuthenticated,
         Status::BodySizeExceedsLimit,
         Status::PsaErrorNotPermitted,
+        Status::PsaErrorNotSupported,
         Status::PsaErrorInvalidArgument,
         Status::PsaErrorAlreadyExists,
         Status::PsaErrorDoesNotExist,
         Status::PsaErrorInsufficientStorage,
+        Status::PsaErrorInvalidSignature,
     ];
 
     /// The number on the wire.
@@ -58,12 +62,13 @@ impl Status {
         self as u16
     }
 
-    /// The status of this number, if document 01 lists it.
+    /// The status of this number, if it is listed.
     ///
     /// ```
     /// use razidkot_status::Status;
     ///
     /// assert_eq!(Status::from_number(1140), Some(Status::PsaErrorDoesNotExist));
+    /// assert_eq!(Status::from_number(1149), Some(Status::PsaErrorInvalidSignature));
     /// assert_eq!(Status::from_number(5), None);
     /// ```
     pub fn from_number(number: u16) -> Option<Status> {
