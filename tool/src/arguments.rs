@@ -10,7 +10,15 @@ use std::str::FromStr;
 /// Options that stand alone, of all commands.
 const FLAGS: [&str; 4] = ["--help", "-h", "--export", "--verify"];
 /// Options that a value follows.
-const VALUED: [&str; 5] = ["-o", "--app", "--session", "--bits", "--roster"];
+const VALUED: [&str; 7] = [
+    "-o",
+    "--app",
+    "--session",
+    "--bits",
+    "--hash",
+    "--signature",
+    "--roster",
+];
 
 /// What is left of the command line.
 pub struct Arguments {

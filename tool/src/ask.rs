@@ -2,10 +2,11 @@
 
 use crate::arguments::{number, Arguments};
 use crate::key::{self, PublicKey};
-use crate::{input, output, Failure};
+use crate::{hash, input, output, Failure};
 use razidkot_client::{Import, Opcode, Operation, Output, Provider, Reader, Reading, Request};
-use razidkot_client::{Response, WriteRefusal, LEAST_REQUEST_BUFFER};
+use razidkot_client::{Response, Status, Verify, WriteRefusal, LEAST_REQUEST_BUFFER};
 use std::error::Error;
+use std::ffi::OsString;
 use std::fmt::Debug;
 use std::fs;
 use std::io::{self, Write};
@@ -33,6 +34,7 @@ enum Asked {
     Destroy {
         name: Vec<u8>,
     },
+    Verify(Signature),
 }
 
 /// A key to be imported, and the file it is from.
@@ -43,6 +45,15 @@ struct KeyFile {
     bits: u32,
     export_allowed: bool,
     verify_allowed: bool,
+}
+
+/// A signature to be checked, and the words that say where it and the hash are from.
+struct Signature {
+    name: Vec<u8>,
+    hash: Vec<u8>,
+    hash_from: OsString,
+    signature: Vec<u8>,
+    file: PathBuf,
 }
 
 /// Does `ask ..`.
@@ -78,6 +89,7 @@ impl Ask {
             Some("import") => import(arguments),
             Some("export") => export(arguments),
             Some("destroy") => destroy(arguments),
+            Some("verify") => verify(arguments),
             _ => Err(Failure::unknown("ask", "operation", &operation)),
         }?;
         Ok(Ask {
@@ -114,6 +126,11 @@ impl Asked {
             }),
             Asked::Export { name, .. } => Operation::ExportPublicKey { name },
             Asked::Destroy { name } => Operation::DestroyKey { name },
+            Asked::Verify(asked) => Operation::AsymmetricVerify(Verify {
+                name: &asked.name,
+                hash: &asked.hash,
+                signature: &asked.signature,
+            }),
         }
     }
 
@@ -122,7 +139,8 @@ impl Asked {
         match self {
             Asked::Import(KeyFile { name, .. })
             | Asked::Export { name, .. }
-            | Asked::Destroy { name } => name,
+            | Asked::Destroy { name }
+            | Asked::Verify(Signature { name, .. }) => name,
             Asked::Ping | Asked::Providers | Asked::Opcodes(_) => b"",
         }
     }
@@ -189,6 +207,27 @@ fn destroy(mut arguments: Arguments) -> Result<Asked, Failure> {
     Ok(Asked::Destroy { name })
 }
 
+fn verify(mut arguments: Arguments) -> Result<Asked, Failure> {
+    const COMMAND: &str = "ask verify";
+    let name = arguments.name(COMMAND)?;
+    let missing = |what: &str| Failure::usage(COMMAND, format!("{what} is missing"));
+    let hash_from = arguments.value("--hash");
+    let hash_from = hash_from.ok_or_else(|| missing("--hash HEX or --hash FILE"))?;
+    let file = arguments.path("--signature");
+    let file = file.ok_or_else(|| missing("--signature FILE"))?;
+    arguments.end(COMMAND)?;
+
+    let hash = hash::read(&hash_from)?;
+    let signature = fs::read(&file).map_err(|error| Failure::at(&file, error))?;
+    Ok(Asked::Verify(Signature {
+        name,
+        hash,
+        hash_from,
+        signature,
+        file,
+    }))
+}
+
 // ---- the conversation
 
 /// Sends a request and reads until its response is whole or refused, in whatever chunks it comes.
@@ -233,6 +272,14 @@ impl Ask {
                 let (file, bits) = (key.file.display(), key.bits);
                 format!("{file}: {bits} bits, not 1024 to 4096 in multiples of 8")
             }
+            (WriteRefusal::HashIllegal, Asked::Verify(asked)) => {
+                let (from, length) = (asked.hash_from.display(), asked.hash.len());
+                format!("--hash {from}: {length} bytes, not the 32 of a SHA-256")
+            }
+            (WriteRefusal::BodyTooLong, Asked::Verify(asked)) => {
+                let (file, length) = (asked.file.display(), asked.signature.len());
+                format!("{file}: {length} bytes of signature, more than a request can have")
+            }
             (other, _) => other.to_string(),
         };
         Failure::Failed(reason)
@@ -240,16 +287,33 @@ impl Ask {
 
     fn print(&self, response: Response, out: &mut dyn Write) -> Result<(), Failure> {
         if response.status != 0 {
-            return Err(Failure::at(&self.socket, refused(&response)));
+            return Err(self.refused(&response));
         }
         match response.output {
-            Output::Nothing => Ok(()),
+            Output::Nothing => match self.asked {
+                Asked::Verify(_) => writeln!(out, "good signature"),
+                _ => Ok(()),
+            },
             Output::Version { major, minor } => writeln!(out, "{major}.{minor}"),
             Output::Providers(entries) => list(entries, Provider::from_number, out),
             Output::Opcodes(entries) => list(entries, Opcode::from_number, out),
             Output::Data(data) => return output::write(data, self.asked.destination(), out),
         }
         .map_err(Failure::output)
+    }
+
+    /// A status other than 0. That a signature is bad is an answer to what was asked, and told apart
+    /// from all else.
+    fn refused(&self, response: &Response) -> Failure {
+        match (&self.asked, response.listed_status()) {
+            (Asked::Verify(_), Some(status @ Status::PsaErrorInvalidSignature)) => {
+                let (socket, number) = (self.socket.display(), response.status);
+                Failure::BadSignature(format!(
+                    "{socket}: bad signature: {status:?} (status {number})"
+                ))
+            }
+            _ => Failure::at(&self.socket, refused(response)),
+        }
     }
 }
 

@@ -93,7 +93,7 @@ impl Capture {
         self.request.clear();
         writeln!(
             out,
-            "{offset:>10} {length:>10} {status:>7} {name:<31} {operation:<18} {application}"
+            "{offset:>10} {length:>10} {status:>7} {name:<31} {operation:<19} {application}"
         )
     }
 
@@ -118,7 +118,7 @@ fn heading(out: &mut dyn Write) -> io::Result<()> {
     let [operation, application] = ["operation", "application"];
     writeln!(
         out,
-        "{offset:>10} {length:>10} {status:>7} {name:<31} {operation:<18} {application}"
+        "{offset:>10} {length:>10} {status:>7} {name:<31} {operation:<19} {application}"
     )
 }
 

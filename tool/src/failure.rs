@@ -17,6 +17,8 @@ pub enum Failure {
     },
     /// It was understood, and failed or was refused.
     Failed(String),
+    /// The service checked a signature, and it is not the key's.
+    BadSignature(String),
 }
 
 impl Failure {
@@ -25,6 +27,7 @@ impl Failure {
         match self {
             Failure::Failed(_) => 1,
             Failure::Usage { .. } => 2,
+            Failure::BadSignature(_) => 3,
         }
     }
 
@@ -51,7 +54,7 @@ impl Failure {
 impl fmt::Display for Failure {
     fn fmt(&self, out: &mut fmt::Formatter) -> fmt::Result {
         match self {
-            Failure::Failed(reason) => out.write_str(reason),
+            Failure::Failed(reason) | Failure::BadSignature(reason) => out.write_str(reason),
             Failure::Usage { command, reason } => {
                 let space = if command.is_empty() { "" } else { " " };
                 write!(out, "{reason}\n`razidkot{space}{command} --help` says more")

@@ -14,7 +14,7 @@ razidkot: roster files, a key service's client, and captured streams
 
 Each command has a --help of its own. `--` ends the options, for names that begin with a dash.
 The status is 0 if all is well, 1 if something failed or was refused, 2 if the command line is
-not understood.
+not understood, 3 if `ask .. verify` was told that a signature is bad.
 ";
 
 const ROSTER: &str = "\
@@ -51,11 +51,14 @@ Sends one request to the key service at the Unix socket SOCKET, and prints what 
                           keep FILE's public key under this name
   export NAME [-o FILE]   the data of a key, to FILE or standard output
   destroy NAME            drop a key
+  verify NAME --hash HEX|FILE --signature FILE
+                          check a signature with a key: status 0 if it is good, 3 if it is bad
 
   --app NAME              the application that asks; without it nobody does
   --session N             the session that the response has to repeat, 0 if not said
 
-A status other than 0 is said on standard error by name and number, and the program's status is 1.
+A status other than 0 is said on standard error by name and number, and the program's status is 1,
+or 3 where `verify` says that the signature is bad.
 ";
 
 const ASK_PING: &str = "\
@@ -111,6 +114,21 @@ razidkot ask SOCKET destroy NAME --app NAME [--session N]
 Drops the application's key.
 ";
 
+const ASK_VERIFY: &str = "\
+razidkot ask SOCKET verify NAME --hash HEX|FILE --signature FILE --app NAME [--session N]
+
+Asks the service whether a signature is that of the application's key: RSASSA-PKCS1-v1_5 with
+SHA-256 (RFC 8017). The key was imported with --verify.
+
+  --hash HEX|FILE     the SHA-256 of what was signed: 64 hexadecimal digits, as `sha256sum` prints
+                      them, or a file of its 32 bytes, as `openssl dgst -sha256 -binary` writes it
+  --signature FILE    the signature's bytes, as `openssl dgst -sha256 -sign KEY` writes them
+
+Prints `good signature`, with status 0, only if the service has checked it and it is good. The
+status is 3 if it is bad (PsaErrorInvalidSignature), and 1 if it was not checked: no such key, one
+that may not verify, one that is no RSA public key of its bits (PsaErrorNotSupported), no service.
+";
+
 const CAPTURE: &str = "\
 razidkot capture show FILE --roster FILE     print a captured stream request by request
 ";
@@ -133,7 +151,7 @@ many bytes came behind a close. Refused requests do not change the program's sta
 ";
 
 /// The words of each command, and its help.
-const TEXTS: [(&str, &str); 13] = [
+const TEXTS: [(&str, &str); 14] = [
     ("", TOP),
     ("roster", ROSTER),
     ("roster make", ROSTER_MAKE),
@@ -145,6 +163,7 @@ const TEXTS: [(&str, &str); 13] = [
     ("ask import", ASK_IMPORT),
     ("ask export", ASK_EXPORT),
     ("ask destroy", ASK_DESTROY),
+    ("ask verify", ASK_VERIFY),
     ("capture", CAPTURE),
     ("capture show", CAPTURE_SHOW),
 ];

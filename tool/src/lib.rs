@@ -6,6 +6,7 @@ mod arguments;
 mod ask;
 mod capture;
 mod failure;
+mod hash;
 mod help;
 mod input;
 pub mod key;

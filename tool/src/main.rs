@@ -1,5 +1,5 @@
 //! The program `razidkot`. Its status is 0, 1 for what failed or was refused, 2 for a command line
-//! that is not understood.
+//! that is not understood, 3 for a signature that is not the key's.
 
 use razidkot_tool::Failure;
 use std::env;
