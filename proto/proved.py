@@ -12,8 +12,8 @@ REFUSED = ctypes.c_size_t(-1).value
 
 REGISTRY_SIZE = 20_968
 CONNECTION_SIZE = 4_431
-# taken, answered, dropped; served by 8 lines; unauthenticated; refused by 17 statuses
-COUNTERS = 3 + 8 + 1 + 17
+# taken, answered, dropped; served by 8 lines; unauthenticated; refused by 19 statuses
+COUNTERS = 3 + 8 + 1 + 19
 RESPONSE_BUFFER = 1_024
 RESPONSE_HEADER = "<IHBBBQBIHH"
 
@@ -147,6 +147,7 @@ class Client:
         "import": SLICE + SLICE + [ctypes.c_uint32, ctypes.c_bool, ctypes.c_bool],
         "destroy": SLICE,
         "export": SLICE,
+        "verify": SLICE * 3,
     }
 
     def __init__(self, path):

@@ -20,20 +20,21 @@ from pathlib import Path
 
 HERE = Path(__file__).parent
 
-# ---- document 01, "Operations and their fields"
+# ---- document 01, "Operations and their fields"; document 02, "Checking signatures"
 
 CORE, KEYSTORE = 0, 1
 PING, LIST_PROVIDERS, LIST_OPCODES = 1, 8, 9
-DESTROY, IMPORT, EXPORT = 3, 6, 7
+DESTROY, VERIFY, IMPORT, EXPORT = 3, 5, 6, 7
 OPERATIONS = {
     PING: "Ping",
     LIST_PROVIDERS: "ListProviders",
     LIST_OPCODES: "ListOpcodes",
     DESTROY: "Destroy",
+    VERIFY: "Verify",
     IMPORT: "Import",
     EXPORT: "Export",
 }
-STATUSES = [0, 1, 2, 3, 4, 6, 7, 9, 11, 12, 17, 19, 20, 1133, 1135, 1139, 1140, 1142]
+STATUSES = [0, 1, 2, 3, 4, 6, 7, 9, 11, 12, 17, 19, 20, 1133, 1134, 1135, 1139, 1140, 1142, 1149]
 SLOTS = 4
 
 # The roster, in file order: the line's number is the place here.
@@ -83,14 +84,81 @@ def import_body(name, data, bits, export=True, verify=True):
     )
 
 
+def verify_body(name, digest, signature):
+    return name_body(name) + bytes_field(2, digest) + bytes_field(3, signature)
+
+
+# ---- keys: RFC 8017, from labels, so that each run makes the same
+
+EXPONENT = 65_537
+# DigestInfo of SHA-256, up to the hash.
+DIGEST_INFO = bytes.fromhex("3031300d060960864801650304020105000420")
+
+
+def number_from(label, bits):
+    return int.from_bytes(hashlib.shake_256(label.encode()).digest(bits // 8), "big")
+
+
+def rsa_public_key(modulus):
+    """The DER of an RSAPublicKey; the modulus has 1,024 bits or more, in whole bytes."""
+    content = b"\x00" + modulus.to_bytes(modulus.bit_length() // 8, "big")
+    integer = b"\x02\x82" + struct.pack(">H", len(content)) + content
+    sequence = integer + b"\x02\x03" + EXPONENT.to_bytes(3, "big")
+    return b"\x30\x82" + struct.pack(">H", len(sequence)) + sequence
+
+
 def public_key(label, bits):
-    """Bytes in the shape of a DER RSAPublicKey; the modulus is made from the label and is no real one."""
-    modulus = bytearray(hashlib.shake_256(label.encode()).digest(bits // 8))
-    modulus[0] |= 0x80
-    modulus[-1] |= 1
-    integer = b"\x02\x82" + struct.pack(">H", len(modulus) + 1) + b"\x00" + modulus
-    content = integer + b"\x02\x03\x01\x00\x01"
-    return b"\x30\x82" + struct.pack(">H", len(content)) + content
+    """A DER RSAPublicKey whose modulus is any odd number: nobody can sign with it."""
+    return rsa_public_key(number_from(label, bits) | 1 << (bits - 1) | 1)
+
+
+def is_prime(number):
+    """Miller and Rabin's test by the first primes, which are tried as divisors before."""
+    bases = [2, 3, 5, 7, 11, 13, 17, 19, 23, 29, 31, 37]
+    if any(number % base == 0 for base in bases):
+        return number in bases
+    odd, twos = number - 1, 0
+    while odd % 2 == 0:
+        odd, twos = odd // 2, twos + 1
+
+    def passes(base):
+        power = pow(base, odd, number)
+        powers = [pow(power, 2**square, number) for square in range(twos)]
+        return power == 1 or number - 1 in powers
+
+    return all(map(passes, bases))
+
+
+def prime_from(label, bits):
+    """The first prime that will do for RSA, of exactly so many bits: two give a modulus of twice as many."""
+    number = number_from(label, bits) | 3 << (bits - 2) | 1
+    while number % EXPONENT == 1 or not is_prime(number):
+        number += 2
+    return number
+
+
+class SigningKey:
+    """A key that can sign, for samples and tests alone: its label tells all of it."""
+
+    def __init__(self, label, bits):
+        p, q = (prime_from(f"{label} {name}", bits // 2) for name in "pq")
+        self.bits = bits
+        self.modulus = p * q
+        self._private = pow(EXPONENT, -1, (p - 1) * (q - 1))
+
+    def data(self):
+        return rsa_public_key(self.modulus)
+
+    def sign(self, digest):
+        """RSASSA-PKCS1-v1_5 with SHA-256, of a hash."""
+        size = self.bits // 8
+        info = b"\x00" + DIGEST_INFO + digest
+        encoded = b"\x00\x01" + b"\xff" * (size - 2 - len(info)) + info
+        return pow(int.from_bytes(encoded, "big"), self._private, self.modulus).to_bytes(size, "big")
+
+
+def digest_of(message):
+    return hashlib.sha256(message).digest()
 
 
 # ---- requests: document 01, "Bytes on the wire"
@@ -162,6 +230,10 @@ def destroy_key(application, name, status=0, **fields):
     return keystore(application, DESTROY, name_body(name), status, **fields)
 
 
+def verify(application, name, digest, signature, status=0, **fields):
+    return keystore(application, VERIFY, verify_body(name, digest, signature), status, **fields)
+
+
 # ---- a day at the reconstruction servers
 
 
@@ -217,6 +289,31 @@ def unlisted_fields():
     return [
         core(PING, body=number_field(1, 7) + groups(16)),
         keystore("recon-a", EXPORT, number_field(1, 5) + name + bytes_field(9, b"newer") + groups(16)),
+    ]
+
+
+def signatures():
+    """A series is checked with the viewer's key; then what is no signature of it, in the order of judgement."""
+    key = SigningKey("viewer series", 2048)
+    series, other = digest_of(b"series 1"), digest_of(b"series 2")
+    signature = key.sign(series)
+    return [
+        keystore("viewer", IMPORT, import_body("series", key.data(), key.bits, export=False)),
+        verify("viewer", "series", series, signature, session=9),
+        verify("viewer", "series", other, signature, 1149),
+        # Of another length, and not below the modulus.
+        verify("viewer", "series", series, b"\x00" + signature, 1149),
+        verify("viewer", "series", series, b"\xff" * 256, 1149),
+        verify("viewer", "", series, signature, 1135),
+        verify("recon-a", "series", series, signature, 1140),
+        # Imported without leave to verify; that the hash is short is not judged any more.
+        verify("recon-b", "mr-0001", series[1:], signature, 1133),
+        verify("viewer", "series", series[1:], signature, 1135),
+        # A key of fewer bits than it was said to have, and data that is no key at all.
+        keystore("viewer", IMPORT, import_body("short", key.data(), 2056)),
+        keystore("viewer", IMPORT, import_body("note", b"no key", 2048)),
+        verify("viewer", "short", series, signature, 1134),
+        verify("viewer", "note", series, signature, 1134),
     ]
 
 
@@ -340,6 +437,7 @@ def day():
         *greetings(),
         *keys_of_the_servers(),
         *unlisted_fields(),
+        *signatures(),
         *full_archive(),
         *bad_headers(),
         *bad_authentication(),

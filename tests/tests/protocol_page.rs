@@ -18,7 +18,7 @@ use std::collections::{BTreeMap, BTreeSet};
 use std::fmt::Debug;
 
 /// How many examples the page has. It says so itself, and none may get lost.
-const EXAMPLES: usize = 21;
+const EXAMPLES: usize = 23;
 const ROSTER: &str = "The roster of all examples";
 
 // ---- The examples
@@ -424,7 +424,7 @@ fn the_order_of_judgement_is_that_of_the_compiled_service() {
         assert_eq!(said, Vec::from_iter(first), "{draft:?}");
     }
     // Every status of the third step is there, or named below the table.
-    let elsewhere = [0, 17, 20, 1133, 1140];
+    let elsewhere = [0, 17, 20, 1133, 1134, 1140, 1149];
     let all: BTreeSet<u64> = order.into_iter().chain(elsewhere).collect();
     assert_eq!(all.len(), 1 + Status::REFUSED.len());
 }
@@ -477,6 +477,11 @@ fn the_limits_are_the_constants() {
         LONGEST_REQUEST as u64,
     );
     expect(
+        "the body of a request that the client writes",
+        0,
+        LONGEST_BODY as u64,
+    );
+    expect(
         "a response that the service writes",
         26,
         razidkot::LONGEST_RESPONSE as u64,
@@ -495,6 +500,7 @@ fn the_limits_are_the_constants() {
     expect("a key's name", 1, LONGEST_KEY_NAME as u64);
     expect("a key's data", 1, LONGEST_DATA as u64);
     expect("bits, a multiple of 8", LEAST_BITS.into(), MOST_BITS.into());
+    expect("a hash", HASH_SIZE as u64, HASH_SIZE as u64);
     expect("applications on a roster", 0, razidkot::LINES as u64);
     expect("keys of an application", 0, SLOTS as u64);
     let [h, c, a] = ["H of a request", "C that is read", "A that is read"].map(|what| limits[what]);

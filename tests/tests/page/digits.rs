@@ -17,10 +17,12 @@ fn label_at(line: &str) -> usize {
 }
 
 impl Group<'_> {
-    /// Whether a changed byte shows: what the client writes and the service answers is compared.
+    /// Whether a changed byte shows: what the client writes and the service answers is compared, and
+    /// a named byte that is changed makes a good signature a bad one.
     fn bytes_count(&self, label: &str) -> bool {
-        let compared = self.says.starts_with("client writes") || self.says == "service answers";
-        compared || self.label_counts(label)
+        let beginnings = ["client writes", "bytes "];
+        let begins = beginnings.iter().any(|says| self.says.starts_with(says));
+        begins || self.says == "service answers" || self.label_counts(label)
     }
 
     fn label_counts(&self, label: &str) -> bool {

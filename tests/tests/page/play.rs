@@ -1,7 +1,7 @@
 //! Plays an example: the compiled client writes, the compiled service answers, the client reads.
 
 use super::labels::{self, Field, Headers};
-use super::text::{line_of, steps, Example, Line, Step};
+use super::text::{line_of, steps, without_names, Example, Line, Step};
 use super::wanted::Wanted;
 use super::Fault;
 use razidkot::{Connection, Counters, Registry, Status, LEAST_RESPONSE_BUFFER, LONGEST_CHUNK};
@@ -44,6 +44,7 @@ type Action<'a> = fn(&mut Play<'a>, rest: &str, lines: &[&str]) -> Done;
 pub fn play(example: &Example, setting: &Setting) -> Result<BTreeSet<String>, Fault> {
     let faulty = |fault: Fault| format!("{}: {fault}", example.title);
     let mut play = Play::begin(setting).map_err(faulty)?;
+    let example = &without_names(example).map_err(faulty)?;
     for step in steps(example).map_err(faulty)? {
         let done = play.step(&step);
         done.map_err(|fault| format!("{}: {}: {fault}", example.title, step.says))?;

@@ -75,6 +75,54 @@ pub fn examples(page: &str) -> Result<Vec<Example>, Fault> {
     Ok(examples)
 }
 
+const NAMES_BYTES: &str = "bytes ";
+
+/// The example with bytes in the place of the names that its `bytes` give them.
+pub fn without_names(example: &Example) -> Result<Example, Fault> {
+    let mut named: Vec<(&str, String)> = Vec::new();
+    let mut lines = Vec::new();
+    for step in steps(example)? {
+        let Some(name) = step.says.strip_prefix(NAMES_BYTES) else {
+            lines.push(said_with(&named, step.says));
+            lines.extend(step.lines.iter().map(|line| line_with(&named, line)));
+            continue;
+        };
+        let mut digits = Vec::new();
+        for line in &step.lines {
+            let bytes = line_of(line)?.bytes;
+            digits.extend(bytes.iter().map(|byte| format!("{byte:02X}")));
+        }
+        named.push((name, digits.join(" ")));
+    }
+    let title = example.title.clone();
+    Ok(Example { title, lines })
+}
+
+/// Parts of a request in words, such as `data KEY`.
+fn said_with(named: &[(&str, String)], says: &str) -> String {
+    let part = |part: &str| {
+        let value = part.split_once(' ').map_or("", |(_, value)| value);
+        match named.iter().find(|(name, _)| *name == value) {
+            Some((name, digits)) => part.replace(name, digits),
+            None => part.to_string(),
+        }
+    };
+    says.split(", ").map(part).collect::<Vec<_>>().join(", ")
+}
+
+/// A line of bytes, which may be a name's.
+fn line_with(named: &[(&str, String)], line: &str) -> String {
+    let is_named = |(name, _): &&(&str, String)| {
+        line.split_once("  ")
+            .is_some_and(|(bytes, _)| bytes == *name)
+    };
+    let line = match named.iter().find(is_named) {
+        Some((name, digits)) => line.replacen(name, digits, 1),
+        None => line.to_string(),
+    };
+    format!("  {line}")
+}
+
 /// What an example says, and the indented lines below it.
 pub struct Step<'a> {
     pub says: &'a str,
@@ -102,7 +150,7 @@ pub struct Line<'a> {
     pub label: &'a str,
 }
 
-pub fn hexadecimal(text: &str) -> Result<Vec<u8>, Fault> {
+fn hexadecimal(text: &str) -> Result<Vec<u8>, Fault> {
     let pair = |pair: &str| match pair.len() {
         2 => u8::from_str_radix(pair, 16).map_err(|_| format!("{pair}: no byte")),
         _ => Err(format!("{pair}: no byte")),
@@ -111,7 +159,7 @@ pub fn hexadecimal(text: &str) -> Result<Vec<u8>, Fault> {
 }
 
 /// `0A 01 61`, or `61 x 4096` for one byte so many times.
-fn bytes_of(text: &str) -> Result<Vec<u8>, Fault> {
+pub fn bytes_of(text: &str) -> Result<Vec<u8>, Fault> {
     let Some((byte, count)) = text.split_once(" x ") else {
         return hexadecimal(text);
     };

@@ -1,8 +1,8 @@
 //! A request in words: `PsaExportPublicKey, session 2, application ct, name a`.
 
-use super::text::hexadecimal;
+use super::text::bytes_of;
 use super::Fault;
-use razidkot_client::{Import, Opcode, Operation, Request, LEAST_REQUEST_BUFFER};
+use razidkot_client::{Import, Opcode, Operation, Request, Verify, LEAST_REQUEST_BUFFER};
 
 pub struct Wanted {
     pub opcode: Opcode,
@@ -12,6 +12,8 @@ pub struct Wanted {
     provider: u32,
     name: Vec<u8>,
     data: Vec<u8>,
+    hash: Vec<u8>,
+    signature: Vec<u8>,
     bits: u32,
     export_allowed: bool,
     verify_allowed: bool,
@@ -36,6 +38,8 @@ impl Wanted {
             provider: 0,
             name: Vec::new(),
             data: Vec::new(),
+            hash: Vec::new(),
+            signature: Vec::new(),
             bits: 0,
             export_allowed: false,
             verify_allowed: false,
@@ -52,7 +56,9 @@ impl Wanted {
             "application" => self.application = Some(value.into()),
             "provider" => self.provider = parsed(value)?,
             "name" => self.name = value.into(),
-            "data" => self.data = hexadecimal(value)?,
+            "data" => self.data = bytes_of(value)?,
+            "hash" => self.hash = bytes_of(value)?,
+            "signature" => self.signature = bytes_of(value)?,
             "bits" => self.bits = parsed(value)?,
             "buffer" => self.buffer = parsed(value)?,
             "export" => self.export_allowed = value == "allowed",
@@ -72,6 +78,11 @@ impl Wanted {
             },
             Opcode::PsaDestroyKey => Operation::DestroyKey { name },
             Opcode::PsaExportPublicKey => Operation::ExportPublicKey { name },
+            Opcode::PsaAsymmetricVerify => Operation::AsymmetricVerify(Verify {
+                name,
+                hash: &self.hash,
+                signature: &self.signature,
+            }),
             Opcode::PsaImportKey => Operation::ImportKey(Import {
                 name,
                 data: &self.data,
