@@ -22,12 +22,15 @@ NEEDED = [
     "openssl genpkey ",
     "razidkot ask keys.socket import ",
     "razidkot ask keys.socket export ",
+    "openssl dgst -sha256 -sign ",
+    "razidkot ask keys.socket verify ",
+    "razidkot ask keys.socket verify ",
     "razidkot ask keys.socket destroy ",
     "razidkot ask keys.socket export ",
     "kill ",
     "razidkot-bill ",
 ]
-LEAST_STEPS = 20
+LEAST_STEPS = 28
 MARK = "--- the status is"
 # Minutes, for a machine that has other work; the afternoon takes seconds.
 LONGEST = 240
@@ -150,6 +153,13 @@ class Readme(Afternoon):
         bill = printed["razidkot-bill keys.roster keys.stream"]
         self.assertTrue(bill[0].startswith("taken "), bill)
         self.assertEqual(printed["kill $! && wait $!"], bill)
+
+    def test_a_signature_is_good_and_then_bad(self):
+        steps = steps_of(self.text)
+        said = [printed for command, printed in steps if " verify " in command]
+        bad = "razidkot: keys.socket: bad signature: PsaErrorInvalidSignature (status 1149)"
+        self.assertEqual(said, [["good signature"], [bad]])
+        self.assertIn(("echo $?", ["3"]), steps)
 
     def test_any_step_that_is_gone_is_missed(self):
         steps = steps_of(self.text)

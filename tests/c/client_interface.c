@@ -15,6 +15,9 @@ static uint8_t state[SIZE + 1];
 static const uint8_t application[] = {'s', 'c', 'a', 'n'};
 static const uint8_t name[] = {'k', 'e', 'y'};
 static const uint8_t data[] = {0xAA, 0xBB};
+static const uint8_t hash[] = {'t', 'h', 'i', 'r', 't', 'y', '-', 't', 'w', 'o', ' ', 'b', 'y', 't', 'e', 's',
+                               ' ', 'o', 'f', ' ', 's', 'o', 'm', 'e', ' ', 'S', 'H', 'A', '-', '2', '5', '6'};
+static const uint8_t signature[RAZIDKOT_CLIENT_LONGEST_BODY] = {0xCC, 0xDD};
 static const uint64_t session = UINT64_C(0x0102030405060708);
 static int failed;
 
@@ -42,13 +45,14 @@ static void expect_request(const char *what, razidkot_client_request request, co
 
 static void expect_requests(void)
 {
-    const size_t a = sizeof application, n = sizeof name, d = sizeof data;
+    const size_t a = sizeof application, n = sizeof name, d = sizeof data, h = sizeof hash;
     const uint8_t ping[] = {0, 1, RAZIDKOT_CLIENT_OPCODE_PING};
     const uint8_t providers[] = {0, 0, RAZIDKOT_CLIENT_OPCODE_LIST_PROVIDERS};
     const uint8_t opcodes[] = {0, 1, RAZIDKOT_CLIENT_OPCODE_LIST_OPCODES};
     const uint8_t import[] = {1, 1, RAZIDKOT_CLIENT_OPCODE_PSA_IMPORT_KEY};
     const uint8_t destroy[] = {1, 1, RAZIDKOT_CLIENT_OPCODE_PSA_DESTROY_KEY};
     const uint8_t exported[] = {1, 0, RAZIDKOT_CLIENT_OPCODE_PSA_EXPORT_PUBLIC_KEY};
+    const uint8_t verify[] = {1, 1, RAZIDKOT_CLIENT_OPCODE_PSA_ASYMMETRIC_VERIFY};
     expect_request("ping", razidkot_client_write_ping(out, LEAST, session, true, application, a), ping, "scan", 4);
     expect_request("providers", razidkot_client_write_list_providers(out, LEAST, session, false, NULL, 0), providers, "",
                    0);
@@ -64,11 +68,42 @@ static void expect_requests(void)
                    "\x0A\x03keyscan", 9);
     expect_request("export", razidkot_client_write_export(out, LEAST, session, false, application, a, name, n), exported,
                    "\x0A\x03key", 5);
+    expect_request("verify",
+                   razidkot_client_write_verify(out, LEAST, session, true, application, a, name, n, hash, h, signature,
+                                                2),
+                   verify, "\x0A\x03key\x12\x20thirty-two bytes of some SHA-256\x1A\x02\xCC\xDDscan", 47);
+    expect_request("verify nothing",
+                   razidkot_client_write_verify(out, LEAST, session, true, application, a, name, n, hash, h, NULL, 0),
+                   verify, "\x0A\x03key\x12\x20thirty-two bytes of some SHA-256scan", 43);
 }
 
 static razidkot_client_request import_of(size_t length, size_t a, size_t n, size_t d, uint32_t bits)
 {
     return razidkot_client_write_import(out, length, session, true, application, a, name, n, data, d, bits, true, true);
+}
+
+static razidkot_client_request verify_of(size_t length, size_t a, size_t n, size_t h, size_t s)
+{
+    return razidkot_client_write_verify(out, length, session, true, application, a, name, n, hash, h, signature, s);
+}
+
+/* The name's field has 5 bytes, the hash's 34, the signature's 3 more than it. */
+static void expect_verify_refusals(void)
+{
+    const size_t h = RAZIDKOT_CLIENT_HASH_SIZE, longest = RAZIDKOT_CLIENT_LONGEST_BODY - 5 - 34 - 3;
+    const size_t too_long = sizeof signature;
+    memset(out, 0xEE, sizeof out);
+    expect("short", verify_of(LEAST - 1, 0, 0, 0, too_long).code, RAZIDKOT_CLIENT_WRITE_BUFFER_TOO_SMALL);
+    expect("its application", verify_of(LEAST, 0, 0, 0, too_long).code, RAZIDKOT_CLIENT_WRITE_APPLICATION_NAME_ILLEGAL);
+    expect("its name", verify_of(LEAST, 1, 0, 0, too_long).code, RAZIDKOT_CLIENT_WRITE_KEY_NAME_ILLEGAL);
+    expect("no hash", verify_of(LEAST, 1, 3, 0, too_long).code, RAZIDKOT_CLIENT_WRITE_HASH_ILLEGAL);
+    expect("its hash", verify_of(LEAST, 1, 3, h - 1, too_long).code, RAZIDKOT_CLIENT_WRITE_HASH_ILLEGAL);
+    expect("its body", verify_of(LEAST, 1, 3, h, too_long).code, RAZIDKOT_CLIENT_WRITE_BODY_TOO_LONG);
+    expect("a byte too long", verify_of(LEAST, 1, 3, h, longest + 1).code, RAZIDKOT_CLIENT_WRITE_BODY_TOO_LONG);
+    expect("nothing written", verify_of(LEAST, 1, 3, h, longest + 1).written, 0);
+    for (size_t at = 0; at < sizeof out; at++)
+        expect("the buffer", out[at], 0xEE);
+    expect("as long as can be", verify_of(LEAST, 1, 3, h, longest).written, 28 + RAZIDKOT_CLIENT_LONGEST_BODY + 1);
 }
 
 static void expect_write_refusals(void)
@@ -156,6 +191,10 @@ static void expect_outputs(void)
     expect_answer("data", read_body(1, RAZIDKOT_CLIENT_OPCODE_PSA_EXPORT_PUBLIC_KEY, 0, "\x0A\x03xyz", 5),
                   RAZIDKOT_CLIENT_READ_RESPONSE, RAZIDKOT_SUCCESS, 5, exported);
     expect("it lies there", memcmp(state + exported.start, "xyz", 3) != 0, 0);
+    expect_answer("a good signature", read_body(1, RAZIDKOT_CLIENT_OPCODE_PSA_ASYMMETRIC_VERIFY, 0, "", 0),
+                  RAZIDKOT_CLIENT_READ_RESPONSE, RAZIDKOT_SUCCESS, 0, nothing);
+    expect_answer("a bad one", read_body(1, RAZIDKOT_CLIENT_OPCODE_PSA_ASYMMETRIC_VERIFY, 1149, "", 0),
+                  RAZIDKOT_CLIENT_READ_RESPONSE, RAZIDKOT_PSA_ERROR_INVALID_SIGNATURE, 0, nothing);
     expect_answer("no key", read_body(1, RAZIDKOT_CLIENT_OPCODE_PSA_DESTROY_KEY, 1140, "", 0),
                   RAZIDKOT_CLIENT_READ_RESPONSE, RAZIDKOT_PSA_ERROR_DOES_NOT_EXIST, 0, nothing);
     expect_answer("unlisted", read_body(1, RAZIDKOT_CLIENT_OPCODE_PSA_IMPORT_KEY, 0xFFFE, "", 0),
@@ -190,6 +229,7 @@ int main(void)
 {
     expect_requests();
     expect_write_refusals();
+    expect_verify_refusals();
     expect_states();
     expect_outputs();
     expect_lists();

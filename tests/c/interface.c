@@ -29,7 +29,7 @@ static void expect_answer(const char *what, razidkot_answer answer, uint32_t cod
 
 static void expect_layouts(void)
 {
-    expect("size of the counters", sizeof(razidkot_counters), 29 * 8);
+    expect("size of the counters", sizeof(razidkot_counters), 31 * 8);
     expect("refused", offsetof(razidkot_counters, refused), 12 * 8);
     expect("size of an answer", sizeof(razidkot_answer), 24);
     memset(&counters, 0xEE, sizeof counters);
@@ -64,9 +64,9 @@ static void expect_calls(void)
     expect_answer("C2", razidkot_call(chunk, sizeof chunk, NULL, 0, NULL, 0, &counters, response, r), 2, 0, 0);
     expect_answer("C3", razidkot_call(chunk, 9, NULL, 0, NULL, 0, &counters, response, r), 3, 0, 0);
     expect_answer("C4", razidkot_call(chunk, 9, connection, c, NULL, 0, &counters, response, r), 4, 0, 0);
-    counters.refused[16] = RAZIDKOT_HIGHEST_COUNTER + 1;
+    counters.refused[18] = RAZIDKOT_HIGHEST_COUNTER + 1;
     expect_answer("C5", razidkot_call(chunk, 9, connection, c, registry, g, &counters, response, r), 5, 0, 0);
-    counters.refused[16] = RAZIDKOT_HIGHEST_COUNTER;
+    counters.refused[18] = RAZIDKOT_HIGHEST_COUNTER;
     /* Nine zeros: a bad start, and status 17 at the sixth. */
     expect_answer("taken", razidkot_call(chunk, 9, connection, c, registry, g, &counters, response, r), 0, 6, 26);
     expect("status 17", response[24], RAZIDKOT_INVALID_HEADER);

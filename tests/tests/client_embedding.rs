@@ -173,6 +173,8 @@ fn sizes() -> Vec<(String, u64)> {
         ("LONGEST_APPLICATION_NAME", LONGEST_APPLICATION_NAME as u64),
         ("LONGEST_KEY_NAME", LONGEST_KEY_NAME as u64),
         ("LONGEST_DATA", LONGEST_DATA as u64),
+        ("HASH_SIZE", HASH_SIZE as u64),
+        ("LONGEST_BODY", LONGEST_BODY as u64),
         ("LEAST_BITS", LEAST_BITS.into()),
         ("MOST_BITS", MOST_BITS.into()),
     ])

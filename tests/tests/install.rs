@@ -285,5 +285,5 @@ fn man_shows_every_installed_page_without_a_warning() {
         assert!(printed(&mut man).contains(name), "{file}");
         shown += 1;
     }
-    assert_eq!(shown, 17);
+    assert_eq!(shown, 18);
 }

@@ -1,14 +1,16 @@
 //! A client of the key service in Rust: lists the providers, imports a key, exports it, asks for one
-//! that is not there and destroys the first, and prints what came back. It reads from any stream;
-//! here the service is in the same program (`service.rs`) and stands for a socket.
+//! that is not there and destroys the first; then it has signatures checked with another. It prints
+//! what came back. It reads from any stream; here the service is in the same program (`service.rs`)
+//! and stands for a socket.
 //!
 //!     rt staticlib abi && rt staticlib client_abi && cargo run --quiet -p razidkot-client-example
 
 mod client;
+mod series;
 mod service;
 
 use client::Client;
-use razidkot_client::{Import, Operation, Output, Reader, Reading, Request};
+use razidkot_client::{Import, Operation, Output, Reader, Reading, Request, Verify};
 use service::Service;
 use std::error::Error;
 
@@ -21,6 +23,14 @@ const IMPORT: Import = Import {
     bits: 2_048,
     export_allowed: true,
     verify_allowed: false,
+};
+
+const SERIES: Import = Import {
+    name: b"series",
+    data: series::DATA,
+    bits: 1_024,
+    export_allowed: false,
+    verify_allowed: true,
 };
 
 fn main() -> Result<(), Box<dyn Error>> {
@@ -53,7 +63,22 @@ fn main() -> Result<(), Box<dyn Error>> {
     client.receive(&mut exported)?;
     client.receive(&mut destroyed)?;
     print("export b", &exported)?;
-    print("destroy a", &destroyed)
+    print("destroy a", &destroyed)?;
+
+    // The status says what a signature is worth: 0 good, 1149 bad, and any other that it was not
+    // checked.
+    let import = request(7, SCANNER, Operation::ImportKey(SERIES));
+    print("import series", &client.ask(&import)?)?;
+    let verify = |session, name, hash| {
+        let verify = Verify::new(name, hash, series::SIGNATURE);
+        request(session, SCANNER, Operation::AsymmetricVerify(verify))
+    };
+    let good = verify(8, SERIES.name, series::HASH);
+    print("verify abc", &client.ask(&good)?)?;
+    let bad = verify(9, SERIES.name, &[0; 32]);
+    print("verify something else", &client.ask(&bad)?)?;
+    let without_key = verify(10, b"b", series::HASH);
+    print("verify with b", &client.ask(&without_key)?)
 }
 
 fn request<'a>(
