@@ -291,9 +291,13 @@ fn write_refusals_are_judged_in_the_second_programs_order() {
         (WriteRefusal::KeyNameIllegal, BadKeyName),
         (WriteRefusal::DataIllegal, BadData),
         (WriteRefusal::BitsIllegal, BadBits),
+        (WriteRefusal::HashIllegal, BadHash),
+        (WriteRefusal::BodyTooLong, BodyTooLong),
     ];
     assert_eq!(pairs.map(|(ours, _)| ours), WriteRefusal::ALL);
-    for (at, (ours, second)) in pairs.into_iter().enumerate() {
+    let [small, application, name, .., hash, body] = pairs;
+    let of_verify = [small, application, name, hash, body];
+    for (at, (ours, second)) in pairs.into_iter().take(5).enumerate() {
         // The faults before this one are mended.
         let mend = |place: usize, good: &'static [u8]| if at > place { good } else { b"" };
         let mut out = vec![0; if at > 0 { 5_120 } else { 5_119 }];
@@ -305,6 +309,24 @@ fn write_refusals_are_judged_in_the_second_programs_order() {
             bits: 0,
             export_allowed: true,
             verify_allowed: true,
+        };
+        let second_said = reference::write_request(&mut out, 0, Some(application), &operation);
+        assert_eq!(second_said, Err(second));
+        assert_eq!(
+            (said.code, ours.number()),
+            (second as u32 + 1, second as u32 + 1)
+        );
+    }
+    for (at, (ours, second)) in of_verify.into_iter().enumerate() {
+        let mend = |place: usize, good: &'static [u8]| if at > place { good } else { b"" };
+        let mut out = vec![0; if at > 0 { 5_120 } else { 5_119 }];
+        let (application, name, hash) = (mend(1, b"b"), mend(2, b"a"), mend(3, &[0; 32]));
+        let signature = &[0; 4_096];
+        let said = raw::write_verify(&mut out, 0, true, application, name, hash, signature);
+        let operation = reference::Operation::VerifySignature {
+            name,
+            hash,
+            signature,
         };
         let second_said = reference::write_request(&mut out, 0, Some(application), &operation);
         assert_eq!(second_said, Err(second));

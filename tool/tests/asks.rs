@@ -2,9 +2,9 @@
 
 mod common;
 
-use common::keys::{Forms, PEM};
-use common::{folder, free, razidkot, Ended};
-use razidkot_client::{Import, Operation, Request, LEAST_REQUEST_BUFFER};
+use common::keys::{Forms, Signed, PEM};
+use common::{folder, free, razidkot, series, Ended};
+use razidkot_client::{Import, Operation, Request, Verify, LEAST_REQUEST_BUFFER};
 use razidkot_tests::ask::record;
 use std::ffi::OsStr;
 use std::fs;
@@ -87,7 +87,7 @@ fn what_the_service_is_asked_of_itself() {
     );
     let core = "1 Ping\n8 ListProviders\n9 ListOpcodes\n";
     assert_eq!(service.ask(words!["opcodes", "0"]).text(), core);
-    let keystore = "3 PsaDestroyKey\n6 PsaImportKey\n7 PsaExportPublicKey\n";
+    let keystore = "3 PsaDestroyKey\n5 PsaAsymmetricVerify\n6 PsaImportKey\n7 PsaExportPublicKey\n";
     assert_eq!(
         service.ask(words!["--app=scanner", "opcodes", "1"]).text(),
         keystore
@@ -165,6 +165,87 @@ fn a_data_file_that_cannot_be_written_is_named() {
     service.stop(2);
 }
 
+/// The SHA-256 of `abc`, as `sha256sum` prints it.
+const ABC: &str = "ba7816bf8f01cfea414140de5dae2223b00361a396177a9cb410ff61f20015ad";
+
+#[test]
+fn a_signature_is_good_or_bad_and_told_in_words() {
+    let (service, folder) = (Service::start("signature"), folder("signature"));
+    let (key, hash) = (
+        folder.file("key", series::DATA),
+        folder.file("hash", series::HASH),
+    );
+    let signature = folder.file("signature", series::SIGNATURE);
+    let import = words!["import", "k", key, "--app", "scanner", "--verify"];
+    assert_eq!(service.ask(import).printed(), b"");
+    let verify = |hash: &OsStr, signature: &Path| {
+        let given = words!["verify", "k", "--app", "scanner", "--hash"];
+        let rest = words!["--signature", signature];
+        service.ask(&[given, &[hash], rest].concat())
+    };
+    // A file of 32 bytes, and 64 digits in either case.
+    for hash in words![hash, ABC, ABC.to_uppercase()] {
+        assert_eq!(verify(hash, &signature).text(), "good signature\n");
+    }
+    let bad = format!(
+        "{}: bad signature: PsaErrorInvalidSignature (status 1149)",
+        service.socket.display()
+    );
+    let other = ABC.replace("ba78", "ba79");
+    verify(OsStr::new(&other), &signature).assert_bad_signature(&bad);
+    for wrong in [&series::SIGNATURE[1..], b"", &[0xFF; 128], &[0; 4_000]] {
+        let wrong = folder.file("wrong", wrong);
+        verify(OsStr::new(ABC), &wrong).assert_bad_signature(&bad);
+    }
+    service.stop(4);
+}
+
+#[test]
+fn a_signature_that_is_not_checked_has_status_1() {
+    let (service, folder) = (Service::start("unchecked"), folder("unchecked"));
+    let key = folder.file("key", series::DATA);
+    let other = folder.file("other", b"no key");
+    let signature = folder.file("signature", series::SIGNATURE);
+    let given = words!["--app", "scanner", "--hash", ABC, "--signature", signature];
+    let refused = |name: &str, said| {
+        service.assert_refused(&[words!["verify", name], given].concat(), said);
+    };
+    refused("k", "PsaErrorDoesNotExist (status 1140)");
+    for (name, file, more) in [
+        ("k", &key, words!["--export"]),
+        ("other", &other, words!["--bits", "1024", "--verify"]),
+    ] {
+        let import = words!["import", name, file, "--app", "scanner"];
+        assert_eq!(service.ask(&[import, more].concat()).printed(), b"");
+    }
+    refused("k", "PsaErrorNotPermitted (status 1133)");
+    refused("other", "PsaErrorNotSupported (status 1134)");
+    let by_nobody = [words!["verify", "k"], &given[2..]].concat();
+    service.assert_refused(&by_nobody, "NotAuthenticated (status 19)");
+    service.stop(2);
+}
+
+#[test]
+fn what_openssl_signs_is_good() {
+    let (service, folder) = (Service::start("openssl"), folder("openssl"));
+    let mut made = 0;
+    for bits in [1_024, 2_048] {
+        let Some(signed) = Signed::made(&folder, bits) else {
+            continue;
+        };
+        let name = format!("key-{bits}");
+        let key = folder.file("key", &signed.key);
+        let signature = folder.file("signature", &signed.signature);
+        let import = words!["import", name, key, "--app", "scanner", "--verify"];
+        assert_eq!(service.ask(import).printed(), b"");
+        let given = words!["--app", "scanner", "--hash", ABC, "--signature", signature];
+        let verify = [words!["verify", name], given].concat();
+        assert_eq!(service.ask(&verify).text(), "good signature\n");
+        made += 1;
+    }
+    service.stop(2 * made);
+}
+
 // ---- what is refused before anything is sent
 
 #[test]
@@ -181,6 +262,22 @@ fn what_the_client_refuses_needs_no_service() {
         refused(words!["destroy", given], &said);
         refused(words!["import", given, key, "--bits", "1024"], &said);
     }
+    let (hash, signature) = (folder.file("hash", &[0; 31]), folder.file("signature", b""));
+    let verify = |more: &[&OsStr], said: &str| {
+        let by = words!["verify", "k", "--app", "scanner"];
+        refused(&[by, more].concat(), said);
+    };
+    let said = format!(
+        "--hash {}: 31 bytes, not the 32 of a SHA-256",
+        hash.display()
+    );
+    verify(words!["--hash", hash, "--signature", signature], &said);
+    let endless = folder.file("endless", &[7; 4_097]);
+    let said = format!(
+        "{}: 4097 bytes of signature, more than a request can have",
+        endless.display()
+    );
+    verify(words!["--hash", ABC, "--signature", endless], &said);
     for name in ["", "an application", &longer] {
         let said = format!("--app \"{name}\": not 1 to 64 bytes, each 0x21 to 0x7E");
         refused(words!["ping", "--app", name], &said);
@@ -222,6 +319,30 @@ fn a_key_file_that_will_not_do_is_named() {
     let reason = "9 bits, not 1024 to 4096 in multiples of 8";
     assert_not_sent(&file, &[], reason);
     assert_not_sent(&file, words!["--bits", "9"], reason);
+}
+
+#[test]
+fn a_hash_that_is_neither_digits_nor_a_file_is_named() {
+    let folder = folder("hashes");
+    let (signature, missing) = (folder.file("signature", b""), folder.missing());
+    let verify = |hash: &OsStr, signature: &Path| {
+        let given = words!["verify", "k", "--hash"];
+        let rest = words!["--signature", signature];
+        ask(Path::new("no socket"), &[given, &[hash], rest].concat())
+    };
+    let (short, long) = (&ABC[1..], format!("{ABC}0"));
+    let other = ABC.replace('f', "g");
+    for hash in [short, &long, &other, "", "0x"] {
+        let reason =
+            "not 64 hexadecimal digits, and as a file: No such file or directory (os error 2)";
+        let said = format!("--hash {hash}: {reason}");
+        verify(OsStr::new(hash), &signature).assert_failed(&said);
+    }
+    let said = format!(
+        "{}: No such file or directory (os error 2)",
+        missing.display()
+    );
+    verify(OsStr::new(ABC), &missing).assert_failed(&said);
 }
 
 #[test]
@@ -344,6 +465,7 @@ fn assert_sent(test: &str, words: &[&OsStr], request: Request) {
 fn the_request_is_what_the_command_line_says() {
     let name = b"a";
     let provider = u32::MAX;
+    let signature = folder("sent_signature").file("signature", b"\x00\xFF\n");
     let cases = [
         (words!["ping"], Operation::Ping),
         (words!["providers"], Operation::ListProviders),
@@ -353,6 +475,10 @@ fn the_request_is_what_the_command_line_says() {
         ),
         (words!["destroy", "a"], Operation::DestroyKey { name }),
         (words!["export", "a"], Operation::ExportPublicKey { name }),
+        (
+            words!["verify", "a", "--hash", ABC, "--signature", signature],
+            Operation::AsymmetricVerify(Verify::new(name, series::HASH, b"\x00\xFF\n")),
+        ),
     ];
     for (words, operation) in cases {
         let nobody = Request {
@@ -436,6 +562,9 @@ fn a_response_that_is_not_read_is_said() {
 fn any_status_is_said() {
     let unlisted = "refused: status 77, which is not listed";
     assert_said("status", &response(5, 1, 77, b""), unlisted);
+    // That a signature is bad is no answer to a Ping.
+    let bad = "refused: PsaErrorInvalidSignature (status 1149)";
+    assert_said("status", &response(5, 1, 1149, b""), bad);
     let closed = "refused: InvalidHeader (status 17)";
     assert_said("status", &response(0, 0, 17, b""), closed);
 }

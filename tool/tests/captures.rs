@@ -3,7 +3,7 @@
 mod common;
 
 use common::{folder, razidkot, sample};
-use razidkot_tests::ask::{registry_of, request, IMPORT, PING};
+use razidkot_tests::ask::{registry_of, request, DESTROY, IMPORT, PING};
 use razidkot_tests::bill::{printed, roster_of, text};
 use razidkot_tests::generate::{name, Random};
 use razidkot_tests::requests::{applications, requests, with_header_size, with_lengths};
@@ -172,16 +172,18 @@ fn operations_and_applications_are_shown() {
             &with_byte(ping.clone(), 19, 7),
             &request(513, Some(b"b"), b""),
             &with_header_size(request(IMPORT, Some(b"b"), b"\x0A\x01k"), 30),
+            &with_byte(request(DESTROY, Some(b"b"), b"\x0A\x01k"), 26, 5),
         ],
     );
     let expected = r#"
-         0         28       0 Success                         Ping               nobody
-        28         29       0 Success                         Ping               "b"
-        57         43      11 AuthenticationError             Ping               "a \"quoted\" one\n"
-       100         28      11 AuthenticationError             Ping               ""
-       128         28      12 AuthenticatorDoesNotExist       Ping               auth-type-7
-       156         29       9 OpcodeDoesNotExist              opcode-513         "b"
-       185         40    1135 PsaErrorInvalidArgument         PsaImportKey       "b"
+         0         28       0 Success                         Ping                nobody
+        28         29       0 Success                         Ping                "b"
+        57         43      11 AuthenticationError             Ping                "a \"quoted\" one\n"
+       100         28      11 AuthenticationError             Ping                ""
+       128         28      12 AuthenticatorDoesNotExist       Ping                auth-type-7
+       156         29       9 OpcodeDoesNotExist              opcode-513          "b"
+       185         40    1135 PsaErrorInvalidArgument         PsaImportKey        "b"
+       225         32    1140 PsaErrorDoesNotExist            PsaAsymmetricVerify "b"
 "#;
     assert_eq!(rows, expected[1..]);
 }
@@ -257,7 +259,7 @@ fn a_wrong_start_has_no_fields() {
     let ping = with_byte(request(PING, Some(b"b"), b""), 0, 0);
     let rows = rows("wrong_start", &[&ping]);
     let first = rows.lines().next().expect("a row");
-    assert!(first.ends_with(" unread             unread"), "{first}");
+    assert!(first.ends_with(" unread              unread"), "{first}");
 }
 
 // ---- bad input

@@ -6,7 +6,7 @@ use common::{ended, program, razidkot, sample};
 use std::fs::File;
 
 /// The words of each command, and how its help begins.
-const COMMANDS: [(&[&str], &str); 15] = [
+const COMMANDS: [(&[&str], &str); 16] = [
     (&[], "razidkot: "),
     (&["roster"], "razidkot roster make NAME.. [-o FILE] "),
     (
@@ -36,6 +36,10 @@ const COMMANDS: [(&[&str], &str); 15] = [
     (
         &["ask", "keys.socket", "destroy"],
         "razidkot ask SOCKET destroy NAME ",
+    ),
+    (
+        &["ask", "keys.socket", "verify"],
+        "razidkot ask SOCKET verify NAME --hash HEX|FILE --signature FILE ",
     ),
     (&["ask", "import"], "razidkot ask SOCKET import NAME FILE "),
     (&["capture"], "razidkot capture show FILE --roster FILE "),
@@ -73,13 +77,14 @@ fn the_help_of_all_names_each_command() {
         "import",
         "export",
         "destroy",
+        "verify",
     ] {
         assert!(text.contains(&format!("\n  {operation} ")), "{operation}");
     }
 }
 
 /// A command line, what is said of it, and whose help to read.
-const NOT_UNDERSTOOD: [(&str, &str, &str); 37] = [
+const NOT_UNDERSTOOD: [(&str, &str, &str); 44] = [
     ("", "a command is missing", ""),
     ("keys", "unknown command keys", ""),
     ("keys --help", "unknown command keys", ""),
@@ -151,6 +156,37 @@ const NOT_UNDERSTOOD: [(&str, &str, &str); 37] = [
         "ask s destroy k -o f",
         "-o is no option here",
         " ask destroy",
+    ),
+    ("ask s verify", "NAME is missing", " ask verify"),
+    (
+        "ask s verify k",
+        "--hash HEX or --hash FILE is missing",
+        " ask verify",
+    ),
+    (
+        "ask s verify k --signature f",
+        "--hash HEX or --hash FILE is missing",
+        " ask verify",
+    ),
+    (
+        "ask s verify k --hash f",
+        "--signature FILE is missing",
+        " ask verify",
+    ),
+    (
+        "ask s verify k f --hash g --signature h",
+        "f is one word too many",
+        " ask verify",
+    ),
+    (
+        "ask s verify k --hash f --signature g --bits 2048",
+        "--bits is no option here",
+        " ask verify",
+    ),
+    (
+        "ask s import k f --hash g",
+        "--hash is no option here",
+        " ask import",
     ),
     ("capture", "a command is missing", " capture"),
     ("capture hide", "unknown command hide", " capture"),

@@ -85,6 +85,32 @@ impl Forms {
     }
 }
 
+/// A signature by a fresh key of OpenSSL's, of the bytes `abc`.
+pub struct Signed {
+    pub key: Vec<u8>,
+    pub signature: Vec<u8>,
+}
+
+impl Signed {
+    /// Nothing where there is no OpenSSL.
+    pub fn made(folder: &Folder, bits: u32) -> Option<Signed> {
+        let key = Forms::made(folder, bits)?.der;
+        let private = folder.path().join(format!("private-{bits}.pem"));
+        let message = folder.file("message", b"abc");
+        let signature = folder.path().join(format!("signature-{bits}"));
+        let sign = ["dgst", "-sha256", "-sign", text(&private), "-out"];
+        openssl(&sign, &signature, &[text(&message)])?;
+        Some(Signed {
+            key,
+            signature: fs::read(signature).expect("a signature"),
+        })
+    }
+}
+
+fn text(path: &Path) -> &str {
+    path.to_str().expect("text")
+}
+
 /// Nothing if there is no such program.
 fn openssl(before: &[&str], file: &Path, behind: &[&str]) -> Option<()> {
     let mut command = Command::new("openssl");

@@ -4,6 +4,8 @@
 #![allow(dead_code)]
 
 pub mod keys;
+#[path = "../../../examples/rust-client/src/series.rs"]
+pub mod series;
 
 use razidkot_tests::bill::Folder;
 use std::ffi::OsStr;
@@ -53,6 +55,12 @@ impl Ended {
     /// It failed, printed nothing, and said this, which fits on a line.
     pub fn assert_failed(&self, said: &str) {
         assert_eq!((self.status, &self.out[..]), (1, &b""[..]), "{self:?}");
+        assert_eq!(self.err, format!("razidkot: {said}\n"));
+    }
+
+    /// The service says that a signature is bad; it printed nothing, and said this.
+    pub fn assert_bad_signature(&self, said: &str) {
+        assert_eq!((self.status, &self.out[..]), (3, &b""[..]), "{self:?}");
         assert_eq!(self.err, format!("razidkot: {said}\n"));
     }
 
