@@ -5,7 +5,8 @@
 The arguments are shared objects; razidkot_pb2, made by protoc, is importable.
 
 What Google's library serialises is read here as the same message; what is written here parses there
-as the same message and is the same bytes; and whole requests are answered by bodies that parse. The
+as the same message and is the same bytes; and whole requests are answered by bodies that parse, or
+by the status that their fields ask for. The
 client's requests have such bodies, and it reads responses that have them. Bodies with fields that are
 not listed, groups and damage are read alike, but for the classes that `unlisted.py` names. `proto/test`
 runs it. Messages are generated from a fixed seed.
@@ -17,6 +18,8 @@ import sys
 import warnings
 from collections import Counter
 from dataclasses import dataclass
+from functools import lru_cache
+from pathlib import Path
 from typing import Any
 
 import google.protobuf
@@ -47,10 +50,13 @@ RESPONSES = [
     messages.ListOpcodesResponse,
     messages.PsaExportPublicKeyResponse,
 ]
+# `crates/probe` has no schema for its fields: it is read by the service alone.
+VERIFY_REQUEST = messages.PsaAsymmetricVerifyRequest
 
 CORE, KEYSTORE = 0, 1
-PING, DESTROY, IMPORT, EXPORT, LIST_PROVIDERS, LIST_OPCODES = 1, 3, 6, 7, 8, 9
-SUCCESS, PROVIDER_DOES_NOT_EXIST, NOT_PERMITTED = 0, 6, 1133
+PING, DESTROY, VERIFY, IMPORT, EXPORT, LIST_PROVIDERS, LIST_OPCODES = 1, 3, 5, 6, 7, 8, 9
+SUCCESS, PROVIDER_DOES_NOT_EXIST = 0, 6
+NOT_PERMITTED, NOT_SUPPORTED, INVALID_ARGUMENT, INVALID_SIGNATURE = 1133, 1134, 1135, 1149
 APPLICATION = b"recon-a"
 MAGIC = 0x5EC0A710
 CONTENT_MOST = 998
@@ -105,6 +111,11 @@ OPERATIONS = [
         takes=("name",),
         response=messages.PsaExportPublicKeyResponse,
         gives=("data",),
+    ),
+    Operation(
+        *("verify", VERIFY, KEYSTORE, NOTHING),
+        request=VERIFY_REQUEST,
+        takes=("name", "hash", "signature"),
     ),
 ]
 
@@ -275,6 +286,9 @@ def some_input(chance, kind):
     if kind is messages.ListOpcodesRequest:
         return some_message(chance, kind)
     key = some_key(chance)
+    if kind is VERIFY_REQUEST:
+        signature = chance.randbytes(chance.choice([0, 1, 127, 128, 256, 512, 4_025]))
+        return kind(name=key.name, hash=chance.randbytes(32), signature=signature)
     return key if kind is messages.PsaImportKeyRequest else kind(name=key.name)
 
 
@@ -349,7 +363,7 @@ def core_answers_parse(service, chance):
     opcodes = list(messages.ListOpcodesResponse.FromString(body).opcodes)
     listed = {
         CORE: (SUCCESS, [PING, LIST_PROVIDERS, LIST_OPCODES]),
-        KEYSTORE: (SUCCESS, [DESTROY, IMPORT, EXPORT]),
+        KEYSTORE: (SUCCESS, [DESTROY, VERIFY, IMPORT, EXPORT]),
     }
     expect((status, opcodes), listed.get(provider, (PROVIDER_DOES_NOT_EXIST, [])))
 
@@ -362,6 +376,39 @@ def key_comes_back(service, chance):
     expect(status, SUCCESS if key.export_allowed else NOT_PERMITTED)
     data = messages.PsaExportPublicKeyResponse.FromString(body).data
     expect(data, key.data if key.export_allowed else b"")
+    gone = messages.PsaDestroyKeyRequest(name=key.name)
+    expect(exchange(service, chance, DESTROY, KEYSTORE, gone), (SUCCESS, b""))
+
+
+@lru_cache(maxsize=None)
+def signing_key():
+    """That of the samples' maker, which makes it from a label."""
+    sys.path.append(str(Path(__file__).resolve().parent.parent / "samples"))
+    from make import SigningKey
+
+    return SigningKey("proto", 1_024)
+
+
+def signature_is_checked(service, chance):
+    """Each field is where the service reads it: what is wrong with one of them decides the status."""
+    signer = signing_key()
+    digest = chance.randbytes(32)
+    key = some_key(chance)
+    key.data, key.bits, key.verify_allowed = signer.data(), signer.bits, True
+    asked = VERIFY_REQUEST(name=key.name, hash=digest, signature=signer.sign(digest))
+    expected = chance.choice(
+        [SUCCESS, NOT_PERMITTED, INVALID_ARGUMENT, NOT_SUPPORTED, INVALID_SIGNATURE]
+    )
+    if expected == NOT_PERMITTED:
+        key.verify_allowed = False
+    elif expected == INVALID_ARGUMENT:
+        asked.hash = digest[: chance.randrange(32)]
+    elif expected == NOT_SUPPORTED:
+        key.data = chance.randbytes(140)
+    elif expected == INVALID_SIGNATURE:
+        asked.signature = asked.signature[::-1]
+    expect(exchange(service, chance, IMPORT, KEYSTORE, key), (SUCCESS, b""))
+    expect(exchange(service, chance, VERIFY, KEYSTORE, asked), (expected, b""))
     gone = messages.PsaDestroyKeyRequest(name=key.name)
     expect(exchange(service, chance, DESTROY, KEYSTORE, gone), (SUCCESS, b""))
 
@@ -496,10 +543,11 @@ def main():
     for kind in REQUESTS:
         repeat(serialised_there_is_read_here, bodies, kind)
         repeat(any_form_is_read_alike, bodies, kind)
-    for kind in [*REQUESTS, *RESPONSES]:
+    for kind in [*REQUESTS, *RESPONSES, VERIFY_REQUEST]:
         repeat(written_here_is_read_there, bodies, kind)
     repeat(core_answers_parse, service)
     repeat(key_comes_back, service)
+    repeat(signature_is_checked, service)
     expect({operation.name for operation in OPERATIONS}, set(Client.ARGUMENTS))
     for operation in OPERATIONS:
         repeat(written_by_the_client_is_read_there, client, operation)

@@ -99,12 +99,26 @@ def number_from(label, bits):
     return int.from_bytes(hashlib.shake_256(label.encode()).digest(bits // 8), "big")
 
 
+def der(tag, content):
+    """A value with its tag and its length in the shortest form."""
+    size = len(content)
+    if size < 0x80:
+        length = bytes([size])
+    elif size < 0x100:
+        length = bytes([0x81, size])
+    else:
+        length = b"\x82" + struct.pack(">H", size)
+    return bytes([tag]) + length + content
+
+
+def der_integer(number):
+    # With a zero in front where the top bit is set.
+    return der(0x02, number.to_bytes(number.bit_length() // 8 + 1, "big"))
+
+
 def rsa_public_key(modulus):
-    """The DER of an RSAPublicKey; the modulus has 1,024 bits or more, in whole bytes."""
-    content = b"\x00" + modulus.to_bytes(modulus.bit_length() // 8, "big")
-    integer = b"\x02\x82" + struct.pack(">H", len(content)) + content
-    sequence = integer + b"\x02\x03" + EXPONENT.to_bytes(3, "big")
-    return b"\x30\x82" + struct.pack(">H", len(sequence)) + sequence
+    """The DER of an RSAPublicKey."""
+    return der(0x30, der_integer(modulus) + der_integer(EXPONENT))
 
 
 def public_key(label, bits):
