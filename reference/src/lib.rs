@@ -13,6 +13,7 @@ mod operation;
 mod protobuf;
 mod registry;
 mod roster;
+pub mod rsa;
 pub mod rules;
 mod service;
 mod status;

@@ -1,5 +1,5 @@
 //! The two providers and the opcodes of each.
-//! Document 01, "Operations and their fields".
+//! Document 01, "Operations and their fields"; document 02, "Checking signatures".
 
 #[derive(Clone, Copy, Debug, PartialEq, Eq)]
 #[repr(u8)]
@@ -30,11 +30,12 @@ pub enum CoreOpcode {
     ListOpcodes = 9,
 }
 
-/// PsaDestroyKey, PsaImportKey and PsaExportPublicKey in 002's names.
+/// PsaDestroyKey, PsaAsymmetricVerify, PsaImportKey and PsaExportPublicKey in 002's names.
 #[derive(Clone, Copy, Debug, PartialEq, Eq)]
 #[repr(u16)]
 pub enum KeystoreOpcode {
     Destroy = 3,
+    Verify = 5,
     Import = 6,
     Export = 7,
 }
@@ -46,7 +47,7 @@ impl CoreOpcode {
 
 impl KeystoreOpcode {
     /// Ascending, as ListOpcodes writes them.
-    pub const ALL: [KeystoreOpcode; 3] = [Self::Destroy, Self::Import, Self::Export];
+    pub const ALL: [KeystoreOpcode; 4] = [Self::Destroy, Self::Verify, Self::Import, Self::Export];
 }
 
 /// A listed opcode, under the provider it belongs to.

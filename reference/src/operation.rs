@@ -1,10 +1,11 @@
-//! The six operations: what each reads from its body, does and writes.
-//! Document 01, "Operations and their fields"; document 02, "Unlisted fields": a field that is not
-//! listed, or has another wire type, is skipped.
+//! The seven operations: what each reads from its body, does and writes.
+//! Document 01, "Operations and their fields"; document 02, "Unlisted fields" (a field that is not
+//! listed, or has another wire type, is skipped) and "Checking signatures".
 
 use crate::opcode::{CoreOpcode, KeystoreOpcode, Provider};
 use crate::protobuf::{fields, low_32_bits, skip_fields, Unreadable, Value, Writer};
 use crate::registry::{self, key_name_is_legal, Key, Line, Slot, LONGEST_DATA};
+use crate::rsa::{self, Outcome, HASH_LENGTH};
 use crate::status::Status;
 use crate::wire::RESPONSE_HEADER_LENGTH;
 
@@ -39,10 +40,10 @@ pub fn perform_core(opcode: CoreOpcode, body: &[u8], out: &mut [u8]) -> Result<u
     Ok(writer.written())
 }
 
-fn opcode_numbers(provider: Provider) -> [u32; 3] {
+fn opcode_numbers(provider: Provider) -> Vec<u32> {
     match provider {
-        Provider::Core => CoreOpcode::ALL.map(|opcode| opcode as u32),
-        Provider::Keystore => KeystoreOpcode::ALL.map(|opcode| opcode as u32),
+        Provider::Core => CoreOpcode::ALL.map(|opcode| opcode as u32).to_vec(),
+        Provider::Keystore => KeystoreOpcode::ALL.map(|opcode| opcode as u32).to_vec(),
     }
 }
 
@@ -58,6 +59,7 @@ pub fn perform_keystore(
         KeystoreOpcode::Import => import(registry, line, &read_key_input(body)?),
         KeystoreOpcode::Destroy => destroy(registry, line, read_name(body)?),
         KeystoreOpcode::Export => export(registry, line, read_name(body)?, out),
+        KeystoreOpcode::Verify => verify(registry, line, &read_verify_input(body)?),
     }
 }
 
@@ -91,6 +93,23 @@ fn export(registry: &[u8], line: Line, name: &[u8], out: &mut [u8]) -> Result<us
     let mut writer = Writer::new(out);
     writer.write_bytes(1, key.data);
     Ok(writer.written())
+}
+
+/// The key's permission, then the hash's length, then key and signature by RFC 8017.
+fn verify(registry: &[u8], line: Line, input: &VerifyInput) -> Result<usize, Status> {
+    let slot = find_named_key(registry, line, input.name)?;
+    let key = registry::read_key(registry, line, slot);
+    if !key.verify_allowed {
+        return Err(Status::PsaErrorNotPermitted);
+    }
+    if input.hash.len() != HASH_LENGTH {
+        return Err(Status::PsaErrorInvalidArgument);
+    }
+    match rsa::verify(key.data, key.bits, input.hash, input.signature).outcome {
+        Outcome::Valid => Ok(0),
+        Outcome::InvalidSignature => Err(Status::PsaErrorInvalidSignature),
+        Outcome::InvalidKey => Err(Status::PsaErrorNotSupported),
+    }
 }
 
 fn find_named_key(registry: &[u8], line: Line, name: &[u8]) -> Result<Slot, Status> {
@@ -137,4 +156,26 @@ fn read_key_input(body: &[u8]) -> Result<Key<'_>, Unreadable> {
         }
     }
     Ok(key)
+}
+
+/// Verify's input, as it lies in the body.
+#[derive(Default)]
+struct VerifyInput<'a> {
+    name: &'a [u8],
+    hash: &'a [u8],
+    signature: &'a [u8],
+}
+
+fn read_verify_input(body: &[u8]) -> Result<VerifyInput<'_>, Unreadable> {
+    let mut input = VerifyInput::default();
+    for field in fields(body) {
+        let field = field?;
+        match (field.number, field.value) {
+            (1, Value::Bytes(value)) => input.name = value,
+            (2, Value::Bytes(value)) => input.hash = value,
+            (3, Value::Bytes(value)) => input.signature = value,
+            _ => {}
+        }
+    }
+    Ok(input)
 }

@@ -191,7 +191,8 @@ impl<'a> Writer<'a> {
     pub fn write_packed(&mut self, number: u32, values: &[u32]) {
         if !values.is_empty() {
             self.write_varint(number << 3 | 2);
-            self.write_varint(values.iter().copied().map(varint_length).sum());
+            let lengths = values.iter().map(|&value| varint_length(value.into()));
+            self.write_varint(lengths.sum());
             for &value in values {
                 self.write_varint(value);
             }
@@ -212,7 +213,15 @@ impl<'a> Writer<'a> {
     }
 }
 
-fn varint_length(value: u32) -> u32 {
-    let bits = u32::BITS - value.leading_zeros();
+/// How many bytes `write_bytes` takes, under a field number whose tag has one byte.
+pub fn bytes_field_length(value: &[u8]) -> usize {
+    match value.len() {
+        0 => 0,
+        length => 1 + varint_length(length as u64) as usize + length,
+    }
+}
+
+fn varint_length(value: u64) -> u32 {
+    let bits = u64::BITS - value.leading_zeros();
     bits.div_ceil(7).max(1)
 }

@@ -1,5 +1,5 @@
 //! The statuses that a response carries, with their numbers.
-//! Document 01, "Order of judgement on one request", the table.
+//! Document 01, "Order of judgement on one request", the table; document 02, "Checking signatures".
 
 #[derive(Clone, Copy, Debug, PartialEq, Eq)]
 #[repr(u16)]
@@ -18,15 +18,17 @@ pub enum Status {
     NotAuthenticated = 19,
     BodySizeExceedsLimit = 20,
     PsaErrorNotPermitted = 1133,
+    PsaErrorNotSupported = 1134,
     PsaErrorInvalidArgument = 1135,
     PsaErrorAlreadyExists = 1139,
     PsaErrorDoesNotExist = 1140,
     PsaErrorInsufficientStorage = 1142,
+    PsaErrorInvalidSignature = 1149,
 }
 
 impl Status {
     /// Every status, in ascending order of their numbers.
-    pub const ALL: [Status; 18] = [
+    pub const ALL: [Status; 20] = [
         Status::Success,
         Status::WrongProviderID,
         Status::ContentTypeNotSupported,
@@ -41,15 +43,17 @@ impl Status {
         Status::NotAuthenticated,
         Status::BodySizeExceedsLimit,
         Status::PsaErrorNotPermitted,
+        Status::PsaErrorNotSupported,
         Status::PsaErrorInvalidArgument,
         Status::PsaErrorAlreadyExists,
         Status::PsaErrorDoesNotExist,
         Status::PsaErrorInsufficientStorage,
+        Status::PsaErrorInvalidSignature,
     ];
 
     /// Every status but `Success`, in ascending order: the order of `Counters::refused`.
-    pub const REFUSED: [Status; 17] = {
-        let mut refused = [Status::Success; 17];
+    pub const REFUSED: [Status; 19] = {
+        let mut refused = [Status::Success; 19];
         let mut place = 0;
         while place < refused.len() {
             refused[place] = Status::ALL[place + 1];

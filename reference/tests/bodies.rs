@@ -145,7 +145,7 @@ fn a_uint32_is_the_low_32_bits() {
         expect_imported(body, &key(b"a"));
     }
     let response = Service::new().ask(&list_opcodes(1 << 32 | 1));
-    assert_eq!(response.body, [0x0A, 3, 3, 6, 7]);
+    assert_eq!(response.body, [0x0A, 4, 3, 5, 6, 7]);
 }
 
 #[test]

@@ -5,6 +5,7 @@ mod common;
 
 use common::client::{read_every_way, Client, OPCODES};
 use common::generate::Random;
+use common::vectors::blocks;
 use common::*;
 use reference::{rules, write_request, Operation, Output, Reading, Status, MIN_REQUEST_BUFFER};
 
@@ -52,6 +53,14 @@ fn import_key<'a>(name: &'a [u8], data: &'a [u8], export_allowed: bool) -> Opera
     }
 }
 
+fn verify_key(name: &[u8]) -> Operation<'_> {
+    Operation::VerifySignature {
+        name,
+        hash: &[1; 32],
+        signature: &[2; 384],
+    }
+}
+
 #[test]
 fn core_operations_answer_an_application_and_nobody() {
     let cases = [
@@ -63,7 +72,7 @@ fn core_operations_answer_an_application_and_nobody() {
         ),
         (
             Operation::ListOpcodes { provider: 1 },
-            (0, Output::Opcodes(vec![3, 6, 7])),
+            (0, Output::Opcodes(vec![3, 5, 6, 7])),
         ),
         (
             Operation::ListOpcodes { provider: 2 },
@@ -101,6 +110,34 @@ fn a_key_is_imported_exported_and_destroyed() {
 }
 
 #[test]
+fn a_signature_is_verified_with_the_imported_key() {
+    let block = &blocks("signatures.txt")[0];
+    let (data, hash) = (block.bytes("data"), block.bytes("hash"));
+    let signature = block.bytes("signature");
+    let import = Operation::ImportKey {
+        name: b"k",
+        data: &data,
+        bits: block.number("bits"),
+        export_allowed: false,
+        verify_allowed: true,
+    };
+    let verify_with = |signature| Operation::VerifySignature {
+        name: b"k",
+        hash: &hash,
+        signature,
+    };
+    let mut service = Service::new();
+    let mut ask = |operation: &Operation| ask(&mut service, Some(FIRST), operation);
+    assert_eq!(ask(&import), DONE);
+    assert_eq!(ask(&verify_with(&signature)), DONE);
+    let cut = verify_with(&signature[1..]);
+    assert_eq!(ask(&cut), refused(Status::PsaErrorInvalidSignature));
+    // The longest that a body has room for.
+    let longest = verify_with(&[7; 4_056]);
+    assert_eq!(ask(&longest), refused(Status::PsaErrorInvalidSignature));
+}
+
+#[test]
 fn a_key_without_leave_for_export_is_not_permitted() {
     let mut service = Service::new();
     let import = import_key(b"k", &[1], false);
@@ -131,6 +168,7 @@ fn keystore_operations_by_nobody_are_not_authenticated() {
         import_key(b"k", &[1], true),
         Operation::DestroyKey { name: b"k" },
         Operation::ExportPublicKey { name: b"k" },
+        verify_key(b"k"),
     ] {
         assert_eq!(
             ask(&mut Service::new(), None, &operation),
@@ -226,7 +264,7 @@ fn responses_on_a_stream_are_read_one_after_the_other() {
         Output::Version { major: 1, minor: 0 },
         Output::Nothing,
         Output::Data(vec![7; 300]),
-        Output::Opcodes(vec![3, 6, 7]),
+        Output::Opcodes(vec![3, 5, 6, 7]),
         Output::Nothing,
         Output::Providers(vec![0, 1]),
     ];
@@ -274,6 +312,11 @@ impl Model {
                 Some((_, _, false)) => refused(Status::PsaErrorNotPermitted),
                 None => refused(Status::PsaErrorDoesNotExist),
             },
+            // The data is any bytes, and no key.
+            Operation::VerifySignature { name, .. } => match find(name) {
+                Some(_) => refused(Status::PsaErrorNotSupported),
+                None => refused(Status::PsaErrorDoesNotExist),
+            },
             _ => panic!("not of the keystore"),
         }
     }
@@ -289,9 +332,10 @@ fn generated_keystore_requests_are_answered_as_the_rules_say() {
         let name = [random.pick(b"abcdef")];
         let length = 1 + random.below(600);
         let data = random.bytes(length);
-        let operation = match random.below(4) {
+        let operation = match random.below(5) {
             0 => Operation::DestroyKey { name: &name },
             1 => Operation::ExportPublicKey { name: &name },
+            2 => verify_key(&name),
             _ => import_key(&name, &data, !random.once_in(3)),
         };
         let line = random.below(2);

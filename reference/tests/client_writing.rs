@@ -1,5 +1,6 @@
 //! What the client writes for each operation, and what it refuses before a byte is written.
-//! Document 02, "The client's half", its last sentence; document 01's bounds and writing rule.
+//! Document 02, "The client's half", its last sentence, and "Checking signatures"; document 01's bounds
+//! and writing rule.
 
 mod common;
 
@@ -15,13 +16,20 @@ const IMPORT_KEY: Operation = Operation::ImportKey {
     verify_allowed: false,
 };
 
-const OPERATIONS: [Operation; 6] = [
+const VERIFY_SIGNATURE: Operation = Operation::VerifySignature {
+    name: b"a",
+    hash: &[0x11; 32],
+    signature: &[0xCC, 0xDD],
+};
+
+const OPERATIONS: [Operation; 7] = [
     Operation::Ping,
     Operation::ListProviders,
     Operation::ListOpcodes { provider: 1 },
     IMPORT_KEY,
     Operation::DestroyKey { name: b"a" },
     Operation::ExportPublicKey { name: b"a" },
+    VERIFY_SIGNATURE,
 ];
 
 /// The request as it is written, the same over any bytes; those past it stay.
@@ -67,7 +75,7 @@ fn refusal(operation: &Operation) -> Option<WriteRefusal> {
     refusal_of(MIN_REQUEST_BUFFER, Some(FIRST), operation)
 }
 
-fn with_name(name: &[u8]) -> [Operation<'_>; 3] {
+fn with_name(name: &[u8]) -> [Operation<'_>; 4] {
     [
         Operation::ImportKey {
             name,
@@ -78,6 +86,7 @@ fn with_name(name: &[u8]) -> [Operation<'_>; 3] {
         },
         Operation::DestroyKey { name },
         Operation::ExportPublicKey { name },
+        verify_of(name, &[0; 32], &[]),
     ]
 }
 
@@ -88,6 +97,14 @@ fn import_of(data: &[u8], bits: u32) -> Operation<'_> {
         bits,
         export_allowed: false,
         verify_allowed: false,
+    }
+}
+
+fn verify_of<'a>(name: &'a [u8], hash: &'a [u8], signature: &'a [u8]) -> Operation<'a> {
+    Operation::VerifySignature {
+        name,
+        hash,
+        signature,
     }
 }
 
@@ -121,7 +138,7 @@ fn the_bytes_of_an_export_from_an_application() {
 
 #[test]
 fn opcode_and_provider_are_the_operations() {
-    let listed = [(1, 0), (8, 0), (9, 0), (6, 1), (3, 1), (7, 1)];
+    let listed = [(1, 0), (8, 0), (9, 0), (6, 1), (3, 1), (7, 1), (5, 1)];
     for (operation, (opcode, provider)) in OPERATIONS.iter().zip(listed) {
         let request = written(operation, 5, Some(FIRST));
         assert_eq!(request[26..28], [opcode, 0]);
@@ -326,13 +343,50 @@ fn bits_are_1024_to_4096_in_multiples_of_8() {
     }
 }
 
+#[test]
+fn a_hash_has_32_bytes() {
+    for length in [0, 1, 31, 33, 64, 5_000, 65_536 + 32] {
+        let hash = vec![0; length];
+        let operation = verify_of(b"a", &hash, &[1]);
+        assert_eq!(refusal(&operation), Some(WriteRefusal::BadHash));
+    }
+    assert_eq!(refusal(&verify_of(b"a", &[0; 32], &[1])), None);
+}
+
+#[test]
+fn a_verify_body_has_at_most_4096_bytes() {
+    // 3 bytes of name, 34 of hash, and 3 before the signature.
+    for (name_length, longest) in [(1, 4_056), (32, 4_025)] {
+        let name = vec![b'k'; name_length];
+        let length_of = |length| body_of(&verify_of(&name, &[0; 32], &vec![7; length])).len();
+        assert_eq!(length_of(longest), 4_096);
+        for length in [longest + 1, 4_096, 5_120, 65_536 + 1] {
+            let signature = vec![7; length];
+            let operation = verify_of(&name, &[0; 32], &signature);
+            assert_eq!(refusal(&operation), Some(WriteRefusal::BodyTooLong));
+        }
+    }
+}
+
+#[test]
+fn an_empty_signature_is_left_out_and_any_other_is_written() {
+    let body = |signature| body_of(&verify_of(b"a", &[9; 32], signature));
+    let beginning = [&[0x0A, 1, b'a', 0x12, 32][..], &[9; 32]].concat();
+    assert_eq!(body(&[]), beginning);
+    assert_eq!(body(&[0]), [&beginning[..], &[0x1A, 1, 0]].concat());
+    let long = [&[0x1A, 0x80, 0x02][..], &[5; 256]].concat();
+    assert_eq!(body(&[5; 256]), [beginning, long].concat());
+}
+
 /// All that an operation can be refused for, in the order of judgement.
-const REFUSALS: [WriteRefusal; 5] = [
+const REFUSALS: [WriteRefusal; 7] = [
     WriteRefusal::BufferTooSmall,
     WriteRefusal::BadApplicationName,
     WriteRefusal::BadKeyName,
     WriteRefusal::BadData,
     WriteRefusal::BadBits,
+    WriteRefusal::BadHash,
+    WriteRefusal::BodyTooLong,
 ];
 
 /// Any set of faults at once, so each two in either order; an operation has only some of them.
@@ -357,8 +411,20 @@ fn of_several_faults_the_first_of_the_order_is_said() {
             export_allowed: true,
             verify_allowed: true,
         };
+        let bad_hash = has(WriteRefusal::BadHash);
+        let verify = Operation::VerifySignature {
+            name,
+            hash: &[1; 33][..32 + usize::from(bad_hash)],
+            signature: if has(WriteRefusal::BodyTooLong) {
+                &[2; 4_096]
+            } else {
+                &[2; 256]
+            },
+        };
+        let verify_refusals = [&REFUSALS[..3], &REFUSALS[5..]].concat();
         let cases = [
-            (import, &REFUSALS[..]),
+            (import, &REFUSALS[..5]),
+            (verify, &verify_refusals),
             (Operation::DestroyKey { name }, &REFUSALS[..3]),
             (Operation::ExportPublicKey { name }, &REFUSALS[..3]),
             (Operation::ListOpcodes { provider: 2 }, &REFUSALS[..2]),
@@ -369,7 +435,7 @@ fn of_several_faults_the_first_of_the_order_is_said() {
             assert_eq!(
                 refusal_of(length, application, &operation),
                 first_of(refusals),
-                "{operation:?} with faults {faults:05b}"
+                "{operation:?} with faults {faults:07b}"
             );
         }
     }
@@ -385,6 +451,14 @@ fn built(operation: &Operation, session: u64, application: Option<&[u8]>) -> Vec
         Operation::ListOpcodes { provider } => list_opcodes(provider.into()),
         Operation::DestroyKey { name } => Request::new(1, DESTROY, named(name)),
         Operation::ExportPublicKey { name } => Request::new(1, EXPORT, named(name)),
+        Operation::VerifySignature {
+            name,
+            hash,
+            signature,
+        } => {
+            let body = Body::new().field(1, name).field(2, hash);
+            Request::new(1, VERIFY, body.field(3, signature).bytes())
+        }
         Operation::ImportKey {
             name,
             data,
@@ -420,7 +494,8 @@ fn generated_requests_are_those_of_another_builder() {
         let name = visible(random, 32);
         let length = 1 + random.below(600);
         let data = random.bytes(length);
-        let operation = match random.below(8) {
+        let hash = random.bytes(32);
+        let operation = match random.below(10) {
             0 => Operation::Ping,
             1 => Operation::ListProviders,
             2 => Operation::ListOpcodes {
@@ -428,6 +503,7 @@ fn generated_requests_are_those_of_another_builder() {
             },
             3 => Operation::DestroyKey { name: &name },
             4 => Operation::ExportPublicKey { name: &name },
+            5 | 6 => verify_of(&name, &hash, &data),
             _ => Operation::ImportKey {
                 name: &name,
                 data: &data,

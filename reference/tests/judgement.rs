@@ -1,13 +1,13 @@
 //! Every status by a request made for it, and the earlier status where two tests apply.
-//! Document 01, "Order of judgement on one request".
+//! Document 01, "Order of judgement on one request"; Verify's own statuses are in signatures.rs.
 
 mod common;
 
 use common::*;
 use reference::Status;
 
-const NUMBERS: [u16; 18] = [
-    0, 1, 2, 3, 4, 6, 7, 9, 11, 12, 17, 19, 20, 1_133, 1_135, 1_139, 1_140, 1_142,
+const NUMBERS: [u16; 20] = [
+    0, 1, 2, 3, 4, 6, 7, 9, 11, 12, 17, 19, 20, 1_133, 1_134, 1_135, 1_139, 1_140, 1_142, 1_149,
 ];
 
 /// A body that no operation can read: wire type 6.
@@ -142,7 +142,7 @@ fn an_accept_type_other_than_1_is_not_supported() {
 
 #[test]
 fn an_unlisted_opcode_does_not_exist() {
-    for opcode in [0, 2, 4, 5, 10, 256 + 1, u16::MAX] {
+    for opcode in [0, 2, 4, 10, 256 + 1, 256 + 5, u16::MAX] {
         expect(&Request { opcode, ..ping() }, Status::OpcodeDoesNotExist);
     }
 }
@@ -163,7 +163,7 @@ fn an_opcode_of_the_other_provider_is_wrong_provider() {
             Status::WrongProviderID,
         );
     }
-    for opcode in [DESTROY, IMPORT, EXPORT] {
+    for opcode in [DESTROY, VERIFY, IMPORT, EXPORT] {
         expect(
             &Request::new(0, opcode, Vec::new()),
             Status::WrongProviderID,
@@ -207,7 +207,8 @@ fn an_empty_name_is_on_no_roster() {
 
 #[test]
 fn a_keystore_operation_with_auth_type_0_is_not_authenticated() {
-    for request in [import(&key(b"a")), destroy(b"a"), export(b"a")] {
+    let verify = verify(b"a", &[0; 32], &[]);
+    for request in [import(&key(b"a")), destroy(b"a"), export(b"a"), verify] {
         expect(&request.without_authentication(), Status::NotAuthenticated);
     }
 }
@@ -216,7 +217,7 @@ fn a_keystore_operation_with_auth_type_0_is_not_authenticated() {
 fn an_unreadable_body_is_deserializing_body_failed() {
     let core =
         [PING, LIST_PROVIDERS, LIST_OPCODES].map(|opcode| Request::new(0, opcode, unreadable()));
-    let keystore = [DESTROY, IMPORT, EXPORT].map(|opcode| keystore(opcode, unreadable()));
+    let keystore = [DESTROY, VERIFY, IMPORT, EXPORT].map(|opcode| keystore(opcode, unreadable()));
     for request in core.iter().chain(&keystore) {
         expect(request, Status::DeserializingBodyFailed);
     }
@@ -256,6 +257,8 @@ fn a_name_not_held_does_not_exist() {
     for name in [&b"b"[..], b"aa"] {
         service.expect_status(&export(name), Status::PsaErrorDoesNotExist);
         service.expect_status(&destroy(name), Status::PsaErrorDoesNotExist);
+        let verify = verify(name, &[0; 32], &[]);
+        service.expect_status(&verify, Status::PsaErrorDoesNotExist);
     }
 }
 

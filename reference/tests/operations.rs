@@ -1,4 +1,4 @@
-//! What the six operations answer and what they leave in the registry.
+//! What the operations answer and what they leave in the registry; verifying has signatures.rs.
 //! Document 01, "Operations and their fields".
 
 mod common;

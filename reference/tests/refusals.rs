@@ -39,7 +39,7 @@ fn a_long_chunk_is_c2() {
 #[test]
 fn every_counter_above_2_to_the_62_is_c5() {
     let too_high = (1 << 62) + 1;
-    let mut services = vec![Service::new(); 4 + 8 + 17];
+    let mut services = vec![Service::new(); 4 + 8 + 19];
     services[0].counters.taken = too_high;
     services[1].counters.answered = too_high;
     services[2].counters.dropped = too_high;
@@ -47,7 +47,7 @@ fn every_counter_above_2_to_the_62_is_c5() {
     for line in 0..8 {
         services[4 + line].counters.served[line] = too_high;
     }
-    for status in 0..17 {
+    for status in 0..19 {
         services[12 + status].counters.refused[status] = u64::MAX;
     }
     for mut service in services {
@@ -64,7 +64,7 @@ fn every_counter_at_2_to_the_62_is_taken() {
     service.counters.dropped = 1 << 62;
     service.counters.served = [1 << 62; 8];
     service.counters.unauthenticated = 1 << 62;
-    service.counters.refused = [1 << 62; 17];
+    service.counters.refused = [1 << 62; 19];
     let before = service.clone();
     assert!(service.call(&[]).is_ok());
     assert_eq!(service, before);

@@ -31,7 +31,7 @@ fn with_h_of_30_the_body_starts_eight_bytes_later() {
     assert_eq!(responses.len(), 1);
     assert_eq!(
         Response::read(&responses[0]).body,
-        [0x0A, 0x03, 0x03, 0x06, 0x07]
+        [0x0A, 0x04, 0x03, 0x05, 0x06, 0x07]
     );
 }
 

@@ -78,13 +78,13 @@ fn list_opcodes_answers_0a_03_01_08_09_for_0() {
 }
 
 #[test]
-fn list_opcodes_answers_0a_03_03_06_07_for_1() {
+fn list_opcodes_answers_0a_04_03_05_06_07_for_1() {
     let mut request = PING_REQUEST.to_vec();
     request[26] = 9;
     request[20] = 2;
     request.extend([0x08, 0x01]);
     let response = &responses_to(&request)[0];
-    assert_eq!(response[26..], [0x0A, 0x03, 0x03, 0x06, 0x07]);
+    assert_eq!(response[26..], [0x0A, 0x04, 0x03, 0x05, 0x06, 0x07]);
 }
 
 #[test]

@@ -1,6 +1,6 @@
 //! Reading a response, uncut and in chunks, and what is refused at which byte.
-//! Document 02, "The client's half" and "Unlisted fields"; document 01, "Bytes on the wire" and the
-//! paragraph on reading.
+//! Document 02, "The client's half", "Unlisted fields" and "Checking signatures"; document 01, "Bytes
+//! on the wire" and the paragraph on reading.
 
 use crate::opcode::{CoreOpcode, KeystoreOpcode, Opcode};
 use crate::protobuf::{fields, low_32_bits, packed_entries, skip_fields, Unreadable, Value};
@@ -150,9 +150,9 @@ fn read_output(opcode: Opcode, body: &[u8]) -> Result<Output, Unreadable> {
         Opcode::Core(CoreOpcode::Ping) => read_version(body),
         Opcode::Core(CoreOpcode::ListProviders) => read_list(body).map(Output::Providers),
         Opcode::Core(CoreOpcode::ListOpcodes) => read_list(body).map(Output::Opcodes),
-        Opcode::Keystore(KeystoreOpcode::Import | KeystoreOpcode::Destroy) => {
-            skip_fields(body).map(|()| Output::Nothing)
-        }
+        Opcode::Keystore(
+            KeystoreOpcode::Import | KeystoreOpcode::Destroy | KeystoreOpcode::Verify,
+        ) => skip_fields(body).map(|()| Output::Nothing),
         Opcode::Keystore(KeystoreOpcode::Export) => read_data(body),
     }
 }

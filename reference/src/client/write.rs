@@ -1,14 +1,15 @@
 //! Writing a request into a lent buffer, and what is refused before a byte is written.
-//! Document 02, "The client's half", its last sentence; document 01, "Bytes on the wire" and
-//! "Operations and their fields".
+//! Document 02, "The client's half", its last sentence, and "Checking signatures"; document 01, "Bytes
+//! on the wire" and "Operations and their fields".
 
 use crate::bytes::write_at;
 use crate::opcode::{CoreOpcode, KeystoreOpcode, Opcode};
-use crate::protobuf::Writer;
+use crate::protobuf::{bytes_field_length, Writer};
 use crate::registry::{
     application_name_is_legal, bits_are_legal, data_is_legal, key_name_is_legal,
 };
-use crate::wire::{Header, SHORTEST_HEADER_LENGTH};
+use crate::rsa::HASH_LENGTH;
+use crate::wire::{Header, MAX_CONTENT_LENGTH, SHORTEST_HEADER_LENGTH};
 
 pub const MIN_REQUEST_BUFFER: usize = 5_120;
 
@@ -33,6 +34,11 @@ pub enum Operation<'a> {
     ExportPublicKey {
         name: &'a [u8],
     },
+    VerifySignature {
+        name: &'a [u8],
+        hash: &'a [u8],
+        signature: &'a [u8],
+    },
 }
 
 /// Why a request is not written; the cases stand in the order in which they are tried.
@@ -43,6 +49,8 @@ pub enum WriteRefusal {
     BadKeyName,
     BadData,
     BadBits,
+    BadHash,
+    BodyTooLong,
 }
 
 /// Writes the request to the front of `buffer` and says how many bytes it has; bytes past it stay.
@@ -99,10 +107,11 @@ impl Operation<'_> {
             Operation::ImportKey { .. } => Opcode::Keystore(KeystoreOpcode::Import),
             Operation::DestroyKey { .. } => Opcode::Keystore(KeystoreOpcode::Destroy),
             Operation::ExportPublicKey { .. } => Opcode::Keystore(KeystoreOpcode::Export),
+            Operation::VerifySignature { .. } => Opcode::Keystore(KeystoreOpcode::Verify),
         }
     }
 
-    /// The key's name, data and bits; ListOpcodes may ask for any provider.
+    /// The key's name, data and bits, the hash and the body; ListOpcodes may ask for any provider.
     fn judge(&self) -> Result<(), WriteRefusal> {
         match *self {
             Operation::Ping | Operation::ListProviders | Operation::ListOpcodes { .. } => Ok(()),
@@ -112,6 +121,11 @@ impl Operation<'_> {
             Operation::DestroyKey { name } | Operation::ExportPublicKey { name } => {
                 judge_key_name(name)
             }
+            Operation::VerifySignature {
+                name,
+                hash,
+                signature,
+            } => judge_signature(name, hash, signature),
         }
     }
 
@@ -137,6 +151,15 @@ impl Operation<'_> {
             Operation::DestroyKey { name } | Operation::ExportPublicKey { name } => {
                 writer.write_bytes(1, name);
             }
+            Operation::VerifySignature {
+                name,
+                hash,
+                signature,
+            } => {
+                writer.write_bytes(1, name);
+                writer.write_bytes(2, hash);
+                writer.write_bytes(3, signature);
+            }
         }
         writer.written()
     }
@@ -149,6 +172,19 @@ fn judge_key(name: &[u8], data: &[u8], bits: u32) -> Result<(), WriteRefusal> {
     }
     if !bits_are_legal(bits) {
         return Err(WriteRefusal::BadBits);
+    }
+    Ok(())
+}
+
+/// Any signature is written, even one that is no key's, where the body has room for it.
+fn judge_signature(name: &[u8], hash: &[u8], signature: &[u8]) -> Result<(), WriteRefusal> {
+    judge_key_name(name)?;
+    if hash.len() != HASH_LENGTH {
+        return Err(WriteRefusal::BadHash);
+    }
+    let body_length: usize = [name, hash, signature].map(bytes_field_length).iter().sum();
+    if body_length > MAX_CONTENT_LENGTH as usize {
+        return Err(WriteRefusal::BodyTooLong);
     }
     Ok(())
 }

@@ -13,13 +13,22 @@ pub const PING: Opcode = Opcode::Core(CoreOpcode::Ping);
 pub const LIST_PROVIDERS: Opcode = Opcode::Core(CoreOpcode::ListProviders);
 pub const LIST_OPCODES: Opcode = Opcode::Core(CoreOpcode::ListOpcodes);
 pub const DESTROY: Opcode = Opcode::Keystore(KeystoreOpcode::Destroy);
+pub const VERIFY: Opcode = Opcode::Keystore(KeystoreOpcode::Verify);
 pub const IMPORT: Opcode = Opcode::Keystore(KeystoreOpcode::Import);
 pub const EXPORT: Opcode = Opcode::Keystore(KeystoreOpcode::Export);
 
-pub const OPCODES: [Opcode; 6] = [PING, DESTROY, IMPORT, EXPORT, LIST_PROVIDERS, LIST_OPCODES];
+pub const OPCODES: [Opcode; 7] = [
+    PING,
+    DESTROY,
+    VERIFY,
+    IMPORT,
+    EXPORT,
+    LIST_PROVIDERS,
+    LIST_OPCODES,
+];
 
-/// The number and the provider of each of `OPCODES`, as document 01 lists them.
-pub const NUMBERS: [(u16, u8); 6] = [(1, 0), (3, 1), (6, 1), (7, 1), (8, 0), (9, 0)];
+/// The number and the provider of each of `OPCODES`, as the documents list them.
+pub const NUMBERS: [(u16, u8); 7] = [(1, 0), (3, 1), (5, 1), (6, 1), (7, 1), (8, 0), (9, 0)];
 
 /// A response, good or damaged.
 #[derive(Clone, Debug)]
@@ -92,9 +101,10 @@ pub fn good_responses() -> Vec<(Opcode, RawResponse)> {
         (PING, &[0x08, 0x01][..]),
         (PING, &[]),
         (LIST_PROVIDERS, &[0x0A, 0x02, 0x00, 0x01]),
-        (LIST_OPCODES, &[0x0A, 0x03, 0x03, 0x06, 0x07]),
+        (LIST_OPCODES, &[0x0A, 0x04, 0x03, 0x05, 0x06, 0x07]),
         (IMPORT, &[]),
         (DESTROY, &[]),
+        (VERIFY, &[]),
         (EXPORT, &long_data),
         (EXPORT, &longest_data),
     ]

@@ -1,7 +1,9 @@
 //! Rosters and streams of good and damaged requests from a seed, the same on every run.
 //! Document 01, "A whole stream under the rules", is what they are meant to reach all of.
 
+use super::vectors::blocks;
 use super::*;
+use std::sync::OnceLock;
 
 /// A xorshift generator of 64 bits.
 pub struct Random(u64);
@@ -79,7 +81,8 @@ fn good_request(random: &mut Random, names: &[Vec<u8>]) -> Request {
     let application = name.map_or(FIRST, Vec::as_slice);
     let request = match random.below(20) {
         0..9 => keystore(IMPORT, import_body(random)),
-        9..13 => export(&key_name(random)),
+        9..11 => export(&key_name(random)),
+        11..13 => verify_request(random),
         13..15 => destroy(&key_name(random)),
         15 => list_providers(),
         16..18 => list_opcodes(random.pick(&[0, 1, 1, 2, 1 << 32, 1 << 32 | 1])),
@@ -105,7 +108,73 @@ fn key_name(random: &mut Random) -> Vec<u8> {
     }
 }
 
+/// A key, a hash and the key's signature.
+struct Signed {
+    data: Vec<u8>,
+    bits: u64,
+    hash: Vec<u8>,
+    signature: Vec<u8>,
+}
+
+/// The short ones of tests/vectors.
+fn signed() -> &'static [Signed] {
+    static SIGNED: OnceLock<Vec<Signed>> = OnceLock::new();
+    SIGNED.get_or_init(|| {
+        let blocks = blocks("signatures.txt").into_iter();
+        let short = blocks.filter(|block| block.number("bits") < 1_100);
+        short
+            .map(|block| Signed {
+                data: block.bytes("data"),
+                bits: block.number("bits").into(),
+                hash: block.bytes("hash"),
+                signature: block.bytes("signature"),
+            })
+            .collect()
+    })
+}
+
+/// Of two names, so that a key that an import brought is verified with its own signature.
+fn signed_key(random: &mut Random) -> (Vec<u8>, &'static Signed) {
+    let place = random.below(2);
+    (vec![b"ab"[place]], &signed()[place])
+}
+
+fn verify_request(random: &mut Random) -> Request {
+    let (name, signed) = signed_key(random);
+    let (mut hash, mut signature) = (signed.hash.clone(), signed.signature.clone());
+    match random.below(8) {
+        0 => hash.resize(random.pick(&[0, 31, 33]), 0),
+        1 => signature.resize(random.pick(&[0, 127, 129]), 0),
+        2 => signature.fill(0xFF),
+        3 => hash[random.below(32)] ^= 1,
+        4 => signature[random.below(128)] ^= 1,
+        _ => {}
+    }
+    let name = if random.once_in(8) {
+        key_name(random)
+    } else {
+        name
+    };
+    verify(&name, &hash, &signature)
+}
+
+/// A key that verifies, or one that says other bits.
+fn signed_import_body(random: &mut Random) -> Vec<u8> {
+    let (name, signed) = signed_key(random);
+    Key {
+        name,
+        data: signed.data.clone(),
+        bits: random.pick(&[signed.bits, signed.bits, signed.bits + 8]),
+        export_allowed: random.once_in(2),
+        verify_allowed: !random.once_in(4),
+    }
+    .body()
+}
+
 fn import_body(random: &mut Random) -> Vec<u8> {
+    if random.once_in(3) {
+        return signed_import_body(random);
+    }
     let length = random.pick(&[1, 1, 2, 2, 5, 5, 40, 40, 128, 600, 0, 601]);
     let bits = random.pick(&[
         1_024,
@@ -150,7 +219,7 @@ fn with_bad_header_field(random: &mut Random, mut request: Request) -> Request {
         1 => request.minor = 1,
         2 => request.content_type = random.pick(&[0, 2]),
         3 => request.accept_type = random.pick(&[0, 2]),
-        4 => request.opcode = random.pick(&[0, 2, 5, 0x101]),
+        4 => request.opcode = random.pick(&[0, 2, 4, 0x101]),
         5 => request.provider = random.pick(&[2, 255]),
         6 => request.provider = 1 - request.provider,
         7 => request.auth_type = random.pick(&[0, 0, 2, 255]),

@@ -1,11 +1,14 @@
 //! Builders of requests, bodies, rosters and lent memory, and a service to hand them to.
-//! Document 01, "Bytes on the wire", "Operations and their fields" and the layout in docs/.
+//! Document 01, "Bytes on the wire", "Operations and their fields" and the layout in docs/; document
+//! 02, "Checking signatures".
 
 // Every test crate compiles this file and uses some of it.
 #![allow(dead_code)]
 
 pub mod client;
 pub mod generate;
+#[path = "../../../tests/src/vectors.rs"]
+pub mod vectors;
 
 use reference::{
     call, load_roster, Counters, Refusal, Status, Taken, CONNECTION_SIZE, MAX_CHUNK,
@@ -20,6 +23,7 @@ pub const SECOND: &[u8] = b"archive";
 
 pub const PING: u16 = 1;
 pub const DESTROY: u16 = 3;
+pub const VERIFY: u16 = 5;
 pub const IMPORT: u16 = 6;
 pub const EXPORT: u16 = 7;
 pub const LIST_PROVIDERS: u16 = 8;
@@ -140,6 +144,12 @@ pub fn destroy(name: &[u8]) -> Request {
 /// An export from the first application.
 pub fn export(name: &[u8]) -> Request {
     keystore(EXPORT, Body::new().field(1, name).bytes())
+}
+
+/// A verify from the first application.
+pub fn verify(name: &[u8], hash: &[u8], signature: &[u8]) -> Request {
+    let body = Body::new().field(1, name).field(2, hash);
+    keystore(VERIFY, body.field(3, signature).bytes())
 }
 
 /// A keystore request with any body, from the first application.
