@@ -7,19 +7,30 @@ use reference::{load_roster, REGISTRY_SIZE};
 
 pub const PING: u16 = 1;
 pub const DESTROY: u16 = 3;
+pub const VERIFY: u16 = 5;
 pub const IMPORT: u16 = 6;
 pub const EXPORT: u16 = 7;
 pub const LIST_PROVIDERS: u16 = 8;
 pub const LIST_OPCODES: u16 = 9;
-pub const OPCODES: [u16; 6] = [PING, DESTROY, IMPORT, EXPORT, LIST_PROVIDERS, LIST_OPCODES];
+pub const OPCODES: [u16; 7] = [
+    PING,
+    DESTROY,
+    VERIFY,
+    IMPORT,
+    EXPORT,
+    LIST_PROVIDERS,
+    LIST_OPCODES,
+];
 
 pub const SUCCESS: u16 = 0;
 pub const PROVIDER_DOES_NOT_EXIST: u16 = 6;
 pub const DESERIALIZING_BODY_FAILED: u16 = 7;
 pub const AUTHENTICATION_ERROR: u16 = 11;
 pub const NOT_PERMITTED: u16 = 1133;
+pub const NOT_SUPPORTED: u16 = 1134;
 pub const INVALID_ARGUMENT: u16 = 1135;
 pub const DOES_NOT_EXIST: u16 = 1140;
+pub const INVALID_SIGNATURE: u16 = 1149;
 
 /// The response's status and body, and all that the rules leave.
 #[derive(Debug)]
@@ -43,7 +54,7 @@ pub fn ask(registry: &[u8], opcode: u16, application: Option<&[u8]>, body: &[u8]
 /// A request with a session of its opcode's number.
 pub fn request(opcode: u16, application: Option<&[u8]>, body: &[u8]) -> Vec<u8> {
     let provider = match opcode {
-        DESTROY | IMPORT | EXPORT => 1,
+        DESTROY | VERIFY | IMPORT | EXPORT => 1,
         _ => 0,
     };
     let auth = application.unwrap_or_default();

@@ -1,9 +1,10 @@
 //! A request that a client is asked to write, from a seed and with faults: document 02, "The
-//! client's half", its last sentence.
+//! client's half", its last sentence, and "Checking signatures".
 
-use crate::ask::{DESTROY, EXPORT, IMPORT, LIST_OPCODES, LIST_PROVIDERS, OPCODES, PING};
+use crate::ask::{DESTROY, EXPORT, IMPORT, LIST_OPCODES, LIST_PROVIDERS, OPCODES, PING, VERIFY};
 use crate::generate::Random;
 use crate::oracle::key_name_is_legal;
+use crate::signatures::verify_body;
 use razidkot_client::raw::{self, Request};
 use reference::Operation;
 
@@ -13,6 +14,8 @@ pub const APPLICATION_NAME_ILLEGAL: u32 = 2;
 pub const KEY_NAME_ILLEGAL: u32 = 3;
 pub const DATA_ILLEGAL: u32 = 4;
 pub const BITS_ILLEGAL: u32 = 5;
+pub const HASH_ILLEGAL: u32 = 6;
+pub const BODY_TOO_LONG: u32 = 7;
 
 /// Either side of each bound and step, and numbers whose low 16 bits would be allowed.
 pub const BITS: [u32; 22] = [
@@ -56,6 +59,8 @@ pub struct Asked {
     pub bits: u32,
     pub export_allowed: bool,
     pub verify_allowed: bool,
+    pub hash: Vec<u8>,
+    pub signature: Vec<u8>,
 }
 
 impl Asked {
@@ -72,6 +77,8 @@ impl Asked {
             bits: 2_048,
             export_allowed: true,
             verify_allowed: false,
+            hash: vec![0x11; 32],
+            signature: vec![0x22; 256],
         }
     }
 
@@ -92,6 +99,8 @@ impl Asked {
             },
             export_allowed: random.once_in(2),
             verify_allowed: random.once_in(2),
+            hash: some_hash(random),
+            signature: some_signature(random),
         }
     }
 
@@ -108,13 +117,17 @@ impl Asked {
                 self.data = random.bytes(length);
             }
             BITS_ILLEGAL => self.bits = random.pick(&[0, 1_016, 1_028, 4_104, 0x1_0400]),
+            HASH_ILLEGAL => self.hash.resize(random.pick(&[0, 31, 33, 64]), 0),
+            BODY_TOO_LONG => self
+                .signature
+                .resize(random.pick(&[4_057, 4_097, 65_537]), 7),
             _ => {}
         }
         self
     }
 
     pub fn has_key_name(&self) -> bool {
-        matches!(self.opcode, IMPORT | DESTROY | EXPORT)
+        matches!(self.opcode, IMPORT | DESTROY | EXPORT | VERIFY)
     }
 
     fn operation(&self) -> Operation<'_> {
@@ -134,6 +147,11 @@ impl Asked {
             },
             DESTROY => Operation::DestroyKey { name },
             EXPORT => Operation::ExportPublicKey { name },
+            VERIFY => Operation::VerifySignature {
+                name,
+                hash: &self.hash,
+                signature: &self.signature,
+            },
             opcode => panic!("no operation {opcode}"),
         }
     }
@@ -159,6 +177,15 @@ impl Asked {
             ),
             DESTROY => raw::write_destroy(out, session, named, application, &self.name),
             EXPORT => raw::write_export(out, session, named, application, &self.name),
+            VERIFY => raw::write_verify(
+                out,
+                session,
+                named,
+                application,
+                &self.name,
+                &self.hash,
+                &self.signature,
+            ),
             opcode => panic!("no operation {opcode}"),
         }
     }
@@ -176,7 +203,8 @@ impl Asked {
 
     /// The refusals that apply, not the first one alone.
     pub fn applying(&self, buffer_length: usize) -> Vec<u32> {
-        let imports = self.opcode == IMPORT;
+        let (imports, verifies) = (self.opcode == IMPORT, self.opcode == VERIFY);
+        let body_length = verify_body(&self.name, &self.hash, &self.signature).len();
         let bits_are_legal = (1_024..=4_096).contains(&self.bits) && self.bits.is_multiple_of(8);
         let applies = [
             buffer_length < 5_120,
@@ -184,6 +212,8 @@ impl Asked {
             self.has_key_name() && !key_name_is_legal(&self.name),
             imports && !(1..=600).contains(&self.data.len()),
             imports && !bits_are_legal,
+            verifies && self.hash.len() != 32,
+            verifies && body_length > 4_096,
         ];
         (BUFFER_TOO_SMALL..)
             .zip(applies)
@@ -196,7 +226,7 @@ impl Asked {
         let good = Asked::good(self.opcode);
         let half = |bytes: &[u8]| bytes[..bytes.len() / 2].to_vec();
         let less = |bytes: &[u8]| bytes[..bytes.len().saturating_sub(1)].to_vec();
-        let mut shorter = vec![self.clone(); 10];
+        let mut shorter = vec![self.clone(); 14];
         shorter[0].session = 0;
         shorter[1].named = false;
         shorter[2].application = half(&self.application);
@@ -207,6 +237,10 @@ impl Asked {
         shorter[7].data = less(&self.data);
         shorter[8].bits = good.bits;
         shorter[9].provider = 0;
+        shorter[10].hash = half(&self.hash);
+        shorter[11].hash = good.hash;
+        shorter[12].signature = half(&self.signature);
+        shorter[13].signature = less(&self.signature);
         shorter.retain(|asked| asked != self);
         shorter
     }
@@ -221,10 +255,14 @@ pub fn each_with_each<A: Copy, B: Copy>(first: &[A], second: &[B]) -> Vec<(A, B)
 pub fn refusals_of(opcode: u16) -> Vec<u32> {
     let last = match opcode {
         IMPORT => BITS_ILLEGAL,
-        DESTROY | EXPORT => KEY_NAME_ILLEGAL,
+        DESTROY | EXPORT | VERIFY => KEY_NAME_ILLEGAL,
         _ => APPLICATION_NAME_ILLEGAL,
     };
-    (BUFFER_TOO_SMALL..=last).collect()
+    let mut refusals: Vec<_> = (BUFFER_TOO_SMALL..=last).collect();
+    if opcode == VERIFY {
+        refusals.extend([HASH_ILLEGAL, BODY_TOO_LONG]);
+    }
+    refusals
 }
 
 fn refusal_number(refusal: reference::WriteRefusal) -> u32 {
@@ -235,6 +273,8 @@ fn refusal_number(refusal: reference::WriteRefusal) -> u32 {
         BadKeyName => KEY_NAME_ILLEGAL,
         BadData => DATA_ILLEGAL,
         BadBits => BITS_ILLEGAL,
+        BadHash => HASH_ILLEGAL,
+        BodyTooLong => BODY_TOO_LONG,
     }
 }
 
@@ -283,6 +323,21 @@ fn some_data(random: &mut Random) -> Vec<u8> {
     let length = match random.below(3) {
         0 => random.pick(&[0, 1, 127, 128, 599, 600, 601]),
         _ => 1 + random.below(600),
+    };
+    random.bytes(length)
+}
+
+fn some_hash(random: &mut Random) -> Vec<u8> {
+    let length = random.pick(&[32, 32, 32, 32, 32, 32, 0, 31, 33]);
+    random.bytes(length)
+}
+
+/// Of a modulus's length, none, or of one that the body just has room for or has not.
+fn some_signature(random: &mut Random) -> Vec<u8> {
+    let length = match random.below(4) {
+        0 => random.pick(&[0, 1, 127, 128, 4_025, 4_026, 4_056, 4_057, 4_096, 5_120]),
+        1 => random.below(4_200),
+        _ => random.pick(&[128, 256, 512]),
     };
     random.bytes(length)
 }

@@ -2,12 +2,13 @@
 //! client writes requests, the service answers their joined bytes, and readers read its joined
 //! responses. Document 02, "The client's half"; document 01, "A whole stream under the rules".
 
-use crate::ask::{record, EXPORT, IMPORT, OPCODES};
+use crate::ask::{record, EXPORT, IMPORT, OPCODES, VERIFY};
 use crate::client_asked::{legal_name, some_session, Asked};
 use crate::client_program::{Program, Said, WAITING};
 use crate::client_states::STATE_SIZE;
 use crate::generate::{name, Random};
 use crate::lent::Lent;
+use crate::signatures::Signed;
 use razidkot::{Counters, CONNECTION_SIZE, LEAST_RESPONSE_BUFFER, LONGEST_CHUNK, REGISTRY_SIZE};
 use razidkot_client::raw::Request;
 use razidkot_client::LEAST_REQUEST_BUFFER;
@@ -182,9 +183,10 @@ fn some_asked(random: &mut Random, names: &[Vec<u8>], few: usize) -> Asked {
         session: some_session(random),
         named: !random.once_in(8),
         application,
-        opcode: match random.below(3) {
+        opcode: match random.below(4) {
             0 => random.pick(&OPCODES),
             1 => EXPORT,
+            2 => VERIFY,
             _ => IMPORT,
         },
         provider: random.pick(&[0, 0, 1, 1, 2, u32::MAX]),
@@ -192,10 +194,27 @@ fn some_asked(random: &mut Random, names: &[Vec<u8>], few: usize) -> Asked {
         bits: 1_024 + 8 * random.below(385) as u32,
         ..any.clone()
     };
+    let asked = match random.below(3) {
+        0 => asked,
+        _ => with_signed_key(random, asked),
+    };
     // Now and then one that the client refuses.
     match random.below(30) {
         0 => any,
         _ => asked,
+    }
+}
+
+/// The same with the key, the hash and the signature of its name.
+fn with_signed_key(random: &mut Random, asked: Asked) -> Asked {
+    let signed = Signed::of_name(&asked.name);
+    Asked {
+        data: signed.data.clone(),
+        bits: signed.bits.into(),
+        verify_allowed: !random.once_in(4),
+        hash: signed.hash.clone(),
+        signature: signed.signature.clone(),
+        ..asked
     }
 }
 

@@ -1,7 +1,7 @@
 //! What the responses of a differential test reached, taken from their bytes and from what the
 //! reference said of them.
 
-use crate::ask::{DESTROY, IMPORT, OPCODES};
+use crate::ask::{DESTROY, IMPORT, OPCODES, VERIFY};
 use crate::client_asked::each_with_each;
 use crate::client_program::*;
 use crate::client_responses::*;
@@ -257,7 +257,7 @@ fn is_unreadable(awaited: Awaited, bytes: &[u8], content_length: u32) -> bool {
         return false;
     };
     if body.len() > LONGEST_CONTENT {
-        let has_none = status != 0 || matches!(awaited.opcode, IMPORT | DESTROY);
+        let has_none = status != 0 || matches!(awaited.opcode, IMPORT | DESTROY | VERIFY);
         return has_none || BAD_TAGS.contains(&body[0]);
     }
     awaited.uncut(&response(awaited, status, body)).code == UNREADABLE_BODY

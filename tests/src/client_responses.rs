@@ -144,7 +144,7 @@ pub fn some_status(random: &mut Random) -> u16 {
     match random.below(8) {
         0..=3 => Status::Success.number(),
         4 => random.word() as u16,
-        5 => random.pick(&[5, 8, 18, 21, 256, 1_134, 1_149, 0x1100, u16::MAX]),
+        5 => random.pick(&[5, 8, 18, 21, 256, 1_132, 1_150, 0x1100, u16::MAX]),
         _ => random.pick(&Status::REFUSED).number(),
     }
 }

@@ -3,6 +3,7 @@
 use crate::ask::{import_body, name_body, record, registry_of, request, DESTROY, IMPORT};
 use crate::layout::*;
 use crate::oracle::{bytes_field, varint};
+use crate::signatures::with_signed_data;
 use crate::unlisted::{whole_field, START_GROUP};
 use reference::rules;
 use reference::REGISTRY_SIZE;
@@ -145,13 +146,17 @@ pub fn registry(random: &mut Random, filling: Filling) -> Vec<u8> {
             .collect(),
     };
     let outcome = rules::run(&registry_of(&names), &stream);
-    assert_eq!(outcome.counters.refused, [0; 17], "all requests are served");
+    assert_eq!(outcome.counters.refused, [0; 19], "all requests are served");
     outcome.registry
 }
 
 /// The requests that fill an application's slots: four imports, and for holes some destroys.
 fn keys_of(random: &mut Random, application: &[u8], filling: Filling) -> Vec<u8> {
-    let mut keys: Vec<Key> = (0..SLOTS).map(|slot| key(random, slot)).collect();
+    let mut some_key = |slot| {
+        let key = key(random, slot);
+        with_signed_data(random, key)
+    };
+    let mut keys: Vec<Key> = (0..SLOTS).map(&mut some_key).collect();
     if filling == Filling::Full {
         for (slot, key) in keys.iter_mut().enumerate() {
             key.name = name(random, slot, LONGEST_KEY_NAME);

@@ -113,7 +113,7 @@ fn from_reference(counters: &reference::Counters) -> Counters {
 }
 
 /// How many counters there are.
-pub const COUNTERS: usize = 29;
+pub const COUNTERS: usize = 31;
 
 /// The counter at this place of docs/LAYOUT.md's table.
 pub fn counter_mut(counters: &mut Counters, place: usize) -> &mut u64 {

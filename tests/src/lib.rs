@@ -26,7 +26,10 @@ pub mod reached;
 pub mod requests;
 pub mod run;
 pub mod service;
+pub mod sha256;
+pub mod signatures;
 pub mod unlisted;
+pub mod vectors;
 
 // Each block stands by itself, and compiles without a warning.
 #[cfg(doctest)]

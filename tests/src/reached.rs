@@ -1,7 +1,7 @@
 //! What the calls of a differential test reached, taken from what they were made with and from what
 //! the reference answered.
 
-use crate::ask::OPCODES;
+use crate::ask::*;
 use crate::layout::{slot_bytes, Place, EXPORT_ALLOWED_AT, VERIFY_ALLOWED_AT};
 use crate::lent::Lent;
 use crate::run::Outcomes;
@@ -51,9 +51,12 @@ impl Reached {
         let status = u16::from_le_bytes([response[24], response[25]]);
         let whole = kind == KINDS[0];
         self.outcomes.count(status_reached(status, whole));
+        let opcode = u16::from_le_bytes([response[22], response[23]]);
         if status == Status::Success.number() {
-            let opcode = u16::from_le_bytes([response[22], response[23]]);
             self.outcomes.count(opcode_reached(opcode));
+        }
+        if opcode == VERIFY {
+            self.outcomes.count(verify_reached(status));
         }
         if response.len() == LONGEST_RESPONSE {
             self.outcomes.count("longest response");
@@ -113,6 +116,10 @@ fn opcode_reached(opcode: u16) -> String {
     format!("opcode {opcode} served")
 }
 
+fn verify_reached(status: u16) -> String {
+    format!("verify with status {status}")
+}
+
 fn slot_reached(slot: &[u8]) -> String {
     match slot[0] {
         0 => "slot freed".to_string(),
@@ -164,6 +171,16 @@ fn expected() -> Vec<String> {
     let flags =
         [(0, 0), (0, 1), (1, 0), (1, 1)].map(|(export, verify)| flags_reached(export, verify));
     let opcodes = OPCODES.map(opcode_reached);
+    let verify = [
+        SUCCESS,
+        DESERIALIZING_BODY_FAILED,
+        NOT_PERMITTED,
+        NOT_SUPPORTED,
+        INVALID_ARGUMENT,
+        DOES_NOT_EXIST,
+        INVALID_SIGNATURE,
+    ];
+    let verify = verify.map(verify_reached);
     let lines = (0..8).map(|line| format!("served line {line}"));
     let others = ["served unauthenticated", "slot freed", "longest response"].map(str::to_string);
     statuses
@@ -172,6 +189,7 @@ fn expected() -> Vec<String> {
         .chain(kinds)
         .chain(flags)
         .chain(opcodes)
+        .chain(verify)
         .chain(lines)
         .chain(others)
         .collect()

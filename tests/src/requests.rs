@@ -1,9 +1,11 @@
 //! Streams of requests from a seed, good and damaged, for the applications of a registry.
-//! Document 01, "Order of judgement on one request", is what they are meant to reach all of.
+//! Document 01, "Order of judgement on one request", and document 02, "Checking signatures", are what
+//! they are meant to reach all of.
 
 use crate::ask::*;
 use crate::generate::{import_message, key, message, mutated, Random};
 use crate::layout::{line_at, name_at, slot_at, Key, Place, LINES, SLOTS};
+use crate::signatures::{some_verify_body, with_signed_data};
 use crate::unlisted::{Class, Piece};
 
 // Where a header has its fields.
@@ -92,12 +94,13 @@ fn some_request(random: &mut Random, application: &Application) -> Vec<u8> {
 
 /// A request with a header that is good, a body that most often is, and any session and good H.
 fn whole_request(random: &mut Random, application: &Application) -> Vec<u8> {
-    let opcode = match random.below(20) {
+    let opcode = match random.below(24) {
         0 | 1 => PING,
         2 => LIST_PROVIDERS,
         3 | 4 => LIST_OPCODES,
         5..13 => IMPORT,
         13..17 => EXPORT,
+        17..21 => VERIFY,
         _ => DESTROY,
     };
     let body = match random.below(10) {
@@ -148,10 +151,17 @@ fn body(random: &mut Random, opcode: u16, application: &Application) -> Vec<u8> 
             random.pick(&providers).to_vec()
         }
         IMPORT if random.once_in(4) => import_message(random),
-        IMPORT => import_body(&Key {
-            name: key_name(random, application),
-            ..key(random, 0)
-        }),
+        IMPORT => {
+            let key = Key {
+                name: key_name(random, application),
+                ..key(random, 0)
+            };
+            import_body(&with_signed_data(random, key))
+        }
+        VERIFY => {
+            let name = key_name(random, application);
+            some_verify_body(random, &name)
+        }
         EXPORT | DESTROY => name_body(&key_name(random, application)),
         _ => Vec::new(),
     }
@@ -187,6 +197,7 @@ fn bad_body(random: &mut Random, opcode: u16, application: &Application) -> Vec<
     let body = body(random, opcode, application);
     let wire_types: &[u64] = match opcode {
         IMPORT => &[2, 2, 0, 0, 0],
+        VERIFY => &[2, 2, 2],
         EXPORT | DESTROY => &[2],
         LIST_OPCODES => &[0],
         _ => &[],
@@ -213,7 +224,7 @@ fn with_bad_header_field(random: &mut Random, mut request: Vec<u8>) -> Vec<u8> {
         1 => request[MINOR_AT] = 1,
         2 => request[CONTENT_TYPE_AT] = random.pick(&[0, 2]),
         3 => request[ACCEPT_TYPE_AT] = random.pick(&[0, 2]),
-        4 => request[OPCODE_AT] = random.pick(&[0, 2, 4, 5, 10]),
+        4 => request[OPCODE_AT] = random.pick(&[0, 2, 4, 10]),
         5 => request[PROVIDER_AT] = random.pick(&[2, 255]),
         6 => request[PROVIDER_AT] = 1 - provider,
         7 => request[AUTH_TYPE_AT] = random.pick(&[0, 2, 255]),

@@ -11,7 +11,7 @@ use reference::rules;
 
 /// The statuses that requests of the client can get: those that a wrong header, an unreadable body
 /// or a bad name gets are not among them.
-const STATUSES: [u32; 8] = [0, 6, 11, 19, 1_133, 1_139, 1_140, 1_142];
+const STATUSES: [u32; 10] = [0, 6, 11, 19, 1_133, 1_134, 1_139, 1_140, 1_142, 1_149];
 
 /// What comes of it in one pairing, if it is the same in all.
 fn outcome(conversation: &Conversation) -> Option<Outcome> {
@@ -95,7 +95,7 @@ fn all_four_pairings_come_to_the_same() {
     let served = OPCODES.map(|opcode| opcode_reached(opcode, true));
     outcomes.assert_often(&served, 100);
     outcomes.assert_often(&["damaged, waiting", "damaged, refused"], 100);
-    let not_written = [2, 3, 4, 5].map(|code| format!("not written: {code}"));
+    let not_written = [2, 3, 4, 5, 6, 7].map(|code| format!("not written: {code}"));
     outcomes.assert_often(&not_written, 20);
 }
 

@@ -1,7 +1,8 @@
 //! Requests that the compiled client writes against the reference's: what is said, and every byte of
-//! the buffer. Document 02, "The client's half", its last sentence; document 01's bounds.
+//! the buffer. Document 02, "The client's half", its last sentence, and "Checking signatures"; document
+//! 01's bounds.
 
-use razidkot_tests::ask::{DESTROY, EXPORT, IMPORT, LIST_OPCODES, OPCODES};
+use razidkot_tests::ask::{DESTROY, EXPORT, IMPORT, LIST_OPCODES, OPCODES, VERIFY};
 use razidkot_tests::client_asked::*;
 use razidkot_tests::client_written::Written;
 use razidkot_tests::run::for_seeds;
@@ -51,6 +52,8 @@ fn every_bound_with_every_other_is_judged_alike() {
             for (opcode, length) in each_with_each(&OPCODES, &BUFFERS) {
                 let asked = Asked {
                     opcode,
+                    hash: random.pick(&[vec![1; 31], vec![1; 32], vec![1; 32]]),
+                    signature: random.pick(&[vec![2; 256], vec![2; 4_025], vec![2; 4_057]]),
                     ..asked.clone()
                 };
                 written.compare(&asked, length);
@@ -126,7 +129,7 @@ const ALL_BYTES: [u8; 256] = {
 
 #[test]
 fn a_key_name_has_1_to_32_bytes_of_0x21_to_0x7e() {
-    for opcode in [IMPORT, DESTROY, EXPORT] {
+    for opcode in [IMPORT, DESTROY, EXPORT, VERIFY] {
         for length in 0..=70 {
             let asked = Asked {
                 name: vec![b'k'; length],
@@ -179,6 +182,42 @@ fn bits_are_1024_to_4096_in_multiples_of_8() {
         let is_legal = (1_024..=4_096).contains(&bits) && bits.is_multiple_of(8);
         let code = if is_legal { 0 } else { BITS_ILLEGAL };
         assert_eq!(code_of(&asked, ENOUGH), code, "{bits}");
+    }
+}
+
+#[test]
+fn a_hash_has_32_bytes() {
+    for length in (0..=70).chain([256 + 32, 5_000, 65_536 + 32]) {
+        let asked = Asked {
+            hash: vec![0x33; length],
+            ..Asked::good(VERIFY)
+        };
+        let code = if length == 32 { 0 } else { HASH_ILLEGAL };
+        assert_eq!(code_of(&asked, ENOUGH), code, "{length}");
+    }
+}
+
+/// Either side of 4,096 bytes, by a name of 3 bytes and by one of 32.
+#[test]
+fn a_verify_body_has_at_most_4096_bytes() {
+    for name in [vec![b'k'; 3], vec![b'k'; 32]] {
+        let longest = 4_096 - (2 + name.len()) - 34 - 3;
+        for length in (0..300).chain(longest - 200..longest + 200) {
+            let asked = Asked {
+                name: name.clone(),
+                signature: vec![0x44; length],
+                ..Asked::good(VERIFY)
+            };
+            let code = if length <= longest { 0 } else { BODY_TOO_LONG };
+            assert_eq!(code_of(&asked, ENOUGH), code, "{length}");
+        }
+    }
+    for length in [5_120, 65_536, 65_536 + 256, 1 << 20] {
+        let asked = Asked {
+            signature: vec![0x44; length],
+            ..Asked::good(VERIFY)
+        };
+        assert_eq!(code_of(&asked, ENOUGH), BODY_TOO_LONG, "{length}");
     }
 }
 
