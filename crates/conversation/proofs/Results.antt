@@ -2,7 +2,7 @@
 -- the operation's kind.
 use mathlib.Core.Path.{_≡_, refl}
 use Prim.Native.Nat.{ℕ, _*_, _^_, _≤_, _<_}
-use mathlib.Core.Bool.{Bool, true, false}
+use mathlib.Core.Bool.{Bool, true, false, not}
 use mathlib.Core.Option.{Option, none, some}
 use mathlib.Core.List.{List, []}
 use native.Mathlib.Omega.{arith}
@@ -113,12 +113,10 @@ module _ (slots : List Entry) where
     sound-verifying : (entry : Entry) → SoundVerify (verifyWith hash signature entry)
     unfolding verifyWith statusNumber
     sound-verifying free = refused _ _ (lit< tt)
-    sound-verifying (held key) = go (key .verifyAllowed) refl (eqb (length hash) hashSize) refl
-      where
-        go : (a : Bool) → key .verifyAllowed ≡ a → (t : Bool) → eqb (length hash) hashSize ≡ t → SoundVerify (verifyWith hash signature (held key))
-        go false e t h = rw (e, verifyWith) (refused _ _ (lit< tt))
-        go true e false h = rw (e, h, verifyWith) (refused _ _ (lit< tt))
-        go true e true h = rw (e, h, verifyWith) (sound-checked (verification (key .bytes) (key .bits) hash signature .outcome))
+    sound-verifying (held key) =
+        either SoundVerify (not (key .verifyAllowed))
+        (λ _. refused _ _ (lit< tt))
+        (λ _. either SoundVerify (not (eqb (length hash) hashSize)) (λ _. refused _ _ (lit< tt)) (λ _. sound-checked (verification (key .bytes) (key .bits) hash signature .outcome)))
 
     sound-verify : SoundVerify (performVerify name hash signature slots)
     unfolding performVerify statusNumber
