@@ -6,7 +6,7 @@ use mathlib.Core.Bool.{true, false}
 use mathlib.Core.Option.{Option, none, some}
 use mathlib.Core.List.{List, [], _++_, append-nil}
 use native.Mathlib.Omega.{arith}
-use borrow.Author.Tests.{eq-eqb, le-leb, leb-true, le-ltb}
+use borrow.Author.Tests.{eq-eqb, le-leb, le-ltb}
 use lib.ListN.{length, length-append}
 use Rattle.wire.specs.Request.{magicNumber, magic, headerSize, contentLength, authLength, requestOf, requestBytes}
 use Rattle.wire.proofs.RequestLaws.{request-magic, request-size, request-content, request-auth, request-long, request-back}
@@ -47,7 +47,10 @@ pub record Writable (sender : Sender) (operation : Operation) : Type 0 where
   pub body-legal : legalBody operation ≡ true
   pub small : Small operation
 
--- ---- the values fit, and the body is short
+-- ---- the body is short, and the values fit
+
+short-body : (sender : Sender) (operation : Operation) → Writable sender operation → length (operationBody protobuf operation) ≤ requestBodyMost
+short-body sender operation w = body-short operation (w .name-legal) (w .data-legal) (w .bits-legal) (w .body-legal)
 
 fits : (sender : Sender) (operation : Operation) → Writable sender operation → AllFit (protobuf .lengthMost) (inputOf operation)
 unfolding importBits
@@ -62,12 +65,9 @@ fits sender (importKey key) w =
 fits sender (destroyKey name) w = let n = legal-short keyNameMost name (w .name-legal) in (omega arith, tt)
 fits sender (exportPublicKey name) w = let n = legal-short keyNameMost name (w .name-legal) in (omega arith, tt)
 fits sender (verifySignature name hash signature) w =
-    let all = leb-true _ _ (w .body-legal) in
+    let all = short-body sender (verifySignature name hash signature) w in
     let parts = verify-body-least name hash signature in
     (omega arith, (omega arith, (omega arith, tt)))
-
-short-body : (sender : Sender) (operation : Operation) → Writable sender operation → length (operationBody protobuf operation) ≤ requestBodyMost
-short-body sender operation w = body-short operation (w .name-legal) (w .data-legal) (w .bits-legal) (w .body-legal)
 
 -- ---- the claim
 
