@@ -98,7 +98,7 @@ impl Registry {
             stream.extend(request(IMPORT, Some(&names[line]), &import_body(&key)));
         }
         let outcome = rules::run(&registry_of(&names), &stream);
-        assert_eq!(outcome.counters.refused, [0; 17]);
+        assert_eq!(outcome.counters.refused, [0; 19]);
         assert!(foreign::registry_is_well_formed(&outcome.registry));
         outcome.registry
     }
