@@ -7,9 +7,9 @@
  * counters may differ between two versions: link the archive of the headers' own.
  */
 #define RAZIDKOT_VERSION_MAJOR 0
-#define RAZIDKOT_VERSION_MINOR 1
+#define RAZIDKOT_VERSION_MINOR 2
 #define RAZIDKOT_VERSION_PATCH 0
-#define RAZIDKOT_VERSION "0.1.0"
+#define RAZIDKOT_VERSION "0.2.0"
 
 /* The status of a response, its last two header bytes (24 and 25), little-endian. */
 enum razidkot_status {
