@@ -96,6 +96,15 @@ unsafe extern "C" {
     ) -> usize;
     fn probe_connection_is_well_formed(connection: *const u8, length: usize) -> bool;
     fn probe_open_connection(connection: *mut u8, length: usize) -> bool;
+    fn razidkot_probe_verify(
+        key: *const u8,
+        key_length: usize,
+        bits: usize,
+        hash: *const u8,
+        hash_length: usize,
+        signature: *const u8,
+        signature_length: usize,
+    ) -> u64;
 }
 
 fn unless_refused(answer: usize) -> Result<usize, Refused> {
@@ -276,4 +285,20 @@ pub fn connection_is_well_formed(connection: &[u8]) -> bool {
 /// `Err` for memory of another size.
 pub fn open_connection(connection: &mut [u8]) -> Result<(), Refused> {
     if_done(unsafe { probe_open_connection(connection.as_mut_ptr(), connection.len()) })
+}
+
+/// The number of a signature's outcome, and how many modular multiplications the power took.
+pub fn verify(data: &[u8], bits: usize, hash: &[u8], signature: &[u8]) -> (u8, u64) {
+    let answer = unsafe {
+        razidkot_probe_verify(
+            data.as_ptr(),
+            data.len(),
+            bits,
+            hash.as_ptr(),
+            hash.len(),
+            signature.as_ptr(),
+            signature.len(),
+        )
+    };
+    ((answer % 4) as u8, answer / 4)
 }

@@ -1,9 +1,11 @@
 //! Keys, hashes and signatures of tests/vectors, good and bad, for whoever asks to verify.
 //! Document 02, "Checking signatures".
 
+use crate::ask::*;
 use crate::generate::Random;
 use crate::layout::Key;
 use crate::oracle::bytes_field;
+use crate::service;
 use crate::sha256::sha256;
 use crate::vectors::{blocks, from_hex, lines, Block};
 use std::sync::OnceLock;
@@ -166,6 +168,35 @@ pub fn some_verify_body(random: &mut Random, name: &[u8]) -> Vec<u8> {
 
 fn of_key<'a>(signed: &'a [Signed], data: &'a [u8]) -> impl Iterator<Item = &'a Signed> {
     signed.iter().filter(move |signed| signed.data == data)
+}
+
+/// The status that the compiled service answers to each one's signature, its key imported before
+/// and destroyed behind. All else is what the rules give.
+pub fn statuses(all: &[Signed]) -> Vec<u16> {
+    let (application, name) = (b"scanner", b"key");
+    let ask = |opcode, body: &[u8]| request(opcode, Some(application), body);
+    let stream: Vec<u8> = all
+        .iter()
+        .flat_map(|signed| {
+            [
+                ask(IMPORT, &import_body(&signed.key(name))),
+                ask(VERIFY, &signed.body(name)),
+                ask(DESTROY, &name_body(name)),
+            ]
+        })
+        .flatten()
+        .collect();
+    let responses = service::responses(&[application.to_vec()], &stream, &[4_096]);
+    let status = |response: &Vec<u8>| u16::from_le_bytes([response[24], response[25]]);
+    let statuses: Vec<u16> = responses.iter().map(status).collect();
+    assert_eq!(statuses.len(), 3 * all.len());
+    let triples = statuses.chunks_exact(3);
+    triples
+        .map(|triple| {
+            assert_eq!([triple[0], triple[2]], [SUCCESS; 2], "import and destroy");
+            triple[1]
+        })
+        .collect()
 }
 
 // ---- NIST's vectors

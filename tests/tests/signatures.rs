@@ -2,44 +2,34 @@
 //! "Checking signatures". tests/vectors/README.md says where they are from.
 
 use razidkot_tests::ask::*;
-use razidkot_tests::service;
-use razidkot_tests::signatures::{nist, Signed, Vector};
-use reference::rsa::{self, Outcome};
+use razidkot_tests::foreign;
+use razidkot_tests::generate::Random;
+use razidkot_tests::run::for_seeds;
+use razidkot_tests::signatures::{nist, rsa_public_key, statuses, Signed, Vector};
+use reference::rsa::{self, Outcome, Verification};
 
-const APPLICATION: &[u8] = b"scanner";
-const NAME: &[u8] = b"key";
-
-/// What the second program's bare verification says.
-fn outcome(signed: &Signed) -> Outcome {
-    let bits = signed.bits.into();
-    rsa::verify(&signed.data, bits, &signed.hash, &signed.signature).outcome
+/// What the second program's bare verification says; the compiled one says the same, and of the
+/// power the same count.
+fn verification(signed: &Signed) -> Verification {
+    let Signed {
+        data,
+        bits,
+        hash,
+        signature,
+        title,
+    } = signed;
+    let verification = rsa::verify(data, (*bits).into(), hash, signature);
+    let proved = foreign::verify(data, (*bits).into(), hash, signature);
+    let expected = (
+        verification.outcome.number(),
+        verification.multiplications.into(),
+    );
+    assert_eq!(proved, expected, "{title}");
+    verification
 }
 
-/// The status that the compiled service answers to each one's signature, its key imported before
-/// and destroyed behind. All else is what the rules give.
-fn statuses(all: &[Signed]) -> Vec<u16> {
-    let ask = |opcode, body: &[u8]| request(opcode, Some(APPLICATION), body);
-    let stream: Vec<u8> = all
-        .iter()
-        .flat_map(|signed| {
-            [
-                ask(IMPORT, &import_body(&signed.key(NAME))),
-                ask(VERIFY, &signed.body(NAME)),
-                ask(DESTROY, &name_body(NAME)),
-            ]
-        })
-        .flatten()
-        .collect();
-    let responses = service::responses(&[APPLICATION.to_vec()], &stream, &[4_096]);
-    let status = |response: &Vec<u8>| u16::from_le_bytes([response[24], response[25]]);
-    let statuses: Vec<u16> = responses.iter().map(status).collect();
-    let triples = statuses.chunks_exact(3);
-    triples
-        .map(|triple| {
-            assert_eq!([triple[0], triple[2]], [SUCCESS; 2], "import and destroy");
-            triple[1]
-        })
-        .collect()
+fn outcome(signed: &Signed) -> Outcome {
+    verification(signed).outcome
 }
 
 fn assert_statuses(all: &[Signed], status: u16) {
@@ -149,4 +139,67 @@ fn a_bit_changed_in_the_key_is_judged_as_the_second_program_does() {
     let count = |status| statuses.iter().filter(|&&other| other == status).count();
     assert_eq!(count(SUCCESS), 0);
     assert!(count(INVALID_SIGNATURE) > 1_000 && count(NOT_SUPPORTED) > 50);
+}
+
+#[test]
+fn the_power_takes_the_multiplications_of_the_written_rule() {
+    for (exponent, multiplications) in [(3, 2), (17, 5), (65_537, 17), (4_294_967_295_u32, 62)] {
+        let is_its = |signed: &&Signed| signed.title.ends_with(&format!("-{exponent}"));
+        let of_exponent: Vec<_> = Signed::good().iter().filter(is_its).collect();
+        assert!(of_exponent.len() >= 5);
+        for signed in of_exponent {
+            assert_eq!(verification(signed).multiplications, multiplications);
+        }
+    }
+}
+
+/// Of any odd numbers: most moduli are no product of two primes, and any exponent has its count.
+#[test]
+fn generated_keys_and_signatures_have_the_same_outcome_and_count() {
+    let mut outcomes = [0; 3];
+    for_seeds(4_000, |random| {
+        let signed = generated(random);
+        let verification = verification(&signed);
+        outcomes[usize::from(verification.outcome.number())] += 1;
+    });
+    let [valid, signature, key] = outcomes;
+    assert!(valid == 0 && signature > 1_000 && key > 300, "{outcomes:?}");
+}
+
+/// Limbs that are all ones or all zeros are common, since carries and quotients go wrong there.
+fn generated(random: &mut Random) -> Signed {
+    let length = random.pick(&[128, 129, 136, 192, 255, 256]);
+    let mut modulus = some_number(random, length);
+    modulus[0] |= random.pick(&[0x80, 0x80, 0x80, 0x80, 0x40]);
+    modulus[length - 1] |= !random.once_in(16) as u8;
+    let mut signature = some_number(random, length);
+    if random.once_in(8) {
+        signature = modulus.clone();
+    }
+    if random.once_in(2) {
+        signature[0] = 0;
+    }
+    let exponent = match random.below(3) {
+        0 => random.pick(&[3_u32, 17, 65_537, u32::MAX]),
+        _ => random.number() as u32 | 1,
+    };
+    Signed {
+        title: "generated".to_string(),
+        data: rsa_public_key(&modulus, &exponent.to_be_bytes()),
+        bits: 8 * length as u16,
+        hash: random.bytes(32),
+        signature,
+    }
+}
+
+fn some_number(random: &mut Random, length: usize) -> Vec<u8> {
+    let mut number = random.bytes(length);
+    for limb in number.rchunks_mut(8) {
+        match random.below(4) {
+            0 => limb.fill(0),
+            1 => limb.fill(0xFF),
+            _ => {}
+        }
+    }
+    number
 }
