@@ -22,7 +22,7 @@ pub struct Awaited {
 
 impl Awaited {
     pub fn provider(self) -> u8 {
-        u8::from(matches!(self.opcode, 3 | 6 | 7))
+        u8::from(matches!(self.opcode, 3 | 5 | 6 | 7))
     }
 
     /// What the reference's rule says of uncut bytes.

@@ -70,7 +70,7 @@ fn list_opcodes_has_the_low_32_bits_of_its_provider() {
             Err(_) => status == ask::DESERIALIZING_BODY_FAILED,
             Ok([provider, ..]) => match provider.number {
                 0 => answer == [0x0A, 3, 1, 8, 9],
-                1 => answer == [0x0A, 3, 3, 6, 7],
+                1 => answer == [0x0A, 4, 3, 5, 6, 7],
                 _ => status == ask::PROVIDER_DOES_NOT_EXIST,
             },
         }

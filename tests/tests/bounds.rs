@@ -73,7 +73,7 @@ fn providers_and_opcodes_are_listed_in_order() {
     assert_eq!(body_of(request(LIST_PROVIDERS, None, &[])), [0x0A, 2, 0, 1]);
     let list_opcodes = |body: &[u8]| body_of(request(LIST_OPCODES, None, body));
     assert_eq!(list_opcodes(&[]), [0x0A, 3, 1, 8, 9]);
-    assert_eq!(list_opcodes(&[8, 1]), [0x0A, 3, 3, 6, 7]);
+    assert_eq!(list_opcodes(&[8, 1]), [0x0A, 4, 3, 5, 6, 7]);
     assert_eq!(statuses(&[request(LIST_OPCODES, None, &[8, 2])]), [6]);
 }
 

@@ -155,6 +155,8 @@ fn small_responses() -> Vec<(u16, u16, Vec<u8>)> {
         (LIST_OPCODES, 0, b"\x0A\x03\x03\x86\x00".to_vec()),
         (IMPORT, 0, Vec::new()),
         (DESTROY, 1_140, Vec::new()),
+        (VERIFY, 0, Vec::new()),
+        (VERIFY, 1_149, Vec::new()),
         (EXPORT, 0, b"\x0A\x03key".to_vec()),
         (EXPORT, 1_133, Vec::new()),
         (PING, 17, Vec::new()),
