@@ -87,7 +87,7 @@ class Against(unittest.TestCase):
         manifest.write_text(before)
         self.against.leave_client_out(manifest)
         removed = [line for line in before.splitlines() if line not in manifest.read_text().splitlines()]
-        self.assertEqual(removed, ['razidkot-client = { path = "../bindings/rust-client" }', 'default = ["client"]'])
+        self.assertEqual(removed, ['razidkot-client = { path = "../bindings/rust-client" }', 'default = ["client", "signatures"]'])
         with self.assertRaises(self.against.Failed):
             self.against.leave_client_out(manifest)
 

@@ -47,14 +47,21 @@ pub fn make_pings(registry: Registry, count: usize) {
 }
 
 fn row(operations: &str, registry: Registry, requests: &[Vec<u8>]) -> Row {
-    let bytes = registry.bytes();
-    let stream: Rc<[u8]> = stream(requests, EACH_TURN / STREAMS).into();
+    let name = format!("{operations}, {}", registry.title);
+    row_of(name, &registry.bytes(), requests, EACH_TURN)
+}
+
+/// These requests in turn, on this registry, of which each is served.
+pub fn row_of(name: String, registry: &[u8], requests: &[Vec<u8>], each_turn: usize) -> Row {
+    let stream: Rc<[u8]> = stream(requests, each_turn / STREAMS).into();
+    let turns = (Rc::clone(&stream), each_turn);
     Row {
-        name: format!("{operations}, {}", registry.title),
-        digest: digest(&[&bytes, &stream]),
+        name,
+        digest: digest(&[registry, &stream]),
+        each_turn,
         programs: vec![
-            ("proved", turn(Proved::new(&bytes), Rc::clone(&stream))),
-            ("reference", turn(Reference::new(&bytes), stream)),
+            ("proved", turn(Proved::new(registry), turns.clone())),
+            ("reference", turn(Reference::new(registry), turns)),
         ],
     }
 }
@@ -64,7 +71,7 @@ fn stream(requests: &[Vec<u8>], count: usize) -> Vec<u8> {
     requests.flatten().copied().collect()
 }
 
-fn turn(mut service: impl Service + 'static, stream: Rc<[u8]>) -> Turn {
+fn turn(mut service: impl Service + 'static, (stream, each): (Rc<[u8]>, usize)) -> Turn {
     Box::new(move || {
         let served = service.served();
         let start = Instant::now();
@@ -73,7 +80,7 @@ fn turn(mut service: impl Service + 'static, stream: Rc<[u8]>) -> Turn {
         }
         let time = start.elapsed();
         let served = service.served() - served;
-        assert_eq!(served, EACH_TURN as u64, "all requests are served");
+        assert_eq!(served, each as u64, "all requests are served");
         time
     })
 }

@@ -13,6 +13,7 @@ pub fn row(registry: Registry) -> Row {
     Row {
         name: format!("check, {}", registry.title),
         digest: digest(&[&bytes]),
+        each_turn: EACH_TURN,
         programs: vec![
             ("proved", turn(&bytes, foreign::registry_is_well_formed)),
             (

@@ -86,6 +86,7 @@ fn written(name: &str, kind: Kind) -> Row {
     Row {
         name: name.into(),
         digest: digest_of(&exchanges),
+        each_turn: EACH_TURN,
         programs: vec![
             ("proved", write_turn(proved, Rc::clone(&exchanges))),
             ("reference", write_turn(reference, exchanges)),
@@ -106,6 +107,7 @@ fn read(name: &str, kind: Kind, chunk: usize) -> Row {
     Row {
         name: name.into(),
         digest: digest_of(&exchanges),
+        each_turn: EACH_TURN,
         programs: vec![
             ("proved", read_turn(proved, Rc::clone(&exchanges), chunk)),
             ("reference", read_turn(reference, exchanges, chunk)),

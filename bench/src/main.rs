@@ -5,9 +5,14 @@ mod calls;
 mod check;
 #[cfg(feature = "client")]
 mod client;
+#[cfg(all(openssl, feature = "signatures"))]
+#[allow(unsafe_code)]
+mod openssl;
 mod registries;
 mod rows;
 mod searches;
+#[cfg(feature = "signatures")]
+mod signatures;
 mod table;
 mod turns;
 
@@ -16,6 +21,7 @@ use std::env::args;
 use std::process::ExitCode;
 
 const USAGE: &str = "usage: razidkot-bench
+       razidkot-bench rows BEGINNING              the rows whose names begin so
        razidkot-bench registries                  their titles
        razidkot-bench pings REGISTRY COUNT        makes so many Pings
        razidkot-bench checks REGISTRY COUNT       checks registry and connection so many times
@@ -35,7 +41,8 @@ fn main() -> ExitCode {
 fn run(words: &[String]) -> Option<()> {
     let words: Vec<_> = words.iter().map(String::as_str).collect();
     match words[..] {
-        [] => table::print(),
+        [] => table::print(""),
+        ["rows", beginning] => table::print(beginning),
         ["registries"] => registries::ALL
             .iter()
             .for_each(|registry| println!("{}", registry.title)),

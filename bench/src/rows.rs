@@ -4,7 +4,7 @@ use crate::registries::{ALIKE, ALL, FULL, ONE_KEY};
 use crate::{calls, check, searches};
 use std::time::Duration;
 
-/// The operations of a turn. Programs take turns, so that a slow moment of the machine is not one
+/// The operations of most rows' turns. Programs take turns, so that a slow moment of the machine is not one
 /// program's alone.
 pub const EACH_TURN: usize = 50_000;
 
@@ -15,6 +15,8 @@ pub struct Row {
     pub name: String,
     /// Of all bytes that the operations are given: rows with one name and one digest are the same.
     pub digest: u64,
+    /// How many operations a turn has.
+    pub each_turn: usize,
     /// The first is the compiled, proved code.
     pub programs: Vec<(&'static str, Turn)>,
 }
@@ -29,6 +31,7 @@ pub fn all() -> Vec<Row> {
         .chain(searches::rows())
         .chain(calls)
         .chain(client())
+        .chain(signatures())
         .collect()
 }
 
@@ -40,6 +43,17 @@ fn client() -> Vec<Row> {
 /// Of a commit that has no client.
 #[cfg(not(feature = "client"))]
 fn client() -> Vec<Row> {
+    Vec::new()
+}
+
+#[cfg(feature = "signatures")]
+fn signatures() -> Vec<Row> {
+    crate::signatures::rows()
+}
+
+/// Of a commit that checks no signatures.
+#[cfg(not(feature = "signatures"))]
+fn signatures() -> Vec<Row> {
     Vec::new()
 }
 

@@ -64,6 +64,7 @@ fn row(name: String, registry: &[u8], sought: Vec<Vec<u8>>) -> Row {
     Row {
         name,
         digest: digest(&[registry, &sought.concat()]),
+        each_turn: EACH_TURN,
         programs: vec![
             ("proved", turn(registry, sought.clone(), proved)),
             ("oracle", turn(registry, sought, oracle::find_application)),

@@ -1,22 +1,28 @@
 //! Every row, the proved code against the other programs, in one run.
 
-use crate::rows::{all, Row, EACH_TURN};
+use crate::rows::{all, Row};
 use std::time::Duration;
 
 const TURNS: usize = 20;
 
-pub fn print() {
-    println!(
-        "nanoseconds each, of the median of {TURNS} turns of {EACH_TURN}; in brackets proved / other"
-    );
-    for row in all() {
+/// The rows whose names begin so.
+pub fn print(beginning: &str) {
+    println!("nanoseconds each, of the median of {TURNS} turns; in brackets proved / other");
+    if !cfg!(openssl) {
+        println!("OpenSSL's times are left out: its libcrypto (Debian's libssl-dev) is not here");
+    }
+    for row in all()
+        .into_iter()
+        .filter(|row| row.name.starts_with(beginning))
+    {
         println!("{}", line(row));
     }
 }
 
 fn line(mut row: Row) -> String {
     let medians = medians(&mut row);
-    let nanoseconds = medians.map(|time| time.as_secs_f64() * 1e9 / EACH_TURN as f64);
+    let each_turn = row.each_turn as f64;
+    let nanoseconds = medians.map(|time| time.as_secs_f64() * 1e9 / each_turn);
     let mut line = format!("{:24}", row.name);
     let mut proved = None;
     for ((program, _), each) in row.programs.iter().zip(nanoseconds) {
