@@ -177,59 +177,67 @@ def wrong_numbers(key, signature):
 
 # ---- keys that are not supported
 
+def wrong_encodings(key):
+    """Data that is no RSAPublicKey in strict DER."""
+    n, e, data = key.n, key.e, key.data()
+    modulus, exponent = integer(n), integer(e)
+    body = modulus + exponent
+    length_at = len(data) - len(body) - 1
+    algorithm = bytes.fromhex("300d06092a864886f70d0101010500")
+    yield "SubjectPublicKeyInfo", element(0x30, algorithm + element(0x03, b"\0" + data))
+    yield "a byte behind the sequence", data + b"\0"
+    yield "a byte behind the exponent", element(0x30, body + b"\0")
+    yield "a third integer", element(0x30, body + integer(0))
+    yield "no exponent", element(0x30, modulus)
+    yield "exponent first", public_key(e, n)
+    yield "no sequence", body
+    yield "cut", data[:-1]
+    yield "empty sequence", element(0x30, b"")
+    yield "a set", b"\x31" + data[1:]
+    yield "modulus is an octet string", element(0x30, b"\4" + body[1:])
+    yield "exponent is an octet string", element(0x30, modulus + b"\4" + exponent[1:])
+    yield "sequence of indefinite length", b"\x30\x80" + body + b"\0\0"
+    yield "sequence length not shortest", bytes([0x30, data[1] + 1, 0]) + data[2:]
+    yield "modulus length not shortest", element(0x30, bytes([2, modulus[1] + 1, 0]) + modulus[2:] + exponent)
+    yield "exponent length not shortest", element(0x30, modulus + b"\2\x81" + exponent[1:])
+    yield "sequence length one short", changed(data, length_at, data[length_at] - 1)
+    yield "sequence length one long", changed(data, length_at, data[length_at] + 1)
+    yield "modulus without its leading zero", element(0x30, element(2, n.to_bytes(key.size, "big")) + exponent)
+    yield "modulus with a zero more", element(0x30, element(2, n.to_bytes(key.size + 2, "big")) + exponent)
+    yield "exponent with a zero more", element(0x30, modulus + element(2, b"\0" + exponent[2:]))
+    yield "modulus with no bytes", element(0x30, element(2, b"") + exponent)
+    yield "exponent with no bytes", element(0x30, modulus + element(2, b""))
+    yield "exponent negative", element(0x30, modulus + element(2, b"\xff"))
+
+
+def wrong_key_numbers(key):
+    """A modulus or an exponent that is not supported."""
+    n, e, bits = key.n, key.e, key.bits
+    yield "exponent 0", public_key(n, 0)
+    yield "exponent 2", public_key(n, 2)
+    yield "exponent one less", public_key(n, e - 1)
+    yield "exponent 2^32 - 2", public_key(n, 2**32 - 2)
+    yield "exponent 2^32", public_key(n, 2**32)
+    yield "exponent 2^32 and its own", public_key(n, 2**32 + e)
+    yield "exponent 2^64 and its own", public_key(n, 2**64 + e)
+    yield "modulus 0", public_key(0, e)
+    yield "modulus even", public_key(n - 1, e)
+    yield "modulus of one bit less", public_key(n - (1 << bits - 1) | 1 << bits - 2, e)
+    yield "modulus of one bit more", public_key(n | 1 << bits, e)
+    yield "modulus of eight bits less", public_key(n >> 8 | 1, e)
+
+
 def unsupported(key, hashed):
     """Name, data, bits and a signature that is right for the data's numbers, where there is one."""
-    signature = key.sign(encoded(hashed, key.size))
-    n, e, data, bits = key.n, key.e, key.data(), key.bits
-    body = integer(n) + integer(e)
-    length_at = len(data) - len(body) - 1
-    modulus = n.to_bytes(key.size, "big")
-    exponent = e.to_bytes(e.bit_length() // 8 + 1, "big")
-    algorithm = bytes.fromhex("300d06092a864886f70d0101010500")
-    for name, other in [
-        ("SubjectPublicKeyInfo", element(0x30, algorithm + element(0x03, b"\0" + data))),
-        ("a byte behind the sequence", data + b"\0"),
-        ("a byte behind the exponent", element(0x30, body + b"\0")),
-        ("a third integer", element(0x30, body + integer(0))),
-        ("no exponent", element(0x30, integer(n))),
-        ("exponent first", public_key(e, n)),
-        ("no sequence", body),
-        ("cut", data[:-1]),
-        ("empty sequence", element(0x30, b"")),
-        ("a set", b"\x31" + data[1:]),
-        ("modulus is an octet string", element(0x30, b"\4" + body[1:])),
-        ("exponent is an octet string", element(0x30, integer(n) + b"\4" + integer(e)[1:])),
-        ("sequence of indefinite length", b"\x30\x80" + body + b"\0\0"),
-        ("sequence length not shortest", bytes([0x30, data[1] + 1, 0]) + data[2:]),
-        ("modulus length not shortest", element(0x30, bytes([2, integer(n)[1] + 1, 0]) + integer(n)[2:] + integer(e))),
-        ("exponent length not shortest", element(0x30, integer(n) + b"\2\x81" + integer(e)[1:])),
-        ("sequence length one short", changed(data, length_at, data[length_at] - 1)),
-        ("sequence length one long", changed(data, length_at, data[length_at] + 1)),
-        ("modulus without its leading zero", element(0x30, element(2, modulus) + integer(e))),
-        ("modulus with a zero more", element(0x30, element(2, b"\0\0" + modulus) + integer(e))),
-        ("exponent with a zero more", element(0x30, integer(n) + element(2, b"\0" + exponent))),
-        ("modulus with no bytes", element(0x30, element(2, b"") + integer(e))),
-        ("exponent with no bytes", element(0x30, integer(n) + element(2, b""))),
-        ("exponent 0", public_key(n, 0)),
-        ("exponent 2", public_key(n, 2)),
-        ("exponent one less", public_key(n, e - 1)),
-        ("exponent 2^32 - 2", public_key(n, 2**32 - 2)),
-        ("exponent 2^32", public_key(n, 2**32)),
-        ("exponent 2^64 and its own", public_key(n, 2**64 + e)),
-        ("exponent 2^32 and its own", public_key(n, 2**32 + e)),
-        ("exponent negative", element(0x30, integer(n) + element(2, b"\xff"))),
-        ("modulus even", public_key(n - 1, e)),
-        ("modulus of one bit less", public_key(n - (1 << bits - 1) | 1 << bits - 2, e)),
-        ("modulus of one bit more", public_key(n | 1 << bits, e)),
-        ("modulus of eight bits less", public_key(n >> 8 | 1, e)),
-        ("modulus 0", public_key(0, e)),
-    ]:
-        yield name, other, bits, signature
-    yield "eight bits less stored", data, bits - 8, signature
-    yield "eight bits more stored", data, bits + 8, signature
-    for e in (1, 2**32 + 15):
-        other = key.with_exponent(e)
-        yield f"exponent {e}, signed", other.data(), bits, other.sign(encoded(hashed, key.size))
+    message = encoded(hashed, key.size)
+    signature = key.sign(message)
+    for name, data in [*wrong_encodings(key), *wrong_key_numbers(key)]:
+        yield name, data, key.bits, signature
+    for exponent in (1, 2**32 + 15):
+        other = key.with_exponent(exponent)
+        yield f"exponent {exponent}, signed", other.data(), key.bits, other.sign(message)
+    yield "eight bits less stored", key.data(), key.bits - 8, signature
+    yield "eight bits more stored", key.data(), key.bits + 8, signature
 
 
 # ---- the files
