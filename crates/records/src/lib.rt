@@ -1,0 +1,2 @@
+// A file of records: tag, length, value ("Roster, registry, connection, tally").
+pub mod file;
