@@ -1,106 +1,88 @@
--- Laws of loading a roster file as the code does it: whole records, their faults, one turn of the scan, names kept by place, and
--- lines written one after another.
+-- Laws of loading a roster file as the code does it: a record's faults, one record on, names kept by place, and lines written
+-- one after another.
 use mathlib.Core.Path.{_≡_, refl, sym, ap, _∙_}
-use mathlib.Core.Bool.{Bool, true, false, not, _||_, or-true}
+use mathlib.Core.Bool.{Bool, true, false}
 use mathlib.Core.Option.{Option, none, some}
 use mathlib.Core.List.{List, [], _∷_, _++_, map, flatten, map-append, append-assoc, append-nil}
 use Prim.Native.Nat.{ℕ, _+_, _-_, _*_, _≤_, _<_}
 use native.Mathlib.Numerals.{add-one}
 use native.Mathlib.Omega.{arith}
-use borrow.Author.Tests.{lt-ltb, le-ltb, ltb-false, leb-false, not-true}
+use borrow.Author.Tests.{leb-false}
 use borrow.Rule.Slice.PartMut.{putMid}
-use lib.Dec.{leb, ltb, eqb}
-use lib.ListN.{length, take, drop, getD, set, replicate, length-map, length-set, drop-of-length-le, replicate-append-replicate}
-use lib.Seq.{length-take-le, take-suc, take-suc-set, getD-take}
-use Rattle.wire.specs.Choice.{firstOf}
+use lib.Dec.{leb, eqb}
+use lib.ListN.{length, take, drop, getD, set, replicate, length-map, length-set, length-drop, drop-of-length-le, replicate-append-replicate}
+use lib.Seq.{drop-drop, length-take-le, take-suc, take-suc-set, getD-take}
+use Rattle.wire.specs.Choice.{if_then_else_, firstOf}
 use Rattle.wire.specs.Lists.{all, padded}
 use Rattle.wire.specs.Numbers.{field}
-use Rattle.wire.specs.Scan.{follow, scanAt}
-use Rattle.wire.proofs.TestLaws.{or-right, not-across, none-at}
+use Rattle.wire.proofs.TestLaws.{some≢none, none-at}
 use Rattle.wire.proofs.ListLaws.{all-at, all-append, all-take, map-at}
 use Rattle.wire.proofs.BufferLaws.{lent}
 use Rattle.wire.proofs.BlockLaws.{length-flatten, flatten-snoc}
-use Rattle.wire.proofs.ScanLaws.{TurnAhead, scan-end, scan-on}
 use Rattle.keys.specs.Names.{legalName, applicationNameMost}
 use Rattle.registry.specs.Names.{isNew}
 use Rattle.registry.specs.Slots.{slotSize}
 use Rattle.registry.specs.Registry.{lineCount, slotCount, lineSize, lineOf}
 use Rattle.registry.proofs.KeylessLaws.{isLegal, sized-names}
-use Rattle.roster.specs.Roster.{recordLength, valueIn, recordFaults, Roster, applications, faulty, recordTurn, rosterOf}
-use Rattle.roster.specs.code.Check.{loadedOf, isWhole, namesAt, withName, Within, rosterIn, RosterKnown}
+use Rattle.records.specs.Records.{recordLength, valueIn, recordIn, isWhole, readRecords}
+use Rattle.records.proofs.RecordLaws.{records-empty, records-cut, records-on}
+use Rattle.roster.specs.Roster.{recordFaults, Roster, applications, faulty, recordStep, rosterOf}
+use Rattle.roster.specs.code.Check.{loadedOf, faultIn, namesAt, withName, Within, rosterIn, RosterKnown}
 use Rattle.roster.specs.declared.RosterFault.{RosterFault}
 use Rattle.roster.specs.declared.RosterFault.the-variants.{CutRecord, UnknownTag, BadName, NinthName, RepeatedName}
 use Rattle.roster.specs.declared.Loaded.the-variants.{Good, Faulty}
-use Rattle.roster.specs.declared.records.Names.{Names}
+use Rattle.roster.specs.declared.check.Names.{Names}
 use Rattle.roster.specs.declared.load.Checked.{Checked}
-
--- ---- a whole record
-
-module _ (bytes : List ℕ) where
-  pub whole-short : length bytes < 3 → isWhole bytes ≡ false
-  unfolding isWhole
-  whole-short h = rw (lt-ltb _ _ h)
-
-  pub whole-cut : length bytes < recordLength bytes → isWhole bytes ≡ false
-  unfolding isWhole
-  whole-cut h = rw (lt-ltb _ _ h, or-true)
-
-  pub whole-fit : recordLength bytes ≤ length bytes → isWhole bytes ≡ true
-  unfolding isWhole
-  whole-fit h =
-      let three : 3 ≤ length bytes = omega arith in
-      rw (le-ltb _ _ three, le-ltb _ _ h)
-
-  pub whole-room : isWhole bytes ≡ true → recordLength bytes ≤ length bytes
-  unfolding isWhole
-  whole-room e =
-      let short : Bool = ltb (length bytes) 3 in
-      let cut : Bool = ltb (length bytes) (recordLength bytes) in
-      ltb-false _ _ (or-right short cut (not-true (short || cut) e))
-
-  pub cut-test : {t : Bool} → isWhole bytes ≡ t → ltb (length bytes) 3 || ltb (length bytes) (recordLength bytes) ≡ not t
-  unfolding isWhole
-  cut-test {t} e = not-across _ t e
 
 -- ---- the first fault of a record
 
 module _ (names : List (List ℕ)) (bytes : List ℕ) where
-  pub fault-cut : isWhole bytes ≡ false → firstOf (recordFaults names bytes) ≡ some CutRecord
-  unfolding recordFaults firstOf
-  fault-cut whole = rw (cut-test bytes whole)
+  pub fault-cut : isWhole bytes ≡ false → faultIn names bytes ≡ some CutRecord
+  unfolding faultIn
+  fault-cut whole = rw whole
 
   module _ (whole : isWhole bytes ≡ true) where
-    pub fault-tag : eqb (field 0 1 bytes) 1 ≡ false → firstOf (recordFaults names bytes) ≡ some UnknownTag
+    pub fault-whole : faultIn names bytes ≡ firstOf (recordFaults names (recordIn bytes))
+    unfolding faultIn
+    fault-whole = rw whole
+
+    pub fault-tag : eqb (field 0 1 bytes) 1 ≡ false → faultIn names bytes ≡ some UnknownTag
     unfolding recordFaults firstOf
-    fault-tag tag = rw (cut-test bytes whole, tag)
+    fault-tag tag = fault-whole ∙ rw tag
 
     module _ (tag : eqb (field 0 1 bytes) 1 ≡ true) where
-      pub fault-name : legalName applicationNameMost (valueIn bytes) ≡ false → firstOf (recordFaults names bytes) ≡ some BadName
+      pub fault-name : legalName applicationNameMost (valueIn bytes) ≡ false → faultIn names bytes ≡ some BadName
       unfolding recordFaults firstOf
-      fault-name legal = rw (cut-test bytes whole, tag, legal)
+      fault-name legal = fault-whole ∙ rw (tag, legal)
 
       module _ (legal : legalName applicationNameMost (valueIn bytes) ≡ true) where
-        pub fault-ninth : leb lineCount (length names) ≡ true → firstOf (recordFaults names bytes) ≡ some NinthName
+        pub fault-ninth : leb lineCount (length names) ≡ true → faultIn names bytes ≡ some NinthName
         unfolding recordFaults firstOf
-        fault-ninth ninth = rw (cut-test bytes whole, tag, legal, ninth)
+        fault-ninth ninth = fault-whole ∙ rw (tag, legal, ninth)
 
-        pub fault-repeated : leb lineCount (length names) ≡ false → isNew (valueIn bytes) names ≡ false → firstOf (recordFaults names bytes) ≡ some RepeatedName
+        pub fault-repeated : leb lineCount (length names) ≡ false → isNew (valueIn bytes) names ≡ false → faultIn names bytes ≡ some RepeatedName
         unfolding recordFaults firstOf
-        fault-repeated ninth repeated = rw (cut-test bytes whole, tag, legal, ninth, repeated)
+        fault-repeated ninth repeated = fault-whole ∙ rw (tag, legal, ninth, repeated)
 
-        pub fault-none : leb lineCount (length names) ≡ false → isNew (valueIn bytes) names ≡ true → firstOf (recordFaults names bytes) ≡ none
+        pub fault-none : leb lineCount (length names) ≡ false → isNew (valueIn bytes) names ≡ true → faultIn names bytes ≡ none
         unfolding recordFaults firstOf
-        fault-none ninth repeated = rw (cut-test bytes whole, tag, legal, ninth, repeated)
+        fault-none ninth repeated = fault-whole ∙ rw (tag, legal, ninth, repeated)
 
   -- a record without a fault is whole, and there is room for its name
-  module _ (e : firstOf (recordFaults names bytes) ≡ none) where
+  module _ (e : faultIn names bytes ≡ none) where
     pub passed-whole : isWhole bytes ≡ true
-    unfolding recordFaults isWhole
-    passed-whole = ap not (none-at (recordFaults names bytes) 0 CutRecord e)
+    passed-whole = go (isWhole bytes) refl
+      where
+        go : (t : Bool) → isWhole bytes ≡ t → t ≡ true
+        go true w = refl
+        go false w = absurd (some≢none CutRecord (sym (fault-cut w) ∙ e))
+
+    pub passed-tests : firstOf (recordFaults names (recordIn bytes)) ≡ none
+    passed-tests = sym (fault-whole passed-whole) ∙ e
 
     pub passed-room : length names < lineCount
     unfolding recordFaults
-    passed-room = leb-false _ _ (none-at (recordFaults names bytes) 3 NinthName e)
+    passed-room = leb-false _ _ (none-at (recordFaults names (recordIn bytes)) 2 NinthName passed-tests)
 
 pub loaded-good : (o : Option RosterFault) → loadedOf o ≡ Good → o ≡ none
 unfolding loadedOf
@@ -112,36 +94,35 @@ unfolding loadedOf
 loaded-faulty none fault e = cc
 loaded-faulty (some f) fault e = cc
 
--- ---- one turn of the scan
+-- ---- one record on
 
 -- what the records from `at` on give, behind these names
 abbrev pub rosterFrom : (file : List ℕ) (at : ℕ) (names : List (List ℕ)) → Roster
-rosterFrom file at names = scanAt (λ at names. recordTurn names at (drop at file)) applications (length file) at names
+rosterFrom file at names = readRecords (faulty CutRecord) recordStep applications (drop at file) names
 
-module _ (file : List ℕ) where
-  turn-ahead : (at : ℕ) (names : List (List ℕ)) → TurnAhead at (recordTurn names at (drop at file))
-  unfolding recordTurn
-  turn-ahead at names = go (firstOf (recordFaults names (drop at file))) refl
+module _ (file : List ℕ) (at : ℕ) (names : List (List ℕ)) where
+  pub roster-end : length file ≤ at → rosterFrom file at names ≡ applications names
+  roster-end h =
+      ap (λ (l : List ℕ). readRecords (faulty CutRecord) recordStep applications l names) (drop-of-length-le file h)
+      ∙ records-empty (faulty CutRecord) recordStep applications names
+
+  pub roster-fault : (fault : RosterFault) → at < length file → faultIn names (drop at file) ≡ some fault → rosterFrom file at names ≡ faulty fault
+  unfolding recordStep faultIn
+  roster-fault fault h e = go (isWhole (drop at file)) refl e
     where
-      go : (o : Option RosterFault) → firstOf (recordFaults names (drop at file)) ≡ o → TurnAhead at (recordTurn names at (drop at file))
-      go (some fault) e = rw (e, recordTurn) tt
-      go none e = rw (e, recordTurn) (omega arith)
+      go : (t : Bool) → isWhole (drop at file) ≡ t → (if t then firstOf (recordFaults names (recordIn (drop at file))) else some CutRecord) ≡ some fault
+          → rosterFrom file at names ≡ faulty fault
+      go true w q = records-on (faulty CutRecord) recordStep applications (drop at file) names w ∙ rw (recordStep, q)
+      go false w q =
+          let c : CutRecord ≡ fault = cc in
+          records-cut (faulty CutRecord) recordStep applications (drop at file) names (omega (arith, length-drop at file)) w ∙ ap faulty c
 
-  module _ (at : ℕ) (names : List (List ℕ)) where
-    pub roster-end : length file ≤ at → rosterFrom file at names ≡ applications names
-    roster-end h = scan-end (λ at names. recordTurn names at (drop at file)) applications (length file) at names h
-
-    next : at < length file → rosterFrom file at names ≡ follow (recordTurn names at (drop at file)) (rosterFrom file)
-    next h = scan-on (λ at names. recordTurn names at (drop at file)) applications (length file) turn-ahead at names h
-
-    pub roster-fault : (fault : RosterFault) → at < length file → firstOf (recordFaults names (drop at file)) ≡ some fault → rosterFrom file at names ≡ faulty fault
-    unfolding recordTurn
-    roster-fault fault h e = next h ∙ rw (e, recordTurn)
-
-    pub roster-on : at < length file → firstOf (recordFaults names (drop at file)) ≡ none
-        → rosterFrom file at names ≡ rosterFrom file (at + recordLength (drop at file)) (names ++ (valueIn (drop at file) ∷ []))
-    unfolding recordTurn
-    roster-on h e = next h ∙ rw (e, recordTurn)
+  pub roster-on : at < length file → faultIn names (drop at file) ≡ none
+      → rosterFrom file at names ≡ rosterFrom file (at + recordLength (drop at file)) (names ++ (valueIn (drop at file) ∷ []))
+  unfolding recordStep
+  roster-on h e =
+      records-on (faulty CutRecord) recordStep applications (drop at file) names (passed-whole names (drop at file) e)
+      ∙ rw (recordStep, passed-tests names (drop at file) e, drop-drop (recordLength (drop at file)) at file)
 
 -- ---- the names kept by place
 

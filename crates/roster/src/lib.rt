@@ -1,7 +1,7 @@
-// The roster file ("Roster, registry, connection, tally"): `records` says what is wrong with a record, `load` reads a whole
+// The roster file ("Roster, registry, connection, tally"): `check` says what is wrong with a record, `load` reads a whole
 // file into memory lent for the registry.
+mod check;
 pub mod load;
-mod records;
 
 // Why a roster file is refused: R0 to R5.
 pub enum RosterFault {

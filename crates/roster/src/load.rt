@@ -1,11 +1,11 @@
 // A roster file read into memory lent for the registry ("Roster, registry, connection, tally"): document 01's R0 to R5.
 use crate::Loaded;
 use crate::RosterFault;
-use crate::records::Names;
-use crate::records::check_record;
-use crate::records::name_at;
-use crate::records::record_length;
-use crate::records::with_name;
+use crate::check::Names;
+use crate::check::check_record;
+use crate::check::name_at;
+use crate::check::with_name;
+use records::file::record_length;
 use registry::LINE_SIZE;
 use registry::LINES;
 use registry::REGISTRY_SIZE;

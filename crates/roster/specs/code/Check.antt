@@ -1,27 +1,29 @@
 -- A roster file, as the code reads it, in the reading copy's terms.
 use Prim.Native.Nat.{ℕ, _+_, _≤_}
 use mathlib.Core.Path.{_≡_}
-use mathlib.Core.Bool.{Bool, true, not, _||_}
+use mathlib.Core.Bool.{true}
 use mathlib.Core.Option.{Option, none, some}
 use mathlib.Core.List.{List, map}
 use lib.ListN.{length, take, drop, set}
-use lib.Dec.{ltb}
+use Rattle.wire.specs.Choice.{if_then_else_, firstOf}
 use Rattle.wire.specs.Lists.{all}
 use Rattle.registry.specs.Registry.{lineCount}
-use Rattle.roster.specs.Roster.{recordLength, valueIn, Roster, applications, faulty, rosterOf}
+use Rattle.records.specs.Records.{valueIn, recordIn, isWhole}
+use Rattle.roster.specs.Roster.{recordFaults, Roster, applications, faulty, rosterOf}
 use Rattle.roster.specs.declared.RosterFault.{RosterFault}
+use Rattle.roster.specs.declared.RosterFault.the-variants.{CutRecord}
 use Rattle.roster.specs.declared.Loaded.{Loaded}
 use Rattle.roster.specs.declared.Loaded.the-variants.{Good, Faulty}
-use Rattle.roster.specs.declared.records.Names.{Names}
+use Rattle.roster.specs.declared.check.Names.{Names}
 use Rattle.roster.specs.declared.load.Checked.{Checked}
 
 unfoldable pub loadedOf : Option RosterFault → Loaded
 loadedOf none = Good
 loadedOf (some fault) = Faulty fault
 
--- the bytes begin with a whole record
-unfoldable pub isWhole : (bytes : List ℕ) → Bool
-isWhole bytes = not (ltb (length bytes) 3 || ltb (length bytes) (recordLength bytes))
+-- the first fault of the record that bytes begin with, `names` being those before it
+unfoldable pub faultIn : (names : List (List ℕ)) (bytes : List ℕ) → Option RosterFault
+faultIn names bytes = if isWhole bytes then firstOf (recordFaults names (recordIn bytes)) else some CutRecord
 
 -- the names whose records begin at these places
 unfoldable pub namesAt : (file : List ℕ) → Names → List (List ℕ)

@@ -7,12 +7,13 @@ use mathlib.Core.List.{List}
 use native.Mathlib.Omega.{arith}
 use borrow.Author.Needs.{needs}
 use lib.ListN.{length, drop, length-drop}
-use Rattle.wire.specs.Choice.{firstOf}
 use Rattle.wire.proofs.BufferLaws.{lent}
 use Rattle.registry.specs.Registry.{lineCount}
-use Rattle.roster.specs.Roster.{recordLength, recordFaults, rosterOf}
-use Rattle.roster.specs.code.Check.{isWhole, namesAt, Within, rosterIn}
-use Rattle.roster.proofs.LoadLaws.{whole-room, passed-whole, passed-room, loaded-good, loaded-faulty, rosterFrom, roster-end, roster-fault, roster-on, names-many, names-more, within-more}
+use Rattle.records.specs.Records.{recordLength, isWhole}
+use Rattle.records.proofs.RecordLaws.{whole-room}
+use Rattle.roster.specs.Roster.{rosterOf}
+use Rattle.roster.specs.code.Check.{faultIn, namesAt, Within, rosterIn}
+use Rattle.roster.proofs.LoadLaws.{passed-whole, passed-room, loaded-good, loaded-faulty, rosterFrom, roster-end, roster-fault, roster-on, names-many, names-more, within-more}
 use Rattle.roster.proofs.load.check_roster.Statement.{statement}
 use Rattle.roster.proofs.load.check_roster.Tie as tie
 
@@ -45,7 +46,7 @@ turn c = c .before .before .before
 abbrev bytes : Good → List ℕ
 bytes c = drop (at (turn c)) (file (turn c))
 
-passed : (c : Good) → firstOf (recordFaults (names (turn c)) (bytes c)) ≡ none
+passed : (c : Good) → faultIn (names (turn c)) (bytes c) ≡ none
 passed c = loaded-good _ (sym (c .before .before .check-record .ensures) ∙ c .enum-told .given .1)
 
 whole : (c : Good) → isWhole (bytes c) ≡ true

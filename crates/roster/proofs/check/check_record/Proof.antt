@@ -1,4 +1,4 @@
--- `roster::records::check_record` meets its contract: the faults are tried in their order.
+-- `roster::check::check_record` meets its contract: the faults are tried in their order.
 use Prim.Native.Nat.{ℕ, _-_, _<_}
 use mathlib.Core.Path.{_≡_, sym, ap, _∙_}
 use mathlib.Core.Bool.{true, false, not}
@@ -15,11 +15,12 @@ use Rattle.wire.proofs.BufferLaws.{lent}
 use Rattle.keys.specs.Names.{legalName, applicationNameMost}
 use Rattle.registry.specs.Names.{isNew}
 use Rattle.registry.specs.Registry.{lineCount}
-use Rattle.roster.specs.Roster.{valueIn}
-use Rattle.roster.specs.code.Check.{loadedOf, isWhole, namesAt}
-use Rattle.roster.proofs.LoadLaws.{whole-room, fault-cut, fault-tag, fault-name, fault-ninth, fault-repeated, fault-none, names-many}
-use Rattle.roster.proofs.records.check_record.Statement.{statement}
-use Rattle.roster.proofs.records.check_record.Tie as tie
+use Rattle.records.specs.Records.{valueIn, isWhole}
+use Rattle.records.proofs.RecordLaws.{whole-room}
+use Rattle.roster.specs.code.Check.{loadedOf, namesAt}
+use Rattle.roster.proofs.LoadLaws.{fault-cut, fault-tag, fault-name, fault-ninth, fault-repeated, fault-none, names-many}
+use Rattle.roster.proofs.check.check_record.Statement.{statement}
+use Rattle.roster.proofs.check.check_record.Tie as tie
 
 abbrev names : tie.Start → List (List ℕ)
 names c = namesAt (c .args .file .now) (c .args .names)

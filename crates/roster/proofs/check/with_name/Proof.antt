@@ -1,9 +1,9 @@
--- `roster::records::with_name` meets its contract.
+-- `roster::check::with_name` meets its contract.
 use mathlib.Core.Path.{refl}
 use borrow.Author.Needs.{needs}
 use Rattle.roster.specs.code.Check.{withName}
-use Rattle.roster.proofs.records.with_name.Statement.{statement}
-use Rattle.roster.proofs.records.with_name.Tie as tie
+use Rattle.roster.proofs.check.with_name.Statement.{statement}
+use Rattle.roster.proofs.check.with_name.Tie as tie
 
 mul-starts : tie.Need-mul-starts
 mul-starts c = search needs

@@ -3,49 +3,18 @@ use crate::Loaded;
 use crate::RosterFault;
 use keys::APPLICATION_NAME_MOST;
 use keys::names::is_legal;
+use records::file::is_whole;
+use records::file::value_in;
 use registry::LINES;
-use registry::slots::size_at;
 use wire::bytes::equal;
 ghost use mathlib.Core.Path.{_≡_};
-ghost use mathlib.Core.Bool.{true, not};
+ghost use mathlib.Core.Bool.{not};
 ghost use mathlib.Core.List.{[]};
 ghost use Prim.Native.Nat.{_≤_, _<_};
 ghost use lib.ListN.{length, drop, getD};
-ghost use Rattle.wire.specs.Choice.{firstOf};
 ghost use Rattle.registry.specs.Names.{isNew};
 ghost use Rattle.registry.specs.Registry.{lineCount};
-ghost use Rattle.roster.specs.Roster.{recordLength, valueIn, recordFaults};
-ghost use Rattle.roster.specs.code.Check.{loadedOf, isWhole, namesAt, withName, Within};
-
-// The length of the record that bytes begin with.
-pub fn record_length(bytes: &[u8]) -> usize
-    requires { ⌜ 3 ≤ length (now bytes) ⌝ }
-    ensures { λ r. ⌜ r ≡ recordLength (now (bytes .entry)) ⌝ }
-{
-    3 + size_at(bytes, 1)
-}
-
-// Whether bytes begin with a whole record.
-fn is_whole(bytes: &[u8]) -> bool
-    ensures { λ r. ⌜ r ≡ isWhole (now (bytes .entry)) ⌝ }
-{
-    if bytes.len() < 3 {
-        return false;
-    }
-    if bytes.len() < record_length(bytes) {
-        return false;
-    }
-    true
-}
-
-// The value of the whole record that bytes begin with.
-fn value_in(bytes: &[u8]) -> &[u8]
-    requires { ⌜ isWhole (now bytes) ≡ true ⌝ }
-    ensures { λ r. ⌜ now r ≡ valueIn (now (bytes .entry)) ⌝ }
-{
-    let e = record_length(bytes);
-    &bytes[3..e]
-}
+ghost use Rattle.roster.specs.code.Check.{loadedOf, faultIn, namesAt, withName, Within};
 
 // Where the names' records begin in a roster file: the first `count` of `starts`.
 pub struct Names {
@@ -81,7 +50,7 @@ fn is_repeated(file: &[u8], names: Names, name: &[u8]) -> bool
 // The first fault of the record at `at`, with the names before it.
 pub fn check_record(file: &[u8], at: usize, names: Names) -> Loaded
     requires { ⌜ (at ≤ length (now file)) × Within (now file) names ⌝ }
-    ensures { λ r. ⌜ r ≡ loadedOf (firstOf (recordFaults (namesAt (now (file .entry)) names) (drop at (now (file .entry))))) ⌝ }
+    ensures { λ r. ⌜ r ≡ loadedOf (faultIn (namesAt (now (file .entry)) names) (drop at (now (file .entry)))) ⌝ }
 {
     let bytes = &file[at..];
     if !is_whole(bytes) {

@@ -1,4 +1,4 @@
--- `roster::records::is_repeated` meets its contract. The loop's invariant: what the rest of the names says is what all of them say.
+-- `roster::check::is_repeated` meets its contract. The loop's invariant: what the rest of the names says is what all of them say.
 use Prim.Native.Nat.{ℕ, _-_, _≤_, _<_}
 use mathlib.Core.Path.{_≡_, refl, sym, ap, _∙_}
 use mathlib.Core.Bool.{Bool, not}
@@ -11,8 +11,8 @@ use Rattle.wire.proofs.ListLaws.{all-pass, all-fail, all-end}
 use Rattle.registry.specs.Names.{isNew}
 use Rattle.roster.specs.code.Check.{namesAt}
 use Rattle.roster.proofs.LoadLaws.{names-many}
-use Rattle.roster.proofs.records.is_repeated.Statement.{statement}
-use Rattle.roster.proofs.records.is_repeated.Tie as tie
+use Rattle.roster.proofs.check.is_repeated.Statement.{statement}
+use Rattle.roster.proofs.check.is_repeated.Tie as tie
 
 abbrev Inv-loop : tie.InvT-loop
 Inv-loop file names name i₀ i = (i ≤ names .count) × (isNew name (namesAt file names) ≡ isNew name (drop i (namesAt file names)))

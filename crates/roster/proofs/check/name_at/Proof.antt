@@ -1,4 +1,4 @@
--- `roster::records::name_at` meets its contract.
+-- `roster::check::name_at` meets its contract.
 use Prim.Native.Nat.{ℕ, _≤_}
 use mathlib.Core.Path.{sym, ap, _∙_}
 use mathlib.Core.List.{List}
@@ -6,11 +6,11 @@ use native.Mathlib.Omega.{arith}
 use borrow.Author.Needs.{needs}
 use lib.ListN.{length, drop, getD, length-drop}
 use Rattle.wire.proofs.BufferLaws.{lent}
-use Rattle.roster.specs.Roster.{valueIn}
-use Rattle.roster.specs.code.Check.{isWhole}
-use Rattle.roster.proofs.LoadLaws.{whole-room, place-whole, name-there}
-use Rattle.roster.proofs.records.name_at.Statement.{statement}
-use Rattle.roster.proofs.records.name_at.Tie as tie
+use Rattle.records.specs.Records.{valueIn, isWhole}
+use Rattle.records.proofs.RecordLaws.{whole-room}
+use Rattle.roster.proofs.LoadLaws.{place-whole, name-there}
+use Rattle.roster.proofs.check.name_at.Statement.{statement}
+use Rattle.roster.proofs.check.name_at.Tie as tie
 
 abbrev file : tie.Start → List ℕ
 file c = c .args .file .now
