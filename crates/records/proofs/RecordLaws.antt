@@ -9,7 +9,7 @@ use native.Mathlib.Decide.{decLt}
 use borrow.Author.Tests.{lt-ltb, le-ltb, ltb-false, not-true}
 use lib.Dec.{ltb}
 use lib.ListN.{length, take, drop, length-append, length-drop}
-use lib.Seq.{drop-drop, drop-append-le, take-append-seam}
+use lib.Seq.{drop-drop, drop-append-le, take-append-seam, length-take-le}
 use Rattle.wire.specs.Choice.{if_then_else_}
 use Rattle.wire.specs.Numbers.{field}
 use Rattle.wire.specs.Scan.{Turn, on, out, follow, scanFrom, scanAt}
@@ -42,6 +42,13 @@ module _ (bytes : List ℕ) where
       let short : Bool = ltb (length bytes) 3 in
       let cut : Bool = ltb (length bytes) (recordLength bytes) in
       ltb-false _ _ (or-right short cut (not-true (short || cut) e))
+
+pub value-length : (bytes : List ℕ) → isWhole bytes ≡ true → length (valueIn bytes) ≡ field 1 2 bytes
+value-length bytes e = length-take-le (field 1 2 bytes) (drop 3 bytes) (omega (arith, whole-room bytes e, length-drop 3 bytes))
+
+-- a record that ends within x is as long by x alone
+pub room-front : (x rest : List ℕ) → recordLength (x ++ rest) ≤ length x → recordLength x ≤ length x
+room-front x rest h = omega (arith, h, field-append 1 2 x rest (omega (arith, h)))
 
 -- bytes behind a whole record do not matter to it
 module _ (x rest : List ℕ) (room : recordLength x ≤ length x) where

@@ -1,0 +1,59 @@
+-- `shipped::check::is_repeated` meets its contract.
+use mathlib.Core.Path.{_≡_, sym, ap, _∙_}
+use mathlib.Core.Bool.{Bool, not}
+use mathlib.Core.List.{List}
+use Prim.Native.Nat.{ℕ}
+use borrow.Author.Needs.{needs}
+use lib.ListN.{take}
+use lib.Seq.{length-take-le}
+use Rattle.wire.specs.Choice.{isSome}
+use Rattle.registry.specs.Names.{isNew}
+use Rattle.shipped.specs.Shipped.{namesOf, keysIn}
+use Rattle.shipped.specs.code.Pairs.{dataAt}
+use Rattle.shipped.specs.declared.Listed.{Listed}
+use Rattle.shipped.proofs.ListLaws.{finds-new}
+use Rattle.shipped.proofs.check.is_repeated.Statement.{statement}
+use Rattle.shipped.proofs.check.is_repeated.Tie as tie
+
+abbrev before : tie.Start → List ℕ
+before c = take (c .args .at) (c .args .list .now)
+
+-- what was found says whether the name is new
+new : (c : tie.After-find-listed) (found : Listed) → c .find-listed .result ≡ found
+    → let s = c .before .before .before .before in
+    not (isNew (s .args .name .now) (namesOf (keysIn (before s)))) ≡ not (not (isSome (dataAt (before s) found)))
+new c found e =
+    let s = c .before .before .before .before in
+    ap not (finds-new (before s) (s .args .name .now) (c .find-listed .result) (c .find-listed .ensures)
+    ∙ ap (λ (l : Listed). not (isSome (dataAt (before s) l))) e)
+
+slice-aggregate-find-listed : tie.Need-slice-aggregate-find-listed
+slice-aggregate-find-listed c = let s = c .before .before .before in sym (length-take-le (s .args .at) (s .args .list .now) (s .pre .0))
+
+find-listed-requires : tie.Need-find-listed-requires
+find-listed-requires c κs = search needs
+
+enum-told : tie.Need-enum-told
+enum-told c = search needs
+
+enum-told-2 : tie.Need-enum-told-2
+enum-told-2 c = search needs
+
+returns : tie.Need-returns
+unfolding dataAt isSome
+returns c = sym (new (c .before .before) _ (c .enum-told .given .1))
+
+returns-2 : tie.Need-returns-2
+unfolding dataAt isSome
+returns-2 c = sym (new (c .before .before) _ (c .enum-told2 .given .1))
+
+pub is-repeated-spec : {M : Type 1} → statement M
+is-repeated-spec =
+    tie.close
+    (tie.spec
+    slice-aggregate-find-listed
+    find-listed-requires
+    enum-told
+    enum-told-2
+    returns
+    returns-2)
