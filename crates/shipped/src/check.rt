@@ -2,6 +2,8 @@
 use crate::LISTED_MOST;
 use crate::Listed;
 use crate::find::find_listed;
+use crate::marks::is_among;
+use crate::marks::mark_of;
 use crate::pairs::pair_length;
 use records::file::value_in;
 ghost use mathlib.Core.Path.{_≡_};
@@ -10,12 +12,17 @@ ghost use Prim.Native.Nat.{_≤_};
 ghost use lib.ListN.{length, take};
 ghost use Rattle.registry.specs.Names.{isNew};
 ghost use Rattle.shipped.specs.Shipped.{wellFormedList, keysIn, namesOf};
+ghost use Rattle.shipped.specs.code.Marks.{markOf, Marked};
 
-// Whether one of the keys before `at` has the name.
-fn is_repeated(list: &[u8], at: usize, name: &[u8]) -> bool
-    requires { ⌜ (at ≤ length (now list)) × (wellFormedList (take at (now list)) ≡ true) ⌝ }
+// Whether one of the keys before `at`, whose marks are the first of `marks`, has the name. Only where its mark is among them are
+// names compared.
+fn is_repeated(list: &[u8], at: usize, marks: &[u32], name: &[u8], mark: u32) -> bool
+    requires { ⌜ (at ≤ length (now list)) × (wellFormedList (take at (now list)) ≡ true) × Marked (keysIn (take at (now list))) (now marks) × (mark ≡ markOf (now name)) ⌝ }
     ensures { λ r. ⌜ r ≡ not (isNew (now (name .entry)) (namesOf (keysIn (take at (now (list .entry)))))) ⌝ }
 {
+    if !is_among(marks, mark) {
+        return false;
+    }
     match find_listed(&list[..at], name) {
         Listed::At(_) => true,
         Listed::Nothing => false,
@@ -26,6 +33,7 @@ fn is_repeated(list: &[u8], at: usize, name: &[u8]) -> bool
 fn are_pairs(list: &[u8]) -> bool
     ensures { λ r. ⌜ r ≡ wellFormedList (now (list .entry)) ⌝ }
 {
+    let mut marks: [u32; LISTED_MOST] = [0; LISTED_MOST];
     let mut count = 0;
     let mut at = 0;
     while at < list.len() {
@@ -36,9 +44,12 @@ fn are_pairs(list: &[u8]) -> bool
         if LISTED_MOST <= count {
             return false;
         }
-        if is_repeated(list, at, value_in(&list[at..])) {
+        let name = value_in(&list[at..]);
+        let mark = mark_of(name);
+        if is_repeated(list, at, &marks, name, mark) {
             return false;
         }
+        marks[count] = mark;
         count += 1;
         at += n;
     }

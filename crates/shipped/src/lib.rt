@@ -1,6 +1,7 @@
 // The list of keys that the group hands every site (document 02, "Keys we ship"): `check` is C6, `find` the search by name.
 pub mod check;
 pub mod find;
+mod marks;
 mod pairs;
 
 // Pairs in a list.

@@ -1,13 +1,13 @@
 -- `shipped::check::are_pairs` meets its contract. The loop's invariant: the list up to `at` is a good one, and the rest, read
 -- behind its keys, gives what the whole gives.
 use Prim.Native.Nat.{ℕ, _+_, _-_, _≤_, _<_}
-use mathlib.Core.Path.{_≡_, refl, sym, ap, ap₂, _∙_}
+use mathlib.Core.Path.{_≡_, refl, sym, ap, ap₂, _∙_, subst}
 use mathlib.Core.Bool.{true, false, not}
 use mathlib.Core.Option.{some}
 use mathlib.Core.List.{List, [], _∷_, _++_}
 use native.Mathlib.Omega.{arith}
 use borrow.Author.Needs.{needs}
-use lib.ListN.{length, take, drop, length-drop, length-append}
+use lib.ListN.{length, take, drop, set, length-drop, length-append}
 use lib.Seq.{drop-drop}
 use Rattle.wire.proofs.TestLaws.{not-across}
 use Rattle.wire.proofs.BufferLaws.{lent}
@@ -15,20 +15,22 @@ use Rattle.registry.specs.Names.{isNew}
 use Rattle.records.specs.Records.{valueIn, isWhole}
 use Rattle.shipped.specs.Shipped.{ListedKey, namesOf, listedMost, whole, listOf, wellFormedList, keysIn}
 use Rattle.shipped.specs.code.Pairs.{isPair, pairLength, keyIn}
+use Rattle.shipped.specs.code.Marks.{markOf, Marked}
 use Rattle.shipped.proofs.PairLaws.{readPairs, pair-told, pair-not, pair-long, pair-room, pair-whole, pairs-none, pairs-over, pairs-repeated, pairs-on}
 use Rattle.shipped.proofs.ListLaws.{good-list, list-good, list-keys, list-bad, pairs-end, before-more}
+use Rattle.shipped.proofs.MarkLaws.{marked-none, marked-more}
 use Rattle.shipped.proofs.check.are_pairs.Statement.{statement}
 use Rattle.shipped.proofs.check.are_pairs.Tie as tie
 
 abbrev Inv-loop : tie.InvT-loop
-Inv-loop list count₀ at₀ count at =
+Inv-loop list marks₀ count₀ at₀ marks count at =
     (at ≤ length list)
     × ((wellFormedList (take at list) ≡ true)
     × ((readPairs (drop at list) (whole (keysIn (take at list))) ≡ listOf list)
-    × (count ≡ length (keysIn (take at list)))))
+    × ((count ≡ length (keysIn (take at list))) × Marked (keysIn (take at list)) marks)))
 
 abbrev μ-loop : tie.MeasureT-loop
-μ-loop list count₀ at₀ count at = length list - at
+μ-loop list marks₀ count₀ at₀ marks count at = length list - at
 
 abbrev In-loop : Type 0
 In-loop = tie.In-loop Inv-loop μ-loop
@@ -65,16 +67,20 @@ abbrev turn2 : tie.Else2 Inv-loop μ-loop → In-loop
 turn2 c = turn1 (c .before)
 
 few : (c : tie.Else2 Inv-loop μ-loop) → length (keys (turn2 c)) < listedMost
-few c = omega (arith, c .if2 .left, turn2 c .before .loop .inv .1 .1 .1)
+few c = omega (arith, c .if2 .left, turn2 c .before .loop .inv .1 .1 .1 .0)
 
 abbrev turn3 : tie.After-is-repeated Inv-loop μ-loop → In-loop
-turn3 c = turn2 (c .before .before .before)
+turn3 c = turn2 (c .before .before .before .before .before)
+
+-- the name
+name : (c : tie.After-value-in Inv-loop μ-loop) → let t = turn2 (c .before .before) in c .value-in .result .now ≡ valueIn (bytes t)
+name c = let t = turn2 (c .before .before) in c .value-in .ensures ∙ ap valueIn (lent (at t) (list t))
 
 new : (c : tie.After-is-repeated Inv-loop μ-loop) → let t = turn3 c in isNew (valueIn (bytes t)) (namesOf (keys t)) ≡ not (c .is-repeated .result)
 new c =
     let t = turn3 c in
     not-across _ _
-    (sym (c .is-repeated .ensures ∙ ap (λ (v : List ℕ). not (isNew v (namesOf (keys t)))) (c .before .value-in .ensures ∙ ap valueIn (lent (at t) (list t)))))
+    (sym (c .is-repeated .ensures ∙ ap (λ (v : List ℕ). not (isNew v (namesOf (keys t)))) (name (c .before .before .before))))
 
 -- ---- a pair is taken
 
@@ -85,7 +91,7 @@ abbrev turn : Taken → In-loop
 turn c = turn3 (c .before)
 
 abbrev else2 : Taken → tie.Else2 Inv-loop μ-loop
-else2 c = c .before .before .before .before
+else2 c = c .before .before .before .before .before .before
 
 abbrev n : Taken → ℕ
 n c = else2 c .before .before .pair-length .result
@@ -117,7 +123,7 @@ loop-holds c =
       omega arith,
       (
         list-good [] [] empty,
-        (ap (λ (ks : List ListedKey). readPairs (c .before .args .list .now) (whole ks)) none, sym (ap length none)),
+        (ap (λ (ks : List ListedKey). readPairs (c .before .args .list .now) (whole ks)) none, (sym (ap length none), marked-none (keysIn []) _ none refl)),
       ),
     )
 
@@ -141,7 +147,7 @@ returns c =
 returns-2 : tie.Need-returns-2 Inv-loop μ-loop
 returns-2 c =
     let t = turn1 (c .before) in
-    let full : listedMost ≤ length (keys t) = omega (arith, c .if2 .taken, t .before .loop .inv .1 .1 .1) in
+    let full : listedMost ≤ length (keys t) = omega (arith, c .if2 .taken, t .before .loop .inv .1 .1 .1 .0) in
     sym (list-bad (list t) (sym (reads t) ∙ pairs-over (keys t) (bytes t) (pair (c .before)) full))
 
 sub-value-in : tie.Need-sub-value-in Inv-loop μ-loop
@@ -159,16 +165,28 @@ value-in-requires c κs =
     let t = turn1 e in
     ap isWhole (lent (at t) (list t)) ∙ pair-whole (bytes t) (pair e)
 
+mark-of-requires : tie.Need-mark-of-requires Inv-loop μ-loop
+mark-of-requires c κs = search needs
+
+slice-aggregate-is-repeated : tie.Need-slice-aggregate-is-repeated Inv-loop μ-loop
+slice-aggregate-is-repeated c = sym (turn2 (c .before .before .before .before) .before .loop .inv .1 .1 .1 .1 .room)
+
 is-repeated-requires : tie.Need-is-repeated-requires Inv-loop μ-loop
 is-repeated-requires c κs =
-    let t = turn2 (c .before .before) in
-    (t .before .loop .inv .0, t .before .loop .inv .1 .0)
+    let inv = turn2 (c .before .before .before .before) .before .loop .inv in
+    (inv .0, inv .1 .0, inv .1 .1 .1 .1, c .before .mark-of .ensures)
 
 returns-3 : tie.Need-returns-3 Inv-loop μ-loop
 returns-3 c =
     let t = turn3 (c .before) in
-    let e = c .before .before .before .before .before in
+    let e = c .before .before .before .before .before .before .before in
     sym (list-bad (list t) (sym (reads t) ∙ pairs-repeated (keys t) (bytes t) (pair e) (new (c .before) ∙ ap not (c .if3 .taken))))
+
+mul-marks : tie.Need-mul-marks Inv-loop μ-loop
+mul-marks c = record { fits = omega (arith, else2 c .if2 .left) }
+
+array-write-marks : tie.Need-array-write-marks Inv-loop μ-loop
+array-write-marks c = else2 c .if2 .left
 
 add-count : tie.Need-add-count Inv-loop μ-loop
 add-count c = omega (arith, else2 c .if2 .left)
@@ -186,7 +204,13 @@ loop-again c =
     let key : ListedKey = keyIn (bytes t) in
     let all : keysIn x ≡ keys t ++ (key ∷ []) = list-keys x (keys t ++ (key ∷ [])) (more c) in
     let rest : drop (at t + n c) (list t) ≡ drop (pairLength (bytes t)) (bytes t)
-    = ap (λ (k : ℕ). drop (at t + k) (list t)) (long c) ∙ sym (drop-drop (pairLength (bytes t)) (at t) (list t)) in (
+    = ap (λ (k : ℕ). drop (at t + k) (list t)) (long c) ∙ sym (drop-drop (pairLength (bytes t)) (at t) (list t)) in
+    let inv = t .before .loop .inv .1 .1 .1 in
+    let m = c .before .before .before in
+    let marked : Marked (keysIn x) (set (t .before .loop .marks) (t .before .loop .count) (m .mark-of .result))
+    = subst (λ (ks : List ListedKey). Marked ks (set (t .before .loop .marks) (t .before .loop .count) (m .mark-of .result))) (sym all)
+    (marked-more (keys t) (t .before .loop .marks) (inv .1) key (t .before .loop .count) (m .mark-of .result) (inv .0) (else2 c .if2 .left)
+    (m .mark-of .ensures ∙ ap markOf (name (m .before)))) in (
       within c,
       (
         list-good x (keys t ++ (key ∷ [])) (more c),
@@ -194,7 +218,7 @@ loop-again c =
           ap₂ (λ (l : List ℕ) (ks : List ListedKey). readPairs l (whole ks)) rest all
               ∙ sym (pairs-on (keys t) (bytes t) (there c) (few (else2 c)) (fresh c))
               ∙ reads t,
-          omega (arith, ap length all, length-append (keys t) (key ∷ []), t .before .loop .inv .1 .1 .1),
+          (omega (arith, ap length all, length-append (keys t) (key ∷ []), t .before .loop .inv .1 .1 .1 .0), marked),
         ),
       ),
     )
@@ -223,8 +247,12 @@ are-pairs-spec =
     part-value-in-start
     part-value-in-end
     value-in-requires
+    mark-of-requires
+    slice-aggregate-is-repeated
     is-repeated-requires
     returns-3
+    mul-marks
+    array-write-marks
     add-count
     add-at
     loop-less
