@@ -43,9 +43,9 @@ importable-legal key e =
     let tests : List Bool = legalName keyNameMost (key .name) ∷ legalData (key .bytes) ∷ legalBits (key .bits) ∷ [] in
     record { name = every-at tests 0 e; bytes = every-at tests 1 e; bits = every-at tests 2 e }
 
-result-allowed : (r : List ℕ) (q : Request) → Allowed (askersSlots r (applicationOf r q)) (resultOf r q .change)
+result-allowed : (list r : List ℕ) (q : Request) → Allowed (askersSlots r (applicationOf r q)) (resultOf list r q .change)
 unfolding refuse success
-result-allowed r q = by-result r q (λ x. Allowed (askersSlots r (applicationOf r q)) (x .change)) (record {
+result-allowed list r q = by-result list r q (λ x. Allowed (askersSlots r (applicationOf r q)) (x .change)) (record {
   refused = λ status. stays;
   listed = λ output h. stays;
   imported = λ slot key v n e. fills (importable-legal key v) n e;
@@ -57,24 +57,24 @@ result-allowed r q = by-result r q (λ x. Allowed (askersSlots r (applicationOf 
 abbrev Kept : List ℕ → List ℕ → Type 0
 Kept r s = (wellFormedRegistry s ≡ true) × (namesIn s ≡ namesIn r)
 
-request-kept : (r : List ℕ) (q : Request) → wellFormedRegistry r ≡ true → Kept r (changedBy r (applicationOf r q) (resultOf r q))
+request-kept : (list r : List ℕ) (q : Request) → wellFormedRegistry r ≡ true → Kept r (changedBy r (applicationOf r q) (resultOf list r q))
 unfolding changedBy askersSlots
-request-kept r q w = go (applicationOf r q) refl (result-allowed r q)
+request-kept list r q w = go (applicationOf r q) refl (result-allowed list r q)
   where
-    go : (o : Option Line) → applicationOf r q ≡ o → Allowed (askersSlots r o) (resultOf r q .change)
-        → Kept r (changedBy r o (resultOf r q))
+    go : (o : Option Line) → applicationOf r q ≡ o → Allowed (askersSlots r o) (resultOf list r q .change)
+        → Kept r (changedBy r o (resultOf list r q))
     go none e ok = (w, refl)
-    go (some line) e ok = change-kept r w line (asks r q line e) (resultOf r q .change) ok
+    go (some line) e ok = change-kept r w line (asks r q line e) (resultOf list r q .change) ok
 
-module _ (r : List ℕ) (c : Counts) (request : List ℕ) (w : wellFormedRegistry r ≡ true) where
-  judge-kept : Kept r (judge judgement r c request .registry)
+module _ (list r : List ℕ) (c : Counts) (request : List ℕ) (w : wellFormedRegistry r ≡ true) where
+  judge-kept : Kept r (judge (judgement list) r c request .registry)
   unfolding judge judgement refusedEarly verdictOf
-  judge-kept = either (λ (v : Verdict (List ℕ) Counts (List ℕ)). Kept r (v .registry)) (oversized request) (λ _. (w, refl)) (λ _. request-kept r (requestOf request) w)
+  judge-kept = either (λ (v : Verdict (List ℕ) Counts (List ℕ)). Kept r (v .registry)) (oversized request) (λ _. (w, refl)) (λ _. request-kept list r (requestOf request) w)
 
-  pub judge-good : wellFormedRegistry (judge judgement r c request .registry) ≡ true
+  pub judge-good : wellFormedRegistry (judge (judgement list) r c request .registry) ≡ true
   judge-good = judge-kept .0
 
-  pub judge-names : namesIn (judge judgement r c request .registry) ≡ namesIn r
+  pub judge-names : namesIn (judge (judgement list) r c request .registry) ≡ namesIn r
   judge-names = judge-kept .1
 
 -- ---- any status but 0 leaves the registry alone
@@ -82,9 +82,9 @@ module _ (r : List ℕ) (c : Counts) (request : List ℕ) (w : wellFormedRegistr
 KeptUnlessServed : Result → Type 0
 KeptUnlessServed x = (statusNumber (x .status) ≡ 0 → ⊥) → x .change ≡ unchanged
 
-result-kept : (r : List ℕ) (q : Request) → KeptUnlessServed (resultOf r q)
+result-kept : (list r : List ℕ) (q : Request) → KeptUnlessServed (resultOf list r q)
 unfolding KeptUnlessServed refuse success statusNumber
-result-kept r q = by-result r q KeptUnlessServed (record {
+result-kept list r q = by-result list r q KeptUnlessServed (record {
   refused = λ status h. refl;
   listed = λ output h n. refl;
   imported = λ slot key v n e h. absurd (h refl);
@@ -93,20 +93,20 @@ result-kept r q = by-result r q KeptUnlessServed (record {
 })
 
 -- a request that is judged at its last byte
-pub refused-keeps : (r : List ℕ) (c : Counts) (request : List ℕ)
-    → (statusNumber (resultOf r (requestOf request) .status) ≡ 0 → ⊥) → judgement .onRequest r c request .registry ≡ r
+pub refused-keeps : (list r : List ℕ) (c : Counts) (request : List ℕ)
+    → (statusNumber (resultOf list r (requestOf request) .status) ≡ 0 → ⊥) → judgement list .onRequest r c request .registry ≡ r
 unfolding judgement verdictOf changedBy changed KeptUnlessServed
-refused-keeps r c request h = go (applicationOf r (requestOf request))
+refused-keeps list r c request h = go (applicationOf r (requestOf request))
   where
     x : Result
-    x = resultOf r (requestOf request)
+    x = resultOf list r (requestOf request)
 
     go : (o : Option Line) → changedBy r o x ≡ r
     go none = refl
-    go (some line) = ap (changed r line) (result-kept r (requestOf request) h)
+    go (some line) = ap (changed r line) (result-kept list r (requestOf request) h)
 
 -- and one that is answered before
-pub early-keeps : (r : List ℕ) (c : Counts) (header : List ℕ)
-    → (judgement .onBadStart r c .registry ≡ r) × (judgement .onOversized r c header .registry ≡ r)
+pub early-keeps : (list r : List ℕ) (c : Counts) (header : List ℕ)
+    → (judgement list .onBadStart r c .registry ≡ r) × (judgement list .onOversized r c header .registry ≡ r)
 unfolding judgement refusedEarly
-early-keeps r c header = (refl, refl)
+early-keeps list r c header = (refl, refl)

@@ -16,12 +16,12 @@ SameNames : ℕ → Progress (List ℕ) Counts (List ℕ) → List ℕ → Outco
 SameNames taken p s o = wellFormedRegistry (p .registry) ≡ true → namesIn (o .state .registry) ≡ namesIn (p .registry)
 
 -- the registry that the rules leave has the names of the one that they start from
-pub rules-names : (registry : List ℕ) → wellFormedRegistry registry ≡ true → (stream : List ℕ)
-    → namesIn (rules judgement registry stream .state .registry) ≡ namesIn registry
+pub rules-names : (list registry : List ℕ) → wellFormedRegistry registry ≡ true → (stream : List ℕ)
+    → namesIn (rules (judgement list) registry stream .state .registry) ≡ namesIn registry
 unfolding SameNames rules start finish answer judgement refusedEarly
-rules-names registry w stream = by-requests judgement SameNames
+rules-names list registry w stream = by-requests (judgement list) SameNames
     (λ taken p s u g. refl)
     (λ taken p s h g. refl)
     (λ taken p s k g. refl)
-    (λ taken p s n o h k rest g. rest (judge-good (p .registry) (p .counts) (take n s) g) ∙ judge-names (p .registry) (p .counts) (take n s) g)
-    (length stream) (start judgement registry) stream w
+    (λ taken p s n o h k rest g. rest (judge-good list (p .registry) (p .counts) (take n s) g) ∙ judge-names list (p .registry) (p .counts) (take n s) g)
+    (length stream) (start (judgement list) registry) stream w

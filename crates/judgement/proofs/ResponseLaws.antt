@@ -77,9 +77,9 @@ bytes-short (b ∷ bytes) h =
     tag : length (varint (8 * 1 + 2)) ≤ 1
     tag = unfold varint varintWithin in omega arith
 
-output-short : (r : List ℕ) → wellFormedRegistry r ≡ true → (q : Request) → length (outputBytes protobuf (resultOf r q .output)) ≤ bodyMost
+output-short : (list r : List ℕ) → wellFormedRegistry r ≡ true → (q : Request) → length (outputBytes protobuf (resultOf list r q .output)) ≤ bodyMost
 unfolding refuse success
-output-short r w q = by-result r q (λ x. length (outputBytes protobuf (x .output)) ≤ bodyMost) (record {
+output-short list r w q = by-result list r q (λ x. length (outputBytes protobuf (x .output)) ≤ bodyMost) (record {
   refused = λ status. omega (arith, ap length nothing-bytes);
   listed = λ output h. omega arith;
   imported = λ slot key v n e. omega (arith, ap length nothing-bytes);
@@ -93,20 +93,20 @@ early-short : (r : List ℕ) (c : Counts) (p s o : ℕ) (status : Status) → le
 unfolding refusedEarly
 early-short r c p s o status = omega (arith, response-length p s o (statusNumber status) [])
 
-pub bad-short : (r : List ℕ) (c : Counts) → length (judgement .onBadStart r c .response) ≤ responseMost
+pub bad-short : (list r : List ℕ) (c : Counts) → length (judgement list .onBadStart r c .response) ≤ responseMost
 unfolding judgement
-bad-short r c = early-short r c 0 0 0 _
+bad-short list r c = early-short r c 0 0 0 _
 
-pub oversized-short : (r : List ℕ) (c : Counts) (header : List ℕ) → length (judgement .onOversized r c header .response) ≤ responseMost
+pub oversized-short : (list r : List ℕ) (c : Counts) (header : List ℕ) → length (judgement list .onOversized r c header .response) ≤ responseMost
 unfolding judgement
-oversized-short r c header = early-short r c _ _ _ _
+oversized-short list r c header = early-short r c _ _ _ _
 
-pub judge-short : (r : List ℕ) (c : Counts) (request : List ℕ) → wellFormedRegistry r ≡ true → length (judge judgement r c request .response) ≤ responseMost
+pub judge-short : (list r : List ℕ) (c : Counts) (request : List ℕ) → wellFormedRegistry r ≡ true → length (judge (judgement list) r c request .response) ≤ responseMost
 unfolding judge judgement verdictOf
-judge-short r c request w =
+judge-short list r c request w =
     let q : Request = requestOf request in
-    let l = response-length (q .provider) (q .session) (q .opcode) (statusNumber (resultOf r q .status)) (outputBytes protobuf (resultOf r q .output)) in
-    let s = output-short r w q in
+    let l = response-length (q .provider) (q .session) (q .opcode) (statusNumber (resultOf list r q .status)) (outputBytes protobuf (resultOf list r q .output)) in
+    let s = output-short list r w q in
     either (λ (v : Verdict (List ℕ) Counts (List ℕ)). length (v .response) ≤ responseMost) (oversized request)
     (λ _. early-short r c _ _ _ _) (λ _. omega arith)
 
@@ -123,16 +123,16 @@ short-join (y ∷ xs) x a h = (a .0, short-join xs x (a .1) h)
 abbrev Step : ℕ → Progress (List ℕ) Counts (List ℕ) → List ℕ → Outcome (List ℕ) Counts (List ℕ) → Type 0
 Step taken p s o = wellFormedRegistry (p .registry) ≡ true → AllShort (p .responses) → AllShort (o .responses)
 
-short-from : (taken : ℕ) (p : Progress (List ℕ) Counts (List ℕ)) (s : List ℕ) → Step taken p s (rulesFrom judgement taken p s)
+short-from : (list : List ℕ) (taken : ℕ) (p : Progress (List ℕ) Counts (List ℕ)) (s : List ℕ) → Step taken p s (rulesFrom (judgement list) taken p s)
 unfolding finish answer
-short-from = by-requests judgement Step
+short-from list = by-requests (judgement list) Step
     (λ taken p s u w a. a)
-    (λ taken p s h w a. short-join (p .responses) _ a (bad-short (p .registry) (p .counts)))
+    (λ taken p s h w a. short-join (p .responses) _ a (bad-short list (p .registry) (p .counts)))
     (λ taken p s k w a. a)
     (λ taken p s n o h k rest w a.
-    rest (judge-good (p .registry) (p .counts) (take n s) w)
-    (short-join (p .responses) _ a (judge-short (p .registry) (p .counts) (take n s) w)))
+    rest (judge-good list (p .registry) (p .counts) (take n s) w)
+    (short-join (p .responses) _ a (judge-short list (p .registry) (p .counts) (take n s) w)))
 
-pub responses-short : (registry : List ℕ) → wellFormedRegistry registry ≡ true → (stream : List ℕ) → AllShort (rules judgement registry stream .responses)
+pub responses-short : (list registry : List ℕ) → wellFormedRegistry registry ≡ true → (stream : List ℕ) → AllShort (rules (judgement list) registry stream .responses)
 unfolding rules start
-responses-short registry w stream = short-from (length stream) (start judgement registry) stream w tt
+responses-short list registry w stream = short-from list (length stream) (start (judgement list) registry) stream w tt

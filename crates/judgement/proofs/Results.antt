@@ -134,7 +134,7 @@ module _ (slots : List Entry) (P : Result → Type 0) (ends : Ends slots P) wher
   by-operation (exportPublicKey name) = by-export name
   by-operation (verifySignature name hash signature) = by-verify name hash signature
 
-module _ (r : List ℕ) (q : Request) (P : Result → Type 0) (ends : Ends (askersSlots r (applicationOf r q)) P) where
+module _ (list r : List ℕ) (q : Request) (P : Result → Type 0) (ends : Ends (askersSlots r (applicationOf r q)) P) where
   by-operate : P (operated (q .opcode) (q .body) (askersSlots r (applicationOf r q)))
   unfolding operated
   by-operate = go (operationOf protobuf (q .opcode) (q .body)) refl
@@ -143,10 +143,10 @@ module _ (r : List ℕ) (q : Request) (P : Result → Type 0) (ends : Ends (aske
       go none e = rw (e, operated) (ends .refused _)
       go (some operation) e = rw (e, operated) (by-operation (askersSlots r (applicationOf r q)) P ends operation)
 
-  pub by-result : P (resultOf r q)
+  pub by-result : P (resultOf list r q)
   unfolding resultOf
   by-result = go (firstOf (refusals r q)) refl
     where
-      go : (o : Option Status) → firstOf (refusals r q) ≡ o → P (resultOf r q)
+      go : (o : Option Status) → firstOf (refusals r q) ≡ o → P (resultOf list r q)
       go (some status) e = rw (e, resultOf) (ends .refused status)
       go none e = rw (e, resultOf) by-operate

@@ -62,13 +62,13 @@ unfoldable pub askersSlots : (registry : List ℕ) → Option Line → List Entr
 askersSlots registry none = []
 askersSlots registry (some line) = slotsOf registry line
 
-unfoldable pub resultOf : (registry : List ℕ) → Request → Result
-resultOf registry q = elim (firstOf (refusals registry q)) [
+unfoldable pub resultOf : (list registry : List ℕ) → Request → Result
+resultOf list registry q = elim (firstOf (refusals registry q)) [
   | some status ↦ refuse status
   | none ↦ operated (q .opcode) (q .body) (askersSlots registry (applicationOf registry q))
 ]
 
--- ---- the judgement: a response, the registry and the counts after a request
+-- ---- the judgement: a response, the registry and the counts after a request; the list of keys that we ship is a fixed input
 
 unfoldable pub changedBy : (registry : List ℕ) → Option Line → Result → List ℕ
 changedBy registry none r = registry
@@ -81,8 +81,8 @@ verdictOf registry counts q r = record {
   counts = count counts (applicationOf registry q) (r .status);
 }
 
-unfoldable pub judgement : Judgement (List ℕ) Counts (List ℕ)
-judgement = record {
+unfoldable pub judgement : (list : List ℕ) → Judgement (List ℕ) Counts (List ℕ)
+judgement list = record {
   noCounts = noCounts;
   onBadStart = λ registry counts. refusedEarly registry counts 0 0 0 InvalidHeader;
   onOversized = λ registry counts header.
@@ -90,5 +90,5 @@ judgement = record {
       refusedEarly registry counts (q .provider) (q .session) (q .opcode) (oversizedStatus header);
   onRequest = λ registry counts request.
       let q = requestOf request in
-      verdictOf registry counts q (resultOf registry q);
+      verdictOf registry counts q (resultOf list registry q);
 }
