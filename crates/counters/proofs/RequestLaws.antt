@@ -53,16 +53,16 @@ module _ (servedSum : List ℕ → ℕ) (Fits : (registry : List ℕ) → Type 0
   abbrev pub Room : (registry : List ℕ) → Counts → Type 0
   Room r c = Fits r × Shape c
 
-  pub record Adds : Type 0 where
+  pub record Adds (list : List ℕ) : Type 0 where
     pub nothing : servedSum (replicate lineCount 0) ≡ 0
     pub one : (r : List ℕ) (line : Line) (l : List ℕ) → Fits r → Used r line → length l ≡ lineCount → servedSum (increment l (line .0)) ≡ suc (servedSum l)
-    pub kept : (r : List ℕ) (c : Counts) (request : List ℕ) → Fits r → Fits (verdictOn judgement r c request .registry)
+    pub kept : (r : List ℕ) (c : Counts) (request : List ℕ) → Fits r → Fits (verdictOn (judgement list) r c request .registry)
 
   -- one request more, and the counts keep their shape
   abbrev OneMore : Counts → Counts → Type 0
   OneMore c after = (countedBy after ≡ suc (countedBy c)) × Shape after
 
-  module _ (adds : Adds) where
+  module _ (list : List ℕ) (adds : Adds list) where
     one-refused : (c : Counts) (status : Status) → 0 < statusNumber status → Shape c → OneMore c (countRefused c status)
     unfolding countRefused
     one-refused c status h (served, refused) =
@@ -88,22 +88,22 @@ module _ (servedSum : List ℕ → ℕ) (Fits : (registry : List ℕ) → Type 0
           positive zero h = absurd (h refl)
           positive (suc n) h = omega arith
 
-      one-judged : (request : List ℕ) → OneMore c (judge judgement r c request .counts)
+      one-judged : (request : List ℕ) → OneMore c (judge (judgement list) r c request .counts)
       unfolding judge judgement refusedEarly verdictOf
       one-judged request =
           let q = requestOf request in
           either (λ (v : Verdict (List ℕ) Counts (List ℕ)). OneMore c (v .counts)) (oversized request)
           (λ _. one-refused c (oversizedStatus _) (large-refused _) (room .1))
-          (λ _. one-counted (applicationOf r q) (resultOf r q .status) (asks r q))
+          (λ _. one-counted (applicationOf r q) (resultOf list r q .status) (asks r q))
 
-      one-verdict : (request : List ℕ) → OneMore c (verdictOn judgement r c request .counts)
+      one-verdict : (request : List ℕ) → OneMore c (verdictOn (judgement list) r c request .counts)
       unfolding verdictOn judgement refusedEarly statusNumber
       one-verdict request =
           either (λ (v : Verdict (List ℕ) Counts (List ℕ)). OneMore c (v .counts)) (legalStart request)
           (λ _. one-judged request)
           (λ _. one-refused c _ (omega arith) (room .1))
 
-    pub each-counted : CountsEach judgement countedBy Room
+    pub each-counted : CountsEach (judgement list) countedBy Room
     unfolding judgement noCounts
     each-counted = record {
       nothing = omega (arith, adds .nothing, sum-zeros refusedCount);
@@ -116,15 +116,15 @@ module _ (servedSum : List ℕ → ℕ) (Fits : (registry : List ℕ) → Type 0
 abbrev Any : (registry : List ℕ) → Type 0
 Any registry = Unit {0}
 
-adds-all : Adds sum Any
-adds-all = record {
+adds-all : (list : List ℕ) → Adds sum Any list
+adds-all list = record {
   nothing = sum-zeros lineCount;
   one = λ r line l fits used long. sum-increment l (line .0) (omega (arith, used .there, long));
   kept = λ r c request fits. tt;
 }
 
 -- the rules count as many requests as they answer
-pub rules-requests : (registry stream : List ℕ) → requestsIn (rules judgement registry stream .state .totals .counts) ≡ length (partsOf stream .answered)
+pub rules-requests : (list registry stream : List ℕ) → requestsIn (rules (judgement list) registry stream .state .totals .counts) ≡ length (partsOf stream .answered)
 unfolding requestsIn judgement noCounts
-rules-requests registry stream =
-    rules-counted judgement (countedBy sum Any) (Room sum Any) (each-counted sum Any adds-all) registry (tt, (refl, refl)) stream
+rules-requests list registry stream =
+    rules-counted (judgement list) (countedBy sum Any) (Room sum Any) (each-counted sum Any list (adds-all list)) registry (tt, (refl, refl)) stream
