@@ -146,16 +146,16 @@ module _ (registry : List ℕ) (q : Request) where
 abbrev pub authFound : (registry bytes : List ℕ) → Auth
 authFound registry bytes = authOf (requestOf bytes .authType) (requestOf bytes .auth) (applicationNamed registry (requestOf bytes .auth))
 
-module _ (registry bytes : List ℕ) where
+module _ (list registry bytes : List ℕ) where
   all-tests : refusals registry (requestOf bytes) ≡ headerTests (headerOf bytes) ++ authTests registry (requestOf bytes)
   unfolding refusals headerTests headerOf authTests
   all-tests = refl
 
-  refused-result : (status : Status) → firstOf (refusals registry (requestOf bytes)) ≡ some status → resultOf registry (requestOf bytes) ≡ refuse status
+  refused-result : (status : Status) → firstOf (refusals registry (requestOf bytes)) ≡ some status → resultOf list registry (requestOf bytes) ≡ refuse status
   unfolding resultOf
   refused-result status e = rw (e, resultOf)
 
-  pub header-refused : (status : Status) → firstOf (headerTests (headerOf bytes)) ≡ some status → resultOf registry (requestOf bytes) ≡ refuse status
+  pub header-refused : (status : Status) → firstOf (headerTests (headerOf bytes)) ≡ some status → resultOf list registry (requestOf bytes) ≡ refuse status
   header-refused status e = refused-result status (ap firstOf all-tests ∙ first-before (headerTests (headerOf bytes)) _ status e)
 
   module _ (passed : PassedHeader (headerOf bytes)) where
@@ -163,7 +163,7 @@ module _ (registry bytes : List ℕ) where
     later-tests = ap firstOf all-tests ∙ first-behind (headerTests (headerOf bytes)) _ passed
 
     operated-result : firstOf (authTests registry (requestOf bytes)) ≡ none
-        → resultOf registry (requestOf bytes)
+        → resultOf list registry (requestOf bytes)
         ≡ operated (requestOf bytes .opcode) (requestOf bytes .body) (askersSlots registry (applicationOf registry (requestOf bytes)))
     unfolding resultOf
     operated-result e = rw (later-tests ∙ e, resultOf)
@@ -172,11 +172,11 @@ module _ (registry bytes : List ℕ) where
     unfolding headerOf
     told-found = told registry (requestOf bytes) (auth-type-small (headerOf bytes) passed)
 
-    pub auth-refused : authFound registry bytes ≡ AuthRefused → resultOf registry (requestOf bytes) ≡ refuse AuthenticationError
+    pub auth-refused : authFound registry bytes ≡ AuthRefused → resultOf list registry (requestOf bytes) ≡ refuse AuthenticationError
     auth-refused e = refused-result AuthenticationError (later-tests ∙ subst (ToldBy registry (requestOf bytes)) e told-found)
 
     pub by-nobody : authFound registry bytes ≡ Accepted Nobody
-        → (applicationOf registry (requestOf bytes) ≡ none) × (resultOf registry (requestOf bytes) ≡ resultForNobody (headerOf bytes) (requestOf bytes .body))
+        → (applicationOf registry (requestOf bytes) ≡ none) × (resultOf list registry (requestOf bytes) ≡ resultForNobody (headerOf bytes) (requestOf bytes .body))
     unfolding resultForNobody headerOf askersSlots
     by-nobody e =
         let t : Told registry (requestOf bytes) none _ = subst (ToldBy registry (requestOf bytes)) e told-found in
@@ -185,13 +185,13 @@ module _ (registry bytes : List ℕ) where
         go :
             Told registry (requestOf bytes) none (if eqb (requestOf bytes .provider) 1 then some NotAuthenticated else none) →
             (b : Bool) → eqb (requestOf bytes .provider) 1 ≡ b →
-            resultOf registry (requestOf bytes) ≡ resultForNobody (headerOf bytes) (requestOf bytes .body)
+            resultOf list registry (requestOf bytes) ≡ resultForNobody (headerOf bytes) (requestOf bytes .body)
         go t true p = rw p (refused-result NotAuthenticated (later-tests ∙ rw p at (t .first)))
         go t false p = rw p (rw (t .asks) at (operated-result (rw p at (t .first))))
 
     pub by-application : (line : Line) → authFound registry bytes ≡ Accepted (Named line)
         → (applicationOf registry (requestOf bytes) ≡ some line)
-        × (resultOf registry (requestOf bytes) ≡ operated (requestOf bytes .opcode) (requestOf bytes .body) (slotsOf registry line))
+        × (resultOf list registry (requestOf bytes) ≡ operated (requestOf bytes .opcode) (requestOf bytes .body) (slotsOf registry line))
     unfolding askersSlots
     by-application line e =
         let t : Told registry (requestOf bytes) (some line) none = subst (ToldBy registry (requestOf bytes)) e told-found in
@@ -257,14 +257,14 @@ module _ {before after : List ℕ} {r : Answered} where
 
   pub answered-oversized : (header : List ℕ) (status : Status) → oversizedStatus header ≡ status → 0 < statusNumber status
       → RefusedWith (headerOf header .provider) (headerOf header .session) (headerOf header .opcode) status before after r
-      → (registry : List ℕ) → AnsweredBy (λ c. judgement .onOversized registry c header) registry before after r
+      → (list registry : List ℕ) → AnsweredBy (λ c. judgement list .onOversized registry c header) registry before after r
   unfolding judgement headerOf
-  answered-oversized header status e h w registry = rw e (answered-early _ _ _ status h w registry)
+  answered-oversized header status e h w list registry = rw e (answered-early _ _ _ status h w registry)
 
-  module _ (registry request : List ℕ) where
-    pub answered-refused : (status : Status) → resultOf registry (requestOf request) ≡ refuse status → 0 < statusNumber status
+  module _ (list registry request : List ℕ) where
+    pub answered-refused : (status : Status) → resultOf list registry (requestOf request) ≡ refuse status → 0 < statusNumber status
         → RefusedWith (headerOf request .provider) (headerOf request .session) (headerOf request .opcode) status before after r
-        → AnsweredBy (λ c. judgement .onRequest registry c request) registry before after r
+        → AnsweredBy (λ c. judgement list .onRequest registry c request) registry before after r
     unfolding judgement verdictOf headerOf refuse
     answered-refused status e h w = record {
       response = rw (e, nothing-bytes) (w .2);
@@ -274,10 +274,10 @@ module _ {before after : List ℕ} {r : Answered} where
     }
 
     pub answered : (registry′ : List ℕ) (who : Asker) (x : Result)
-        → (applicationOf registry (requestOf request) ≡ askersLine who) × (resultOf registry (requestOf request) ≡ x)
+        → (applicationOf registry (requestOf request) ≡ askersLine who) × (resultOf list registry (requestOf request) ≡ x)
         → AskerBelow who → registry′ ≡ changedBy registry (askersLine who) x
         → ResultAnswered (headerOf request) x who before after r
-        → AnsweredBy (λ c. judgement .onRequest registry c request) registry′ before after r
+        → AnsweredBy (λ c. judgement list .onRequest registry c request) registry′ before after r
     unfolding judgement verdictOf headerOf
     answered registry′ who x e below kept a = record {
       response = rw (e .1) (a .response);

@@ -32,6 +32,7 @@ ghost use Rattle.stream.specs.Frame.{legalStart, oversized};
 ghost use Rattle.stream.specs.Rules.{judge};
 ghost use Rattle.registry.specs.Registry.{lineCount, registrySize, slotsOf, changed};
 ghost use Rattle.registry.specs.WellFormed.{wellFormedRegistry};
+ghost use Rattle.shipped.specs.Shipped.{wellFormedList};
 ghost use Rattle.judgement.specs.Judgement.{judgement};
 ghost use Rattle.judgement.specs.code.Decided.{SafeEdit, changeOf, Decided};
 ghost use Rattle.answer.specs.code.Answers.{AnsweredBy, RefusedWith, PassedHeader, resultForNamed, resultForNobody, ResultAnswered};
@@ -86,9 +87,9 @@ fn refuse(out: &mut [u8], h: Header, status: Status) -> Answered
 }
 
 // What the operation comes to for an application: core for provider 0, keystore for provider 1.
-fn decide(h: Header, body: &[u8], registry: &[u8], line: Line) -> Decision
-    requires { ⌜ PassedHeader h × (wellFormedRegistry (now registry) ≡ true) × (line .0 < lineCount) ⌝ }
-    ensures { λ r. ⌜ Decided (slotsOf (now (registry .entry)) line) (now (body .entry)) (resultForNamed h (now (body .entry)) (now (registry .entry)) line) r ⌝ }
+fn decide(h: Header, body: &[u8], registry: &[u8], list: &[u8], line: Line) -> Decision
+    requires { ⌜ PassedHeader h × (wellFormedRegistry (now registry) ≡ true) × (line .0 < lineCount) × (wellFormedList (now list) ≡ true) ⌝ }
+    ensures { λ r. ⌜ Decided (slotsOf (now (registry .entry)) line) (now (body .entry)) (resultForNamed h (now (body .entry)) (now (registry .entry)) (now (list .entry)) line) r ⌝ }
 {
     if h.provider == 0 {
         return perform_core(h.opcode, body);
@@ -97,15 +98,22 @@ fn decide(h: Header, body: &[u8], registry: &[u8], line: Line) -> Decision
 }
 
 // A request whose header and auth bytes have passed, answered for an application.
-fn answer_named(out: &mut [u8], h: Header, body: &[u8], registry: &mut [u8], line: Line) -> Answered
-    requires { ⌜ PassedHeader h × (wellFormedRegistry (now registry) ≡ true) × (line .0 < lineCount) × (bufferLeast ≤ length (now out)) ⌝ }
-    ensures { λ r. ⌜ ResultAnswered h (resultForNamed h (now (body .entry)) (now (registry .entry)) line) (Asker.Named line) (now (out .entry)) (now (out .exit)) r ⌝ }
-    ensures { λ _. ⌜ now (registry .exit) ≡ changed (now (registry .entry)) line (resultForNamed h (now (body .entry)) (now (registry .entry)) line .change) ⌝ }
+fn answer_named(
+    out: &mut [u8],
+    h: Header,
+    body: &[u8],
+    registry: &mut [u8],
+    list: &[u8],
+    line: Line,
+) -> Answered
+    requires { ⌜ PassedHeader h × (wellFormedRegistry (now registry) ≡ true) × (line .0 < lineCount) × (bufferLeast ≤ length (now out)) × (wellFormedList (now list) ≡ true) ⌝ }
+    ensures { λ r. ⌜ ResultAnswered h (resultForNamed h (now (body .entry)) (now (registry .entry)) (now (list .entry)) line) (Asker.Named line) (now (out .entry)) (now (out .exit)) r ⌝ }
+    ensures { λ _. ⌜ now (registry .exit) ≡ changed (now (registry .entry)) line (resultForNamed h (now (body .entry)) (now (registry .entry)) (now (list .entry)) line .change) ⌝ }
 {
-    let d = decide(h, body, registry, line);
+    let d = decide(h, body, registry, list, line);
     let status = d.status;
     let output = d.output;
-    let written = write_response(out, h, status, registry, line, output);
+    let written = write_response(out, h, status, registry, list, line, output);
     make_edit(registry, line, body, d);
     Answered {
         status,
@@ -115,7 +123,7 @@ fn answer_named(out: &mut [u8], h: Header, body: &[u8], registry: &mut [u8], lin
 }
 
 // The same for nobody that is named: the keystore is not for them.
-fn answer_nobody(out: &mut [u8], h: Header, body: &[u8], registry: &[u8]) -> Answered
+fn answer_nobody(out: &mut [u8], h: Header, body: &[u8], registry: &[u8], list: &[u8]) -> Answered
     requires { ⌜ PassedHeader h × (wellFormedRegistry (now registry) ≡ true) × (bufferLeast ≤ length (now out)) ⌝ }
     ensures { λ r. ⌜ ResultAnswered h (resultForNobody h (now (body .entry))) Asker.Nobody (now (out .entry)) (now (out .exit)) r ⌝ }
 {
@@ -126,7 +134,7 @@ fn answer_nobody(out: &mut [u8], h: Header, body: &[u8], registry: &[u8]) -> Ans
     let status = d.status;
     let output = d.output;
     // No core output looks at a line.
-    let written = write_response(out, h, status, registry, Line(0), output);
+    let written = write_response(out, h, status, registry, list, Line(0), output);
     Answered {
         status,
         asker: Asker::Nobody,
@@ -135,9 +143,9 @@ fn answer_nobody(out: &mut [u8], h: Header, body: &[u8], registry: &[u8]) -> Ans
 }
 
 // A whole request that is not oversized.
-fn answer_request(out: &mut [u8], request: &[u8], registry: &mut [u8]) -> Answered
-    requires { ⌜ (legalStart (now request) ≡ true) × (length (now request) ≡ requestLength (now request)) × (oversized (now request) ≡ false) × (wellFormedRegistry (now registry) ≡ true) × (bufferLeast ≤ length (now out)) ⌝ }
-    ensures { λ r. ⌜ AnsweredBy (λ c. judgement .onRequest (now (registry .entry)) c (now (request .entry))) (now (registry .exit)) (now (out .entry)) (now (out .exit)) r ⌝ }
+fn answer_request(out: &mut [u8], request: &[u8], registry: &mut [u8], list: &[u8]) -> Answered
+    requires { ⌜ (legalStart (now request) ≡ true) × (length (now request) ≡ requestLength (now request)) × (oversized (now request) ≡ false) × (wellFormedRegistry (now registry) ≡ true) × (bufferLeast ≤ length (now out)) × (wellFormedList (now list) ≡ true) ⌝ }
+    ensures { λ r. ⌜ AnsweredBy (λ c. judgement (now (list .entry)) .onRequest (now (registry .entry)) c (now (request .entry))) (now (registry .exit)) (now (out .entry)) (now (out .exit)) r ⌝ }
 {
     let h = read_header(request);
     if let Checked::Refused(status) = check_header(h) {
@@ -148,8 +156,8 @@ fn answer_request(out: &mut [u8], request: &[u8], registry: &mut [u8]) -> Answer
     match authenticate(registry, h.auth_type, &request[end..]) {
         Auth::Refused => refuse(out, h, Status::AuthenticationError),
         Auth::Accepted(asker) => match asker {
-            Asker::Nobody => answer_nobody(out, h, &request[start..end], registry),
-            Asker::Named(line) => answer_named(out, h, &request[start..end], registry, line),
+            Asker::Nobody => answer_nobody(out, h, &request[start..end], registry, list),
+            Asker::Named(line) => answer_named(out, h, &request[start..end], registry, list, line),
         },
     }
 }
@@ -157,7 +165,7 @@ fn answer_request(out: &mut [u8], request: &[u8], registry: &mut [u8]) -> Answer
 // An oversized request, from its header: 20 if C is too large, else 11.
 fn answer_oversized(out: &mut [u8], header: &[u8]) -> Answered
     requires { ⌜ (requestLeast ≤ length (now header)) × (bufferLeast ≤ length (now out)) ⌝ }
-    ensures { λ r. ⌜ ((registry : List ℕ) → AnsweredBy (λ c. judgement .onOversized registry c (now (header .entry))) registry (now (out .entry)) (now (out .exit)) r) ⌝ }
+    ensures { λ r. ⌜ ((list registry : List ℕ) → AnsweredBy (λ c. judgement list .onOversized registry c (now (header .entry))) registry (now (out .entry)) (now (out .exit)) r) ⌝ }
 {
     let h = read_header(header);
     if CONTENT_MOST < h.content_length {
@@ -169,7 +177,7 @@ fn answer_oversized(out: &mut [u8], header: &[u8]) -> Answered
 // The response to an oversized request, whose header the bytes begin with.
 pub fn answer_skipped(out: &mut [u8], bytes: &[u8]) -> Answered
     requires { ⌜ (requestLeast ≤ headerLength (now bytes)) × (headerLength (now bytes) ≤ length (now bytes)) × (bufferLeast ≤ length (now out)) ⌝ }
-    ensures { λ r. ⌜ ((registry : List ℕ) → AnsweredBy (λ c. judgement .onOversized registry c (take (headerLength (now (bytes .entry))) (now (bytes .entry)))) registry (now (out .entry)) (now (out .exit)) r) ⌝ }
+    ensures { λ r. ⌜ ((list registry : List ℕ) → AnsweredBy (λ c. judgement list .onOversized registry c (take (headerLength (now (bytes .entry))) (now (bytes .entry)))) registry (now (out .entry)) (now (out .exit)) r) ⌝ }
 {
     let end = header_length(bytes);
     answer_oversized(out, &bytes[..end])
@@ -178,7 +186,7 @@ pub fn answer_skipped(out: &mut [u8], bytes: &[u8]) -> Answered
 // A wrong magic or H: provider, session and opcode are zero.
 pub fn answer_bad_start(out: &mut [u8]) -> Answered
     requires { ⌜ bufferLeast ≤ length (now out) ⌝ }
-    ensures { λ r. ⌜ ((registry : List ℕ) → AnsweredBy (λ c. judgement .onBadStart registry c) registry (now (out .entry)) (now (out .exit)) r) ⌝ }
+    ensures { λ r. ⌜ ((list registry : List ℕ) → AnsweredBy (λ c. judgement list .onBadStart registry c) registry (now (out .entry)) (now (out .exit)) r) ⌝ }
 {
     let written = write_refused(out, 0, 0, 0, Status::InvalidHeader);
     Answered {
@@ -189,12 +197,12 @@ pub fn answer_bad_start(out: &mut [u8]) -> Answered
 }
 
 // A whole request, oversized or not.
-pub fn answer_whole(out: &mut [u8], request: &[u8], registry: &mut [u8]) -> Answered
-    requires { ⌜ (legalStart (now request) ≡ true) × (length (now request) ≡ requestLength (now request)) × (wellFormedRegistry (now registry) ≡ true) × (bufferLeast ≤ length (now out)) ⌝ }
-    ensures { λ r. ⌜ AnsweredBy (λ c. judge judgement (now (registry .entry)) c (now (request .entry))) (now (registry .exit)) (now (out .entry)) (now (out .exit)) r ⌝ }
+pub fn answer_whole(out: &mut [u8], request: &[u8], registry: &mut [u8], list: &[u8]) -> Answered
+    requires { ⌜ (legalStart (now request) ≡ true) × (length (now request) ≡ requestLength (now request)) × (wellFormedRegistry (now registry) ≡ true) × (bufferLeast ≤ length (now out)) × (wellFormedList (now list) ≡ true) ⌝ }
+    ensures { λ r. ⌜ AnsweredBy (λ c. judge (judgement (now (list .entry))) (now (registry .entry)) c (now (request .entry))) (now (registry .exit)) (now (out .entry)) (now (out .exit)) r ⌝ }
 {
     if is_oversized(request) {
         return answer_skipped(out, request);
     }
-    answer_request(out, request, registry)
+    answer_request(out, request, registry, list)
 }

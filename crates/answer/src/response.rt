@@ -78,6 +78,7 @@ pub fn write_response(
     h: Header,
     status: Status,
     registry: &[u8],
+    list: &[u8],
     line: Line,
     output: Output,
 ) -> usize

@@ -42,8 +42,8 @@ abbrev pub PassedHeader : Header → Type 0
 PassedHeader h = firstOf (headerTests h) ≡ none
 
 -- what comes of it for an application
-abbrev pub resultForNamed : Header → (body registry : List ℕ) → Line → Result
-resultForNamed h body registry line = operated (h .opcode) body (slotsOf registry line)
+abbrev pub resultForNamed : Header → (body registry list : List ℕ) → Line → Result
+resultForNamed h body registry list line = operated (h .opcode) body (slotsOf registry line)
 
 -- and for nobody that is named: the keystore is not for them
 unfoldable pub resultForNobody : Header → (body : List ℕ) → Result

@@ -16,7 +16,7 @@ same-length c = search needs
 
 returns : tie.Need-returns
 unfolding judgement statusNumber
-returns c = answered-early 0 0 0 _ (omega arith) (refl, refl, c .before .before .write-refused .ensures)
+returns c = λ list. answered-early 0 0 0 _ (omega arith) (refl, refl, c .before .before .write-refused .ensures)
 
 pub answer-bad-start-spec : {M : Type 1} → statement M
 answer-bad-start-spec = tie.close (tie.spec write-refused-requires same-length returns)

@@ -17,7 +17,7 @@ write-response-requires c κs = search needs
 
 make-edit-requires : tie.Need-make-edit-requires
 make-edit-requires c κs =
-    let s = c .before .before .before .before .before .before .before .before .before .before .before in
+    let s = c .before .before .before .before .before .before .before .before .before .before .before .before in
     (good-of (s .args .registry .now) (s .pre .1) .size, s .pre .2, c .before .before .before .before .before .before .decide .ensures .edit)
 
 same-length : tie.Need-same-length
@@ -27,14 +27,14 @@ same-length-2 : tie.Need-same-length-2
 same-length-2 c = search needs
 
 abbrev result : tie.Start → Result
-result s = resultForNamed (s .args .h) (s .args .body .now) (s .args .registry .now) (s .args .line)
+result s = resultForNamed (s .args .h) (s .args .body .now) (s .args .registry .now) (s .args .list .now) (s .args .line)
 
 returns : tie.Need-returns
 unfolding resultIn
 returns c =
     let w = c .before .before .before .before .before .before in
     let d = w .before .before .before .decide in
-    let s = w .before .before .before .before .before .before .before .before in
+    let s = w .before .before .before .before .before .before .before .before .before in
     let written = decided-answered {x = result s} (s .args .h) (Named (s .args .line)) (d .ensures) (w .write-response .ensures) in
     (written, rw (← d .ensures .result) (c .before .before .make-edit .ensures))
 

@@ -25,9 +25,9 @@ returns c =
     let e = c .before .before .refuse .ensures in
     rw (eq-eqb _ _ (c .before .before .before .before .if1 .taken)) (record { status = e .0; asker = e .1; response = rw nothing-bytes (e .2) })
 
-core : (c : tie.Else1) → oneOfCore (c .before .before .before .before .before .args .h .opcode)
+core : (c : tie.Else1) → oneOfCore (c .before .before .before .before .before .before .args .h .opcode)
 core c =
-    let s = c .before .before .before .before .before in
+    let s = c .before .before .before .before .before .before in
     core-opcode (s .args .h) (s .pre .0) (omega (arith, provider-small (s .args .h) (s .pre .0), c .if1 .left))
 
 perform-core-requires : tie.Need-perform-core-requires
@@ -35,7 +35,7 @@ perform-core-requires c κs = core c
 
 write-response-requires : tie.Need-write-response-requires
 write-response-requires c κs =
-    let s = c .before .before .before .before .before .before .before in
+    let s = c .before .before .before .before .before .before .before .before in
     (s .pre .1, omega arith, c .before .perform-core .ensures [] .output, s .pre .2)
 
 same-length-2 : tie.Need-same-length-2
@@ -45,7 +45,7 @@ returns-2 : tie.Need-returns-2
 unfolding resultForNobody
 returns-2 c =
     let p = c .before .before .before .before in
-    let s = p .before .before .before .before .before .before in
+    let s = p .before .before .before .before .before .before .before in
     let slots = slotsOf (s .args .registry .now) (record { 0 = 0 }) in
     rw (ne-eqb _ _ (p .before .if1 .left), core-anywhere (s .args .h .opcode) (s .args .body .now) [] slots (core (p .before)))
     (decided-answered (s .args .h) Nobody (p .perform-core .ensures slots) (c .before .before .write-response .ensures))

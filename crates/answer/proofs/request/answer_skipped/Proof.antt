@@ -31,7 +31,7 @@ same-length c = search needs
 returns : tie.Need-returns
 returns c =
     let a = c .before .before in
-    λ registry. rw (a .before .before .before .header-length .ensures) at (a .answer-oversized .ensures registry)
+    λ list registry. rw (a .before .before .before .header-length .ensures) at (a .answer-oversized .ensures list registry)
 
 pub answer-skipped-spec : {M : Type 1} → statement M
 answer-skipped-spec =

@@ -7,17 +7,17 @@ use Rattle.answer.proofs.request.decide.Tie as tie
 
 perform-core-requires : tie.Need-perform-core-requires
 perform-core-requires c κs =
-    let s = c .before .before .before .before in
+    let s = c .before .before .before .before .before in
     core-opcode (s .args .h) (s .pre .0) (c .if1 .taken)
 
 returns : tie.Need-returns
 returns c =
-    let a = c .before .before .before .before .before .args in
+    let a = c .before .before .before .before .before .before .args in
     c .perform-core .ensures (slotsOf (a .registry .now) (a .line))
 
 perform-keystore-requires : tie.Need-perform-keystore-requires
 perform-keystore-requires c κs =
-    let s = c .before .before .before .before in
+    let s = c .before .before .before .before .before in
     (keystore-opcode (s .args .h) (s .pre .0) (c .if1 .left), s .pre .1, s .pre .2)
 
 returns-2 : tie.Need-returns-2

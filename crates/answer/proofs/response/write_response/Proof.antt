@@ -46,7 +46,7 @@ returns c =
     let k = c .before .before .before .before .before .before in
     let h = k .before .before .before in
     let o = h .before .before in
-    let a = o .before .before .before .args in
+    let a = o .before .before .before .before .args in
     response-on (a .h .provider) (a .h .session) (a .h .opcode) (statusNumber (a .status)) (k .copy-into .last .0) (k .copy-into .result)
     (rw (← o .output-size .ensures .0, ← h .before .status-number .ensures, ← h .response-header .ensures) (k .copy-into .ensures))
     (c .before .before .write-output .ensures)
