@@ -1,4 +1,4 @@
--- What every call keeps to, whatever it is lent: it is refused exactly in the five cases, a refused one alters nothing, an
+-- What every call keeps to, whatever it is lent: it is refused exactly in the six cases, a refused one alters nothing, an
 -- empty chunk alters nothing, at most 629 bytes are written, and the response buffer keeps its length.
 use mathlib.Core.Path.{_≡_, refl, _∙_}
 use mathlib.Core.Bool.{true}
@@ -12,13 +12,13 @@ use Rattle.wire.specs.Choice.{firstOf}
 use Rattle.wire.proofs.TestLaws.{some≢none, none-at}
 use Rattle.stream.specs.Rules.{State}
 use Rattle.stream.specs.Call.{callRule}
-use Rattle.stream.specs.Call as stream
 use Rattle.stream.specs.Calls.{Call, refused, took, CallOutcome, callOn}
 use Rattle.stream.proofs.ResponseLaws.{IfSome, Every, call-every}
 use Rattle.stream.proofs.CallsLaws.{took-code}
 use Rattle.connection.specs.Connection.{wellFormedConnection}
 use Rattle.connection.proofs.ConnectionLaws.{store-load}
 use Rattle.registry.specs.WellFormed.{wellFormedRegistry}
+use Rattle.shipped.specs.Shipped.{wellFormedList}
 use Rattle.judgement.specs.Counts.{Counts}
 use Rattle.judgement.specs.Judgement.{refusedEarly, judgement}
 use Rattle.judgement.proofs.ResponseLaws.{responseMost, bad-short, oversized-short, judge-short}
@@ -26,7 +26,7 @@ use Rattle.counters.specs.Counters.{totalsOf, countersOf, zeroCounters, counter
 use Rattle.service.specs.Call.{Memory, stateIn, memoryOf, layout, fresh, bufferLeast, refusalTests, codeOf, refusalOf, callOutcome}
 use Rattle.service.specs.code.Served.{Ready, effectOf}
 use Rattle.service.specs.declared.Refusal.{Refusal}
-use Rattle.service.specs.declared.Refusal.the-variants.{ResponseBufferTooSmall, ChunkTooLong, ConnectionIllFormed, RegistryIllFormed, CounterTooHigh}
+use Rattle.service.specs.declared.Refusal.the-variants.{ResponseBufferTooSmall, ChunkTooLong, ConnectionIllFormed, RegistryIllFormed, CounterTooHigh, ListIllFormed}
 use Rattle.service.proofs.KeptLaws.{keeps}
 
 abbrev Kept : Type 0
@@ -40,21 +40,21 @@ Good registry = wellFormedRegistry registry ≡ true
 abbrev Short : (response : List ℕ) → Type 0
 Short response = length response ≤ responseMost
 
-every-short : Every judgement Good Short
+every-short : (list : List ℕ) → Every (judgement list) Good Short
 unfolding judgement refusedEarly
-every-short = record {
-  bad = λ r c w. record { response = bad-short r c; registry = keeps .badGood r c w };
-  large = λ r c header w. record { response = oversized-short r c header; registry = w };
-  judged = λ r c request w. record { response = judge-short r c request w; registry = keeps .judgeGood r c request w };
+every-short list = record {
+  bad = λ r c w. record { response = bad-short list r c; registry = keeps list .badGood r c w };
+  large = λ r c header w. record { response = oversized-short list r c header; registry = w };
+  judged = λ r c request w. record { response = judge-short list r c request w; registry = keeps list .judgeGood r c request w };
 }
 
-call-short : (s : Kept) → Good (s .registry) → (chunk : List ℕ) → IfSome Short (callRule judgement s chunk .response)
-call-short = call-every judgement Good Short every-short
+call-short : (list : List ℕ) (s : Kept) → Good (s .registry) → (chunk : List ℕ) → IfSome Short (callRule (judgement list) s chunk .response)
+call-short list = call-every (judgement list) Good Short (every-short list)
 
--- ---- a call that is not refused has passed the five tests
+-- ---- a call that is not refused has passed the six tests
 
-pub record Passed (m : Memory) (call : Call) : Type 0 where
-  pub ready : Ready (m .connection) (m .registry) (call .chunk) (call .buffer)
+pub record Passed (list : List ℕ) (m : Memory) (call : Call) : Type 0 where
+  pub ready : Ready (m .connection) (m .registry) list (call .chunk) (call .buffer)
   pub counters-good : largestCounter (m .counters) ≤ counterMost
 
 no-code : (o : Option Refusal) → codeOf o ≡ none → o ≡ none
@@ -62,11 +62,11 @@ unfolding codeOf
 no-code none e = refl
 no-code (some r) e = absurd (some≢none _ e)
 
-pub passed : (m : Memory) (call : Call) → refusalOf m call ≡ none → Passed m call
+pub passed : (list : List ℕ) (m : Memory) (call : Call) → refusalOf list m call ≡ none → Passed list m call
 unfolding refusalOf refusalTests
-passed m call e =
-    let tests = refusalTests m call in
-    let n : firstOf (refusalTests m call) ≡ none = no-code (firstOf (refusalTests m call)) e in
+passed list m call e =
+    let tests = refusalTests list m call in
+    let n : firstOf (refusalTests list m call) ≡ none = no-code (firstOf (refusalTests list m call)) e in
     record {
       ready =
           record {
@@ -74,6 +74,7 @@ passed m call e =
             chunk-good = ltb-false _ _ (none-at tests 1 ChunkTooLong n);
             connection-good = not-false (wellFormedConnection (m .connection)) (none-at tests 2 ConnectionIllFormed n);
             registry-good = not-false (wellFormedRegistry (m .registry)) (none-at tests 3 RegistryIllFormed n);
+            list-good = not-false (wellFormedList list) (none-at tests 5 ListIllFormed n);
           };
       counters-good = ltb-false _ _ (none-at tests 4 CounterTooHigh n);
     }
@@ -85,14 +86,14 @@ abbrev pub says : Option ℕ → ℕ
 says none = 0
 says (some code) = code
 
-module _ (m : Memory) (call : Call) where
-  pub refused-outcome : (code : ℕ) → refusalOf m call ≡ some code → callOutcome m call ≡ record { answer = refused code call; memory = m }
+module _ (list : List ℕ) (m : Memory) (call : Call) where
+  pub refused-outcome : (code : ℕ) → refusalOf list m call ≡ some code → callOutcome list m call ≡ record { answer = refused code call; memory = m }
   unfolding callOutcome callOn
   refused-outcome code e = rw (e, callOn)
 
-  pub taken-outcome : refusalOf m call ≡ none
-      → callOutcome m call
-      ≡ record { answer = took (effectOf m (call .chunk) .taken) (effectOf m (call .chunk) .response) call; memory = memoryOf (effectOf m (call .chunk) .state) }
+  pub taken-outcome : refusalOf list m call ≡ none
+      → callOutcome list m call
+      ≡ record { answer = took (effectOf list m (call .chunk) .taken) (effectOf list m (call .chunk) .response) call; memory = memoryOf (effectOf list m (call .chunk) .state) }
   unfolding callOutcome callOn layout
   taken-outcome e = rw (e, callOn)
 
@@ -109,30 +110,30 @@ module _ (m : Memory) (call : Call) where
       let d = length-drop (length r) (call .buffer) in
       record { written = s; buffer-length = a ∙ (let x : length r + length (drop (length r) (call .buffer)) ≡ length (call .buffer) = omega arith in x) }
 
-  pub call-fits : Fits (callOutcome m call)
+  pub call-fits : Fits (callOutcome list m call)
   unfolding refused stateIn
-  call-fits = go (refusalOf m call) refl
+  call-fits = go (refusalOf list m call) refl
     where
-      go : (o : Option ℕ) → refusalOf m call ≡ o → Fits (callOutcome m call)
+      go : (o : Option ℕ) → refusalOf list m call ≡ o → Fits (callOutcome list m call)
       go (some code) e = rw (refused-outcome code e) (record { written = omega arith; buffer-length = refl })
       go none e =
-          let t = passed m call e in
-          rw (taken-outcome e) (took-fits (effectOf m (call .chunk) .taken) (effectOf m (call .chunk) .response) _ (call-short (stateIn m) (t .ready .registry-good) (call .chunk)) (t .ready .buffer-good))
+          let t = passed list m call e in
+          rw (taken-outcome e) (took-fits (effectOf list m (call .chunk) .taken) (effectOf list m (call .chunk) .response) _ (call-short list (stateIn m) (t .ready .registry-good) (call .chunk)) (t .ready .buffer-good))
 
-  pub refused-exactly : callOutcome m call .answer .code ≡ says (refusalOf m call)
+  pub refused-exactly : callOutcome list m call .answer .code ≡ says (refusalOf list m call)
   unfolding refused
-  refused-exactly = go (refusalOf m call) refl
+  refused-exactly = go (refusalOf list m call) refl
     where
-      go : (o : Option ℕ) → refusalOf m call ≡ o → callOutcome m call .answer .code ≡ says o
+      go : (o : Option ℕ) → refusalOf list m call ≡ o → callOutcome list m call .answer .code ≡ says o
       go (some code) e = rw (refused-outcome code e)
-      go none e = rw (taken-outcome e) (took-code (effectOf m (call .chunk) .taken) (effectOf m (call .chunk) .response) call)
+      go none e = rw (taken-outcome e) (took-code (effectOf list m (call .chunk) .taken) (effectOf list m (call .chunk) .response) call)
 
   -- a refused call takes nothing, writes nothing and alters nothing
   pub record Refused (code : ℕ) (o : CallOutcome Memory) : Type 0 where
     pub answer : o .answer ≡ record { code = code; taken = 0; written = 0; buffer = call .buffer }
     pub memory : o .memory ≡ m
 
-  pub refused-stays : (code : ℕ) → refusalOf m call ≡ some code → Refused code (callOutcome m call)
+  pub refused-stays : (code : ℕ) → refusalOf list m call ≡ some code → Refused code (callOutcome list m call)
   unfolding refused
   refused-stays code e = rw (refused-outcome code e) (record { answer = refl; memory = refl })
 
@@ -143,18 +144,18 @@ pub record Idle (m : Memory) (buffer : List ℕ) (o : CallOutcome Memory) : Type
   pub buffer-stays : o .answer .buffer ≡ buffer
   pub memory-stays : o .memory ≡ m
 
-pub empty-idle : (m : Memory) (buffer : List ℕ) → Idle m buffer (callOutcome m (record { chunk = []; buffer = buffer }))
+pub empty-idle : (list : List ℕ) (m : Memory) (buffer : List ℕ) → Idle m buffer (callOutcome list m (record { chunk = []; buffer = buffer }))
 unfolding refused took callRule stateIn memoryOf countersOf totalsOf
-empty-idle m buffer = go (refusalOf m call) refl
+empty-idle list m buffer = go (refusalOf list m call) refl
   where
     call : Call
     call = record { chunk = []; buffer = buffer }
 
-    go : (o : Option ℕ) → refusalOf m call ≡ o → Idle m buffer (callOutcome m call)
-    go (some code) e = rw (refused-outcome m call code e) (record { taken = refl; written = refl; buffer-stays = refl; memory-stays = refl })
+    go : (o : Option ℕ) → refusalOf list m call ≡ o → Idle m buffer (callOutcome list m call)
+    go (some code) e = rw (refused-outcome list m call code e) (record { taken = refl; written = refl; buffer-stays = refl; memory-stays = refl })
     go none e =
-        let t = passed m call e in
-        rw (taken-outcome m call e)
+        let t = passed list m call e in
+        rw (taken-outcome list m call e)
         (record {
           taken = refl;
           written = refl;
@@ -165,5 +166,5 @@ empty-idle m buffer = go (refusalOf m call) refl
 -- ---- the counters that demand 3 starts from are those that cleared counters are
 
 pub fresh-counters : (registry : List ℕ) → fresh registry .counters ≡ zeroCounters
-unfolding fresh memoryOf stream.fresh judgement zeroCounters
+unfolding fresh
 fresh-counters registry = refl

@@ -1,4 +1,4 @@
--- A call as the code says it, from the code of C1 to C5 and from what serving it has done.
+-- A call as the code says it, from the code of C1 to C6 and from what serving it has done.
 use Prim.Native.Nat.{ℕ}
 use mathlib.Core.Path.{_≡_, refl, sym, ap, subst, _∙_}
 use mathlib.Core.Option.{Option, none, some}
@@ -35,23 +35,23 @@ unfolding counted countEvent totalsOf countersOf
 nothing-counted c code =
     λ i. record { taken = add-zero (c .taken) i; answered = add-zero (c .answered) i; dropped = add-zero (c .dropped) i; served = c .served; unauthenticated = c .unauthenticated; refused = c .refused }
 
-module _ (connection registry : List ℕ) (counters : Counters) (chunk buffer : List ℕ) where
+module _ (list connection registry : List ℕ) (counters : Counters) (chunk buffer : List ℕ) where
   abbrev m : Memory
   m = lentMemory connection registry counters
 
   abbrev call : Call
   call = callWith chunk buffer
 
-  pub taken-passes : (code : Code) → code ≡ codeFor (firstOf (refusalTests m call)) → code ≡ Taken → refusalOf m call ≡ none
+  pub taken-passes : (code : Code) → code ≡ codeFor (firstOf (refusalTests list m call)) → code ≡ Taken → refusalOf list m call ≡ none
   unfolding refusalOf
-  taken-passes code e t = taken-none (firstOf (refusalTests m call)) (sym e ∙ t)
+  taken-passes code e t = taken-none (firstOf (refusalTests list m call)) (sym e ∙ t)
 
   -- a code that is not `Taken` is a refusal's, and all stays
-  pub refused-call : (code : Code) (h : Handled) → code ≡ codeFor (firstOf (refusalTests m call)) → OneOf (1 ∷ []) (tagOf the-type code)
+  pub refused-call : (code : Code) (h : Handled) → code ≡ codeFor (firstOf (refusalTests list m call)) → OneOf (1 ∷ []) (tagOf the-type code)
       → h ≡ refusedWith code
-      → CallContract m call (answerOf h) (lentMemory connection registry (counted counters (h .added))) buffer
+      → CallContract list m call (answerOf h) (lentMemory connection registry (counted counters (h .added))) buffer
   unfolding codeFor codeOf codeNumber refusalOf refused
-  refused-call code h e other says = ap outcome says ∙ ap (λ (x : Counters). leaves code x) (nothing-counted counters code) ∙ go (firstOf (refusalTests m call)) refl
+  refused-call code h e other says = ap outcome says ∙ ap (λ (x : Counters). leaves code x) (nothing-counted counters code) ∙ go (firstOf (refusalTests list m call)) refl
     where
       leaves : Code → Counters → CallOutcome Memory
       leaves c x = outcomeWith (codeNumber c) 0 0 (lentMemory connection registry x) buffer
@@ -59,12 +59,12 @@ module _ (connection registry : List ℕ) (counters : Counters) (chunk buffer : 
       outcome : Handled → CallOutcome Memory
       outcome x = outcomeWith (codeNumber (x .code)) (x .added .taken) (x .written) (lentMemory connection registry (counted counters (x .added))) buffer
 
-      go : (f : Option Refusal) → firstOf (refusalTests m call) ≡ f → leaves code counters ≡ callOutcome m call
+      go : (f : Option Refusal) → firstOf (refusalTests list m call) ≡ f → leaves code counters ≡ callOutcome list m call
       go none q = absurd (clash (subst (λ (x : Code). OneOf (1 ∷ []) (tagOf the-type x)) (e ∙ ap codeFor q) other))
         where
           clash : OneOf (1 ∷ []) 0 → ⊥
           clash p = omega arith
-      go (some refusal) q = ap (λ (x : Code). leaves x counters) (e ∙ ap codeFor q) ∙ sym (refused-outcome m call (refusalNumber refusal) (ap codeOf q))
+      go (some refusal) q = ap (λ (x : Code). leaves x counters) (e ∙ ap codeFor q) ∙ sym (refused-outcome list m call (refusalNumber refusal) (ap codeOf q))
 
   took-all : (n w : ℕ) (o : Option (List ℕ)) (after : List ℕ) → WroteAny o buffer after w
       → record { code = 0; taken = n; written = w; buffer = after } ≡ took n o call
@@ -73,14 +73,14 @@ module _ (connection registry : List ℕ) (counters : Counters) (chunk buffer : 
   took-all n w (some response) after wrote = λ i. record { code = 0; taken = n; written = wrote .count i; buffer = wrote .bytes i }
 
   -- a call that is served says and leaves what was carried out
-  pub taken-call : (left kept after : List ℕ) (h : Handled) → refusalOf m call ≡ none
-      → Carried counters (effectOf m chunk) left kept buffer after h
-      → CallContract m call (answerOf h) (lentMemory left kept (counted counters (h .added))) after
+  pub taken-call : (left kept after : List ℕ) (h : Handled) → refusalOf list m call ≡ none
+      → Carried counters (effectOf list m chunk) left kept buffer after h
+      → CallContract list m call (answerOf h) (lentMemory left kept (counted counters (h .added))) after
   unfolding codeNumber memoryOf
   taken-call left kept after h passed done =
       (λ i. record {
         answer = record { code = codeNumber (done .code-is i); taken = done .taken-is i; written = h .written; buffer = after };
         memory = record { connection = done .connection-is i; registry = done .registry-is i; counters = done .counters-is i };
       })
-      ∙ ap (λ (x : Answer). record { answer = x; memory = memoryOf (effectOf m chunk .state) }) (took-all (effectOf m chunk .taken) (h .written) (effectOf m chunk .response) after (done .response-is))
-      ∙ sym (taken-outcome m call passed)
+      ∙ ap (λ (x : Answer). record { answer = x; memory = memoryOf (effectOf list m chunk .state) }) (took-all (effectOf list m chunk .taken) (h .written) (effectOf list m chunk .response) after (done .response-is))
+      ∙ sym (taken-outcome list m call passed)

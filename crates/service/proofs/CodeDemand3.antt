@@ -1,4 +1,4 @@
--- DEMAND 3 OF THE CODE, as one claim: any list of calls of `service::call::call`, each step being the contract of that function,
+-- DEMAND 3 OF THE CODE, as one claim: any list of calls of `service::call::call`, lent one list of keys that we ship, each step being the contract of that function,
 -- the very definition (`CallContract`) that its `ensures` cites. Every function of a proved crate meets its contract, so that
 -- whatever the code does is such a list.
 use Prim.Native.Nat.{ℕ, zero, suc, _+_, _≤_}
@@ -9,6 +9,7 @@ use lib.ListN.{length, drop}
 use Rattle.stream.specs.Calls.{Call, Answer, CallOutcome, CallsOutcome, callsOn, leaving, handOver}
 use Rattle.stream.proofs.DeliveryLaws.{within, TakenWhole}
 use Rattle.registry.specs.WellFormed.{wellFormedRegistry}
+use Rattle.shipped.specs.Shipped.{wellFormedList}
 use Rattle.judgement.specs.Judgement.{judgement}
 use Rattle.counters.specs.Counters.{counterMost}
 use Rattle.counters.specs.declared.Counters.{Counters}
@@ -31,15 +32,15 @@ abbrev pub leftBy : Ran → Memory
 leftBy r = lentMemory (r .connection) (r .registry) (r .counters)
 
 -- the contract of `call`
-abbrev pub Contract : Memory → Call → Ran → Type 0
-Contract m call r = CallContract m call (r .says) (leftBy r) (r .response)
+abbrev pub Contract : (list : List ℕ) → Memory → Call → Ran → Type 0
+Contract list m call r = CallContract list m call (r .says) (leftBy r) (r .response)
 
 -- one call after the other
-abbrev pub Runs : Memory → List Call → List Ran → Type 0
-Runs m [] [] = Unit {0}
-Runs m [] (r ∷ rest) = ⊥
-Runs m (call ∷ calls) [] = ⊥
-Runs m (call ∷ calls) (r ∷ rest) = Contract m call r × Runs (leftBy r) calls rest
+abbrev pub Runs : (list : List ℕ) → Memory → List Call → List Ran → Type 0
+Runs list m [] [] = Unit {0}
+Runs list m [] (r ∷ rest) = ⊥
+Runs list m (call ∷ calls) [] = ⊥
+Runs list m (call ∷ calls) (r ∷ rest) = Contract list m call r × Runs list (leftBy r) calls rest
 
 abbrev pub answerIn : Ran → Answer
 answerIn r = record { code = codeNumber (r .says .code); taken = r .says .taken; written = r .says .written; buffer = r .response }
@@ -57,14 +58,14 @@ ranOutcome m runs = record { answers = answersIn runs; memory = leftAfter m runs
 
 -- ---- a caller that hands over what is left of a chunk again, as the code says how many bytes it took
 
-abbrev pub HandsOver : (most : ℕ) (buffers : ℕ → List ℕ) → Memory → (chunks : List (List ℕ)) → List Ran → Type 0
-HandsOver zero buffers m chunks [] = Unit {0}
-HandsOver zero buffers m chunks (r ∷ rest) = ⊥
-HandsOver (suc most) buffers m [] [] = Unit {0}
-HandsOver (suc most) buffers m [] (r ∷ rest) = ⊥
-HandsOver (suc most) buffers m (chunk ∷ chunks) [] = ⊥
-HandsOver (suc most) buffers m (chunk ∷ chunks) (r ∷ rest) =
-    Contract m (callWith chunk (buffers most)) r × HandsOver most buffers (leftBy r) (leaving (drop (r .says .taken) chunk) chunks) rest
+abbrev pub HandsOver : (list : List ℕ) (most : ℕ) (buffers : ℕ → List ℕ) → Memory → (chunks : List (List ℕ)) → List Ran → Type 0
+HandsOver list zero buffers m chunks [] = Unit {0}
+HandsOver list zero buffers m chunks (r ∷ rest) = ⊥
+HandsOver list (suc most) buffers m [] [] = Unit {0}
+HandsOver list (suc most) buffers m [] (r ∷ rest) = ⊥
+HandsOver list (suc most) buffers m (chunk ∷ chunks) [] = ⊥
+HandsOver list (suc most) buffers m (chunk ∷ chunks) (r ∷ rest) =
+    Contract list m (callWith chunk (buffers most)) r × HandsOver list most buffers (leftBy r) (leaving (drop (r .says .taken) chunk) chunks) rest
 
 abbrev pub callsHanded : (most : ℕ) (buffers : ℕ → List ℕ) (chunks : List (List ℕ)) → List Ran → List Call
 callsHanded zero buffers chunks runs = []
@@ -75,21 +76,21 @@ callsHanded (suc most) buffers (chunk ∷ chunks) (r ∷ rest) =
 
 -- ---- the code's calls are the definition's
 
-step : (m : Memory) (call : Call) (r : Ran) → Contract m call r → callOutcome m call ≡ record { answer = answerIn r; memory = leftBy r }
-step m call r e = sym e
+step : (list : List ℕ) (m : Memory) (call : Call) (r : Ran) → Contract list m call r → callOutcome list m call ≡ record { answer = answerIn r; memory = leftBy r }
+step list m call r e = sym e
 
-ran : (m : Memory) (calls : List Call) (runs : List Ran) → Runs m calls runs → callsOutcome m calls ≡ ranOutcome m runs
+ran : (list : List ℕ) (m : Memory) (calls : List Call) (runs : List Ran) → Runs list m calls runs → callsOutcome list m calls ≡ ranOutcome m runs
 unfolding callsOutcome callOutcome callsOn
-ran m [] [] p = refl
-ran m [] (r ∷ rest) p = absurd p
-ran m (call ∷ calls) [] p = absurd p
-ran m (call ∷ calls) (r ∷ rest) (e, p) =
-    ap (λ (o : CallOutcome Memory). (let x : CallsOutcome Memory = record { answers = o .answer ∷ callsOutcome (o .memory) calls .answers; memory = callsOutcome (o .memory) calls .memory } in x)) (step m call r e)
-    ∙ ap (λ (o : CallsOutcome Memory). (let x : CallsOutcome Memory = record { answers = answerIn r ∷ o .answers; memory = o .memory } in x)) (ran (leftBy r) calls rest p)
+ran list m [] [] p = refl
+ran list m [] (r ∷ rest) p = absurd p
+ran list m (call ∷ calls) [] p = absurd p
+ran list m (call ∷ calls) (r ∷ rest) (e, p) =
+    ap (λ (o : CallOutcome Memory). (let x : CallsOutcome Memory = record { answers = o .answer ∷ callsOutcome list (o .memory) calls .answers; memory = callsOutcome list (o .memory) calls .memory } in x)) (step list m call r e)
+    ∙ ap (λ (o : CallsOutcome Memory). (let x : CallsOutcome Memory = record { answers = answerIn r ∷ o .answers; memory = o .memory } in x)) (ran list (leftBy r) calls rest p)
 
-module _ (buffers : ℕ → List ℕ) where
-  handed : (most : ℕ) (m : Memory) (chunks : List (List ℕ)) (runs : List Ran) → HandsOver most buffers m chunks runs
-      → (callsHanded most buffers chunks runs ≡ handOver judgement layout refusalOf most buffers m chunks) × Runs m (callsHanded most buffers chunks runs) runs
+module _ (list : List ℕ) (buffers : ℕ → List ℕ) where
+  handed : (most : ℕ) (m : Memory) (chunks : List (List ℕ)) (runs : List Ran) → HandsOver list most buffers m chunks runs
+      → (callsHanded most buffers chunks runs ≡ handOver (judgement list) layout (refusalOf list) most buffers m chunks) × Runs list m (callsHanded most buffers chunks runs) runs
   unfolding handOver callOutcome
   handed zero m chunks [] p = (refl, tt)
   handed zero m chunks (r ∷ rest) p = absurd p
@@ -99,30 +100,30 @@ module _ (buffers : ℕ → List ℕ) where
   handed (suc most) m (chunk ∷ chunks) (r ∷ rest) (e, p) =
       let (same, runs) = handed most (leftBy r) (leaving (drop (r .says .taken) chunk) chunks) rest p in (
         ap (λ (calls : List Call). callWith chunk (buffers most) ∷ calls)
-            (same ∙ ap (λ (o : CallOutcome Memory). handOver judgement layout refusalOf most buffers (o .memory) (leaving (drop (o .answer .taken) chunk) chunks)) (sym (step m (callWith chunk (buffers most)) r e))),
+            (same ∙ ap (λ (o : CallOutcome Memory). handOver (judgement list) layout (refusalOf list) most buffers (o .memory) (leaving (drop (o .answer .taken) chunk) chunks)) (sym (step list m (callWith chunk (buffers most)) r e))),
         (e, runs),
       )
 
 -- ---- the claim
 
--- from a fresh connection, zero counters and this registry
-pub record CodeDemand3 (registry : List ℕ) : Type 0 where
+-- from a fresh connection, zero counters and this registry, with this list
+pub record CodeDemand3 (list registry : List ℕ) : Type 0 where
   -- any list of calls, refused ones included
-  pub follows : (calls : List Call) (runs : List Ran) → Runs (fresh registry) calls runs → FollowsRules registry calls (ranOutcome (fresh registry) runs)
-  -- a well-formed one, and a stream of at most 2^62 bytes, cut anywhere into chunks of at most 65,536, with buffers of at
+  pub follows : (calls : List Call) (runs : List Ran) → Runs list (fresh registry) calls runs → FollowsRules list registry calls (ranOutcome (fresh registry) runs)
+  -- both well formed, and a stream of at most 2^62 bytes, cut anywhere into chunks of at most 65,536, with buffers of at
   -- least 1,024 bytes
-  pub taken : wellFormedRegistry registry ≡ true → (chunks : List (List ℕ)) (buffers : ℕ → List ℕ) (most : ℕ) (runs : List Ran)
+  pub taken : wellFormedRegistry registry ≡ true → wellFormedList list ≡ true → (chunks : List (List ℕ)) (buffers : ℕ → List ℕ) (most : ℕ) (runs : List Ran)
       → length (flatten chunks) ≤ counterMost → within chunkMost chunks ≡ true → ((k : ℕ) → bufferLeast ≤ length (buffers k))
       → length (flatten chunks) + length chunks ≤ most
-      → HandsOver most buffers (fresh registry) chunks runs
+      → HandsOver list most buffers (fresh registry) chunks runs
       → TakenWhole chunks (callsHanded most buffers chunks runs) (ranOutcome (fresh registry) runs)
 
-pub code-demand3 : (registry : List ℕ) → CodeDemand3 registry
-code-demand3 registry = record {
-  follows = λ calls runs p. subst (FollowsRules registry calls) (ran (fresh registry) calls runs p) (demand3 registry .follows calls);
-  taken = λ w chunks buffers most runs short small room enough p.
-      let (same, all) = handed buffers most (fresh registry) chunks runs p in
+pub code-demand3 : (list registry : List ℕ) → CodeDemand3 list registry
+code-demand3 list registry = record {
+  follows = λ calls runs p. subst (FollowsRules list registry calls) (ran list (fresh registry) calls runs p) (demand3 list registry .follows calls);
+  taken = λ w good chunks buffers most runs short small room enough p.
+      let (same, all) = handed list buffers most (fresh registry) chunks runs p in
       let calls : List Call = callsHanded most buffers chunks runs in
-      subst (TakenWhole chunks calls) (ran (fresh registry) calls runs all)
-      (subst (λ (x : List Call). TakenWhole chunks x (callsOutcome (fresh registry) x)) (sym same) (demand3 registry .taken w chunks buffers most short small room enough));
+      subst (TakenWhole chunks calls) (ran list (fresh registry) calls runs all)
+      (subst (λ (x : List Call). TakenWhole chunks x (callsOutcome list (fresh registry) x)) (sym same) (demand3 list registry .taken w good chunks buffers most short small room enough));
 }

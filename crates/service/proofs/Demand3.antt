@@ -1,4 +1,5 @@
--- DEMAND 3, as one claim, at document 01's judgement and on memory as the code has it.
+-- DEMAND 3, as one claim, at document 01's judgement and on memory as the code has it. The list of keys that we ship is a fixed
+-- input: the same in all calls.
 use mathlib.Core.Path.{_≡_, ap, _∙_}
 use mathlib.Core.Bool.{true}
 use mathlib.Core.Option.{none}
@@ -11,6 +12,7 @@ use Rattle.wire.specs.Choice.{firstOf}
 use Rattle.wire.proofs.TestLaws.{either}
 use Rattle.stream.specs.Frame.{oversized}
 use Rattle.stream.specs.Rules.{heldBytes, State, judge, rules}
+use Rattle.stream.specs.Call as stream
 use Rattle.stream.specs.Parts.{joined, partsOf, responsesTo}
 use Rattle.stream.specs.Calls.{Call, CallsOutcome, joinedResponses, responsesIn, takenStream, handOver, answersByRules}
 use Rattle.stream.proofs.PartsLaws.{one-each}
@@ -21,10 +23,11 @@ use Rattle.stream.proofs.DeliveryLaws.{within, TakenWhole, delivered}
 use Rattle.connection.specs.Connection.{connectionOf}
 use Rattle.connection.proofs.ConnectionLaws.{load-store, stored-good}
 use Rattle.registry.specs.WellFormed.{wellFormedRegistry}
+use Rattle.shipped.specs.Shipped.{wellFormedList}
 use Rattle.judgement.specs.Counts.{Counts, requestsIn}
 use Rattle.judgement.specs.Judgement.{refusedEarly, verdictOf, judgement}
 use Rattle.judgement.proofs.ResponseLaws.{response-some}
-use Rattle.counters.specs.Counters.{totalsOf, countersOf, counterMost, largestCount, largestCounter}
+use Rattle.counters.specs.Counters.{totalsOf, countersOf, zeroCounters, counterMost, largestCount, largestCounter}
 use Rattle.counters.proofs.RequestLaws.{rules-requests}
 use Rattle.service.specs.Call.{Memory, stateIn, memoryOf, layout, fresh, bufferLeast, chunkMost, refusalTests, codeOf, refusalOf, callsOutcome}
 use Rattle.service.proofs.KeptLaws.{keeps}
@@ -37,13 +40,13 @@ lawful s w = λ i. record { connection = load-store (s .connection) w i; registr
 
 -- ---- what the rules keep is refused for the buffer or the chunk alone
 
-pub accepts : (registry : List ℕ) → wellFormedRegistry registry ≡ true → (seen : List ℕ) (call : Call)
+pub accepts : (list registry : List ℕ) → wellFormedRegistry registry ≡ true → wellFormedList list ≡ true → (seen : List ℕ) (call : Call)
     → length seen ≤ counterMost → length (call .chunk) ≤ chunkMost → bufferLeast ≤ length (call .buffer)
-    → refusalOf (memoryOf (rules judgement registry seen .state)) call ≡ none
+    → refusalOf list (memoryOf (rules (judgement list) registry seen .state)) call ≡ none
 unfolding refusalOf refusalTests codeOf firstOf memoryOf countersOf
-accepts registry w seen call h short room =
-    let s : State (List ℕ) Counts = rules judgement registry seen .state in
-    let k = rules-kept largestCount wellFormedRegistry judgement keeps registry w seen in
+accepts list registry w good seen call h short room =
+    let s : State (List ℕ) Counts = rules (judgement list) registry seen .state in
+    let k = rules-kept largestCount wellFormedRegistry (judgement list) (keeps list) registry w seen in
     let taken = k .taken in
     let answered = k .answered in
     let dropped = k .dropped in
@@ -52,40 +55,41 @@ accepts registry w seen call h short room =
     rw (
       le-ltb (length (call .buffer)) bufferLeast room,
       le-ltb chunkMost (length (call .chunk)) short,
-      stored-good (s .connection) (rules-connection judgement registry seen),
+      stored-good (s .connection) (rules-connection (judgement list) registry seen),
       k .good,
       le-ltb counterMost (largestCounter (countersOf (s .totals))) small,
+      good,
     )
 
 -- ---- requests
 
-never-empty : Every judgement Anything NotEmpty
+never-empty : (list : List ℕ) → Every (judgement list) Anything NotEmpty
 unfolding judge judgement refusedEarly verdictOf
-never-empty = record {
+never-empty list = record {
   bad = λ r c g. record { response = response-some 0 0 0 _ []; registry = tt };
   large = λ r c header g. record { response = response-some _ _ _ _ []; registry = tt };
   judged = λ r c request g.
-      either (Answers judgement Anything NotEmpty) (oversized request)
+      either (Answers (judgement list) Anything NotEmpty) (oversized request)
       (λ _. record { response = response-some _ _ _ _ []; registry = tt })
       (λ _. record { response = response-some _ _ _ _ _; registry = tt });
 }
 
 -- the counters that the rules leave have as many requests as they answered
-requests-stored : (registry stream : List ℕ)
-    → requestsIn (totalsOf (memoryOf (rules judgement registry stream .state) .counters) .counts) ≡ length (partsOf stream .answered)
+requests-stored : (list registry stream : List ℕ)
+    → requestsIn (totalsOf (memoryOf (rules (judgement list) registry stream .state) .counters) .counts) ≡ length (partsOf stream .answered)
 unfolding memoryOf totalsOf countersOf
-requests-stored registry stream = rules-requests registry stream
+requests-stored list registry stream = rules-requests list registry stream
 
 -- ---- the claim
 
 -- what a list of calls did, against the rules on the joined stream of taken bytes, uncut
-pub record FollowsRules (registry : List ℕ) (calls : List Call) (o : CallsOutcome Memory) : Type 0 where
+pub record FollowsRules (list registry : List ℕ) (calls : List Call) (o : CallsOutcome Memory) : Type 0 where
   -- each call answers as the rules say: refused with its code, or so many bytes taken and that response written
-  pub answers : o .answers ≡ answersByRules judgement layout refusalOf registry [] calls
+  pub answers : o .answers ≡ answersByRules (judgement list) layout (refusalOf list) registry [] calls
   -- the joined responses are theirs
-  pub responses : joinedResponses (o .answers) ≡ flatten (rules judgement registry (takenStream calls (o .answers)) .responses)
+  pub responses : joinedResponses (o .answers) ≡ flatten (rules (judgement list) registry (takenStream calls (o .answers)) .responses)
   -- and so are connection, registry and counters
-  pub memory : o .memory ≡ memoryOf (rules judgement registry (takenStream calls (o .answers)) .state)
+  pub memory : o .memory ≡ memoryOf (rules (judgement list) registry (takenStream calls (o .answers)) .state)
   -- bytes taken are the stream's length: bytes of answered requests, of the unfinished one, and dropped after closing
   pub taken : o .memory .counters .taken ≡ length (takenStream calls (o .answers))
   pub accounted : o .memory .counters .taken
@@ -96,32 +100,32 @@ pub record FollowsRules (registry : List ℕ) (calls : List Call) (o : CallsOutc
   pub held : heldBytes (connectionOf (o .memory .connection)) ≡ length (partsOf (takenStream calls (o .answers)) .held)
   pub dropped : o .memory .counters .dropped ≡ length (partsOf (takenStream calls (o .answers)) .dropped)
   -- the responses that the calls wrote: one for each answered request, in their order
-  pub each : responsesIn (o .answers) ≡ responsesTo judgement registry (partsOf (takenStream calls (o .answers)) .answered)
+  pub each : responsesIn (o .answers) ≡ responsesTo (judgement list) registry (partsOf (takenStream calls (o .answers)) .answered)
   pub oneEach : length (responsesIn (o .answers)) ≡ length (partsOf (takenStream calls (o .answers)) .answered)
   -- served for all lines, served with auth type 0 and refused for all statuses: each answered request is counted once
   pub requests : requestsIn (totalsOf (o .memory .counters) .counts) ≡ length (partsOf (takenStream calls (o .answers)) .answered)
 
--- from a fresh connection, zero counters and this registry
-pub record Demand3 (registry : List ℕ) : Type 0 where
+-- from a fresh connection, zero counters and this registry, with this list
+pub record Demand3 (list registry : List ℕ) : Type 0 where
   -- any list of calls, refused ones included
-  pub follows : (calls : List Call) → FollowsRules registry calls (callsOutcome (fresh registry) calls)
-  -- a well-formed one, and a stream of at most 2^62 bytes, cut anywhere into chunks of at most 65,536, with buffers of at
+  pub follows : (calls : List Call) → FollowsRules list registry calls (callsOutcome list (fresh registry) calls)
+  -- both well formed, and a stream of at most 2^62 bytes, cut anywhere into chunks of at most 65,536, with buffers of at
   -- least 1,024 bytes (`buffers k` when k more calls may follow; one call for each byte and each chunk is enough)
-  pub taken : wellFormedRegistry registry ≡ true → (chunks : List (List ℕ)) (buffers : ℕ → List ℕ) (most : ℕ)
+  pub taken : wellFormedRegistry registry ≡ true → wellFormedList list ≡ true → (chunks : List (List ℕ)) (buffers : ℕ → List ℕ) (most : ℕ)
       → length (flatten chunks) ≤ counterMost → within chunkMost chunks ≡ true → ((k : ℕ) → bufferLeast ≤ length (buffers k))
       → length (flatten chunks) + length chunks ≤ most
-      → (let calls : List Call = handOver judgement layout refusalOf most buffers (fresh registry) chunks in
-      TakenWhole chunks calls (callsOutcome (fresh registry) calls))
+      → (let calls : List Call = handOver (judgement list) layout (refusalOf list) most buffers (fresh registry) chunks in
+      TakenWhole chunks calls (callsOutcome list (fresh registry) calls))
 
-pub demand3 : (registry : List ℕ) → Demand3 registry
-unfolding callsOutcome fresh layout stateIn totalsOf
-demand3 registry = record {
+pub demand3 : (list registry : List ℕ) → Demand3 list registry
+unfolding callsOutcome fresh layout stateIn memoryOf stream.fresh judgement zeroCounters totalsOf
+demand3 list registry = record {
   follows = λ calls.
-      let o : CallsOutcome Memory = callsOutcome (fresh registry) calls in
+      let o : CallsOutcome Memory = callsOutcome list (fresh registry) calls in
       let stream : List ℕ = takenStream calls (o .answers) in
-      let f = follows-rules judgement layout lawful refusalOf registry calls in
-      let each : responsesIn (o .answers) ≡ responsesTo judgement registry (partsOf stream .answered)
-      = responses-each judgement layout lawful refusalOf registry never-empty calls ∙ f .each in
+      let f = follows-rules (judgement list) layout lawful (refusalOf list) registry calls in
+      let each : responsesIn (o .answers) ≡ responsesTo (judgement list) registry (partsOf stream .answered)
+      = responses-each (judgement list) layout lawful (refusalOf list) registry (never-empty list) calls ∙ f .each in
       record {
         answers = f .answers;
         responses = f .responses;
@@ -133,9 +137,9 @@ demand3 registry = record {
         held = f .held;
         dropped = f .dropped;
         each = each;
-        oneEach = ap length each ∙ one-each judgement registry (partsOf stream .answered);
-        requests = ap (λ (m : Memory). requestsIn (totalsOf (m .counters) .counts)) (f .memory) ∙ requests-stored registry stream;
+        oneEach = ap length each ∙ one-each (judgement list) registry (partsOf stream .answered);
+        requests = ap (λ (m : Memory). requestsIn (totalsOf (m .counters) .counts)) (f .memory) ∙ requests-stored list registry stream;
       };
-  taken = λ w chunks buffers most short small room enough.
-      delivered judgement layout lawful refusalOf registry counterMost chunkMost bufferLeast (accepts registry w) buffers room most chunks enough small short;
+  taken = λ w good chunks buffers most short small room enough.
+      delivered (judgement list) layout lawful (refusalOf list) registry counterMost chunkMost bufferLeast (accepts list registry w good) buffers room most chunks enough small short;
 }

@@ -43,16 +43,16 @@ count-one c o status =
 
 -- ---- together
 
-judge-counts : (r : List ℕ) (c : Counts) (request : List ℕ) → largestCount (judge judgement r c request .counts) ≤ suc (largestCount c)
+judge-counts : (list r : List ℕ) (c : Counts) (request : List ℕ) → largestCount (judge (judgement list) r c request .counts) ≤ suc (largestCount c)
 unfolding judge judgement refusedEarly verdictOf
-judge-counts r c request = either (λ (v : Verdict (List ℕ) Counts (List ℕ)). largestCount (v .counts) ≤ suc (largestCount c)) (oversized request) (λ _. refused-one c _) (λ _. count-one c _ _)
+judge-counts list r c request = either (λ (v : Verdict (List ℕ) Counts (List ℕ)). largestCount (v .counts) ≤ suc (largestCount c)) (oversized request) (λ _. refused-one c _) (λ _. count-one c _ _)
 
-pub keeps : Keeps largestCount wellFormedRegistry judgement
+pub keeps : (list : List ℕ) → Keeps largestCount wellFormedRegistry (judgement list)
 unfolding judgement noCounts largestCount maximum refusedEarly
-keeps = record {
+keeps list = record {
   startCounts = refl;
   badCounts = λ r c. refused-one c _;
-  judgeCounts = judge-counts;
+  judgeCounts = judge-counts list;
   badGood = λ r c w. w;
-  judgeGood = judge-good;
+  judgeGood = judge-good list;
 }

@@ -109,15 +109,15 @@ module _ (k : Connection) (registry : List ℕ) (c : Counters) where
 
 -- ---- an oversized request
 
-module _ (registry : List ℕ) (c : Counters) (header : List ℕ) (used here toGo : ℕ) where
+module _ (list registry : List ℕ) (c : Counters) (header : List ℕ) (used here toGo : ℕ) where
   pub skip-waits : here < toGo
-      → skipEffect registry c header used here toGo ≡ waiting (stateWith closed registry c) (used + here) (skipping header (toGo - here))
+      → skipEffect list registry c header used here toGo ≡ waiting (stateWith closed registry c) (used + here) (skipping header (toGo - here))
   unfolding skipEffect
   skip-waits h = rw (lt-ltb here toGo h)
 
   pub skip-answers : toGo ≤ here
-      → skipEffect registry c header used here toGo
-      ≡ answering (stateWith closed registry c) (used + toGo) (requestLength header) (judgement .onOversized registry (totalsOf c .counts) header) (opened [])
+      → skipEffect list registry c header used here toGo
+      ≡ answering (stateWith closed registry c) (used + toGo) (requestLength header) (judgement list .onOversized registry (totalsOf c .counts) header) (opened [])
   unfolding skipEffect
   skip-answers h = rw (le-ltb here toGo h)
 
@@ -145,29 +145,29 @@ pub record Steady (v : Counts → Verdict (List ℕ) Counts (List ℕ)) : Type 0
   pub response : (c d : Counts) → v c .response ≡ v d .response
   pub registry : (c d : Counts) → v c .registry ≡ v d .registry
 
-pub bad-steady : (registry : List ℕ) → Steady (λ k. judgement .onBadStart registry k)
+pub bad-steady : (list registry : List ℕ) → Steady (λ k. judgement list .onBadStart registry k)
 unfolding judgement refusedEarly
-bad-steady registry = record { response = λ c d. refl; registry = λ c d. refl }
+bad-steady list registry = record { response = λ c d. refl; registry = λ c d. refl }
 
-pub judge-steady : (registry request : List ℕ) → Steady (λ k. judge judgement registry k request)
+pub judge-steady : (list registry request : List ℕ) → Steady (λ k. judge (judgement list) registry k request)
 unfolding judge judgement refusedEarly verdictOf
-judge-steady registry request = go (oversized request) refl
+judge-steady list registry request = go (oversized request) refl
   where
-    go : (b : Bool) → oversized request ≡ b → Steady (λ k. judge judgement registry k request)
+    go : (b : Bool) → oversized request ≡ b → Steady (λ k. judge (judgement list) registry k request)
     go true e = rw (e, judge) (record { response = λ c d. refl; registry = λ c d. refl })
     go false e = rw (e, judge) (record { response = λ c d. refl; registry = λ c d. refl })
 
 -- ---- a taken call, from what the rule of a call gives
 
-module _ (connection registry : List ℕ) (c : Counters) (chunk before : List ℕ) where
+module _ (list connection registry : List ℕ) (c : Counters) (chunk before : List ℕ) where
   abbrev s : State (List ℕ) Counts
   s = stateWith (connectionOf connection) registry c
 
   pub serves-wait : (n : ℕ) (conn : Connection) (left after : List ℕ) (r : Handled)
-      → callRule judgement s chunk ≡ waiting s n conn
+      → callRule (judgement list) s chunk ≡ waiting s n conn
       → n ≤ chunkMost → r ≡ waited n
       → left ≡ connectionBytes conn → after ≡ before
-      → Carried c (effectOf (lentMemory connection registry c) chunk) left registry before after r
+      → Carried c (effectOf list (lentMemory connection registry c) chunk) left registry before after r
   unfolding stateIn
   serves-wait n conn left after r e few w m b =
       subst (λ (x : Effect (List ℕ) Counts (List ℕ)). Carried c x left registry before after r) (sym e)
@@ -175,11 +175,11 @@ module _ (connection registry : List ℕ) (c : Counters) (chunk before : List �
 
   pub serves-answer : (v : Counts → Verdict (List ℕ) Counts (List ℕ)) (n size : ℕ) (conn : Connection) (left kept after : List ℕ) (a : Answered) (r : Handled)
       → Steady v
-      → callRule judgement s chunk ≡ answering s n size (v (totalsOf c .counts)) conn
+      → callRule (judgement list) s chunk ≡ answering s n size (v (totalsOf c .counts)) conn
       → AnsweredBy v kept before after a
       → n ≤ chunkMost → size < 2 ^ 40 → r ≡ finished n size a
       → left ≡ connectionBytes conn
-      → Carried c (effectOf (lentMemory connection registry c) chunk) left kept before after r
+      → Carried c (effectOf list (lentMemory connection registry c) chunk) left kept before after r
   unfolding stateIn
   serves-answer v n size conn left kept after a r steady e by few small w m =
       subst (λ (x : Effect (List ℕ) Counts (List ℕ)). Carried c x left kept before after r) (sym e)
@@ -189,24 +189,24 @@ module _ (connection registry : List ℕ) (c : Counters) (chunk before : List �
       → connectionOf connection ≡ closed
       → length chunk ≤ chunkMost → r ≡ droppedAll (length chunk)
       → left ≡ connectionBytes closed → after ≡ before
-      → Carried c (effectOf (lentMemory connection registry c) chunk) left registry before after r
+      → Carried c (effectOf list (lentMemory connection registry c) chunk) left registry before after r
   unfolding stateIn
   serves-drop left after r e few w m b =
-      subst (λ (x : Effect (List ℕ) Counts (List ℕ)). Carried c x left registry before after r) (sym (call-closed judgement s chunk e))
+      subst (λ (x : Effect (List ℕ) Counts (List ℕ)). Carried c x left registry before after r) (sym (call-closed (judgement list) s chunk e))
       (carried-drop (connectionOf connection) registry c (length chunk) left before after r few w m b)
 
   -- a request to skip, of which `here` bytes are at hand: waiting or answering, as the rule of a call says
   pub serves-skip : (header : List ℕ) (used here toGo : ℕ) (left after : List ℕ) (r : Handled)
-      → (here < toGo → callRule judgement s chunk ≡ waiting s (used + here) (skipping header (toGo - here)))
-      → (toGo ≤ here → callRule judgement s chunk ≡ answering s (used + toGo) (requestLength header) (judgement .onOversized registry (totalsOf c .counts) header) (opened []))
-      → Carried c (skipEffect registry c header used here toGo) left registry before after r
-      → Carried c (effectOf (lentMemory connection registry c) chunk) left registry before after r
+      → (here < toGo → callRule (judgement list) s chunk ≡ waiting s (used + here) (skipping header (toGo - here)))
+      → (toGo ≤ here → callRule (judgement list) s chunk ≡ answering s (used + toGo) (requestLength header) (judgement list .onOversized registry (totalsOf c .counts) header) (opened []))
+      → Carried c (skipEffect list registry c header used here toGo) left registry before after r
+      → Carried c (effectOf list (lentMemory connection registry c) chunk) left registry before after r
   unfolding stateIn
   serves-skip header used here toGo left after r waits answers done = go (ltb here toGo) refl
     where
-      on : skipEffect registry c header used here toGo ≡ callRule judgement s chunk → Carried c (callRule judgement s chunk) left registry before after r
+      on : skipEffect list registry c header used here toGo ≡ callRule (judgement list) s chunk → Carried c (callRule (judgement list) s chunk) left registry before after r
       on e = subst (λ (x : Effect (List ℕ) Counts (List ℕ)). Carried c x left registry before after r) e done
 
-      go : (b : Bool) → ltb here toGo ≡ b → Carried c (callRule judgement s chunk) left registry before after r
-      go true t = let less = ltb-true here toGo t in on (skip-waits registry c header used here toGo less ∙ sym (waits less))
-      go false t = let more = ltb-false here toGo t in on (skip-answers registry c header used here toGo more ∙ sym (answers more))
+      go : (b : Bool) → ltb here toGo ≡ b → Carried c (callRule (judgement list) s chunk) left registry before after r
+      go true t = let less = ltb-true here toGo t in on (skip-waits list registry c header used here toGo less ∙ sym (waits less))
+      go false t = let more = ltb-false here toGo t in on (skip-answers list registry c header used here toGo more ∙ sym (answers more))

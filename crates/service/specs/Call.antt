@@ -7,18 +7,18 @@ use lib.ListN.{length}
 use lib.Dec.{ltb}
 use Rattle.wire.specs.Choice.{firstOf}
 pub use Rattle.wire.specs.Response.{bufferLeast}
-use Rattle.stream.specs.Rules.{State}
-use Rattle.stream.specs.Call as stream
+use Rattle.stream.specs.Rules.{State, opened}
 use Rattle.stream.specs.Calls.{Call, Layout, CallOutcome, CallsOutcome, callOn, callsOn}
 use Rattle.connection.specs.Connection.{connectionBytes, connectionOf, wellFormedConnection}
 use Rattle.registry.specs.WellFormed.{wellFormedRegistry}
+use Rattle.shipped.specs.Shipped.{wellFormedList}
 use Rattle.judgement.specs.Counts.{Counts}
 use Rattle.judgement.specs.Judgement.{judgement}
-use Rattle.counters.specs.Counters.{totalsOf, countersOf, counterMost, largestCounter}
+use Rattle.counters.specs.Counters.{totalsOf, countersOf, zeroCounters, counterMost, largestCounter}
 use Rattle.counters.specs.declared.Counters.{Counters}
 use Rattle.service.specs.Refusals.{refusalNumber}
 use Rattle.service.specs.declared.Refusal.{Refusal}
-use Rattle.service.specs.declared.Refusal.the-variants.{ResponseBufferTooSmall, ChunkTooLong, ConnectionIllFormed, RegistryIllFormed, CounterTooHigh}
+use Rattle.service.specs.declared.Refusal.the-variants.{ResponseBufferTooSmall, ChunkTooLong, ConnectionIllFormed, RegistryIllFormed, CounterTooHigh, ListIllFormed}
 
 -- what a call is lent and changes in place
 pub record Memory : Type 0 where
@@ -37,34 +37,35 @@ layout = record { load = stateIn; store = memoryOf }
 
 -- a fresh connection and zero counters
 unfoldable pub fresh : (registry : List ℕ) → Memory
-fresh registry = memoryOf (stream.fresh judgement registry)
+fresh registry = record { connection = connectionBytes (opened []); registry = registry; counters = zeroCounters }
 
 -- ---- when a call is not taken
 
 abbrev pub chunkMost : ℕ
 chunkMost = 65536
 
-unfoldable pub refusalTests : Memory → Call → List (Bool × Refusal)
-refusalTests m call =
+unfoldable pub refusalTests : (list : List ℕ) → Memory → Call → List (Bool × Refusal)
+refusalTests list m call =
     (ltb (length (call .buffer)) bufferLeast, ResponseBufferTooSmall)
     ∷ (ltb chunkMost (length (call .chunk)), ChunkTooLong)
     ∷ (not (wellFormedConnection (m .connection)), ConnectionIllFormed)
     ∷ (not (wellFormedRegistry (m .registry)), RegistryIllFormed)
     ∷ (ltb counterMost (largestCounter (m .counters)), CounterTooHigh)
+    ∷ (not (wellFormedList list), ListIllFormed)
     ∷ []
 
 unfoldable pub codeOf : Option Refusal → Option ℕ
 codeOf none = none
 codeOf (some refusal) = some (refusalNumber refusal)
 
--- C1 to C5, first that applies
-unfoldable pub refusalOf : Memory → Call → Option ℕ
-refusalOf m call = codeOf (firstOf (refusalTests m call))
+-- C1 to C6, first that applies
+unfoldable pub refusalOf : (list : List ℕ) → Memory → Call → Option ℕ
+refusalOf list m call = codeOf (firstOf (refusalTests list m call))
 
--- ---- the call, and a list of calls
+-- ---- the call, and a list of calls; all are lent the same list of keys that we ship, read-only
 
-unfoldable pub callOutcome : Memory → Call → CallOutcome Memory
-callOutcome m call = callOn judgement layout refusalOf m call
+unfoldable pub callOutcome : (list : List ℕ) → Memory → Call → CallOutcome Memory
+callOutcome list m call = callOn (judgement list) layout (refusalOf list) m call
 
-unfoldable pub callsOutcome : Memory → List Call → CallsOutcome Memory
-callsOutcome m calls = callsOn judgement layout refusalOf m calls
+unfoldable pub callsOutcome : (list : List ℕ) → Memory → List Call → CallsOutcome Memory
+callsOutcome list m calls = callsOn (judgement list) layout (refusalOf list) m calls

@@ -30,6 +30,6 @@ outcomeWith code taken written after buffer = record {
 }
 
 -- all that the call says and leaves is the definition's outcome
-abbrev pub CallContract : (before : Memory) → Call → CallAnswer → (after : Memory) (buffer : List ℕ) → Type 0
-CallContract before call says after buffer =
-    outcomeWith (codeNumber (says .code)) (says .taken) (says .written) after buffer ≡ callOutcome before call
+abbrev pub CallContract : (list : List ℕ) (before : Memory) → Call → CallAnswer → (after : Memory) (buffer : List ℕ) → Type 0
+CallContract list before call says after buffer =
+    outcomeWith (codeNumber (says .code)) (says .taken) (says .written) after buffer ≡ callOutcome list before call

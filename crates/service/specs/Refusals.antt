@@ -1,7 +1,7 @@
--- The number of each refused call: C1 to C5 of "When a call is not taken".
+-- The number of each refused call: C1 to C6 of "When a call is not taken".
 use Prim.Native.Nat.{ℕ}
 use Rattle.service.specs.declared.Refusal.{Refusal}
-use Rattle.service.specs.declared.Refusal.the-variants.{ResponseBufferTooSmall, ChunkTooLong, ConnectionIllFormed, RegistryIllFormed, CounterTooHigh}
+use Rattle.service.specs.declared.Refusal.the-variants.{ResponseBufferTooSmall, ChunkTooLong, ConnectionIllFormed, RegistryIllFormed, CounterTooHigh, ListIllFormed}
 
 unfoldable pub refusalNumber : Refusal → ℕ
 refusalNumber ResponseBufferTooSmall = 1
@@ -9,3 +9,4 @@ refusalNumber ChunkTooLong = 2
 refusalNumber ConnectionIllFormed = 3
 refusalNumber RegistryIllFormed = 4
 refusalNumber CounterTooHigh = 5
+refusalNumber ListIllFormed = 6

@@ -1,4 +1,4 @@
-// A call: refused by C1 to C5 ("When a call is not taken"), or served, and counted.
+// A call: refused by C1 to C6 ("When a call is not taken"), or served, and counted.
 use crate::CallAnswer;
 use crate::Code;
 use crate::Handled;
@@ -38,16 +38,17 @@ fn handle(
     chunk: &[u8],
     connection: &mut [u8],
     registry: &mut [u8],
+    list: &[u8],
     counters: Counters,
     response: &mut [u8],
 ) -> Handled
-    ensures { λ r. ⌜ CallContract (lentMemory (now (connection .entry)) (now (registry .entry)) counters) (callWith (now (chunk .entry)) (now (response .entry))) (answerOf r) (lentMemory (now (connection .exit)) (now (registry .exit)) (counted counters (r .added))) (now (response .exit)) × Fits counters (r .added) ⌝ }
+    ensures { λ r. ⌜ CallContract (now (list .entry)) (lentMemory (now (connection .entry)) (now (registry .entry)) counters) (callWith (now (chunk .entry)) (now (response .entry))) (answerOf r) (lentMemory (now (connection .exit)) (now (registry .exit)) (counted counters (r .added))) (now (response .exit)) × Fits counters (r .added) ⌝ }
 {
-    let code = judge_call(chunk, connection, registry, counters, response);
+    let code = judge_call(chunk, connection, registry, list, counters, response);
     let Code::Taken = code else {
         return refuse(code);
     };
-    serve(connection, registry, response, chunk)
+    serve(connection, registry, list, response, chunk)
 }
 
 fn added_of(h: Handled) -> Increments
@@ -87,12 +88,13 @@ pub fn call_by_value(
     chunk: &[u8],
     connection: &mut [u8],
     registry: &mut [u8],
+    list: &[u8],
     counters: Counters,
     response: &mut [u8],
 ) -> Outcome
-    ensures { λ r. ⌜ outcomeWith (codeNumber (r .code)) (r .taken) (r .written) (lentMemory (now (connection .exit)) (now (registry .exit)) (r .counters)) (now (response .exit)) ≡ callOutcome (lentMemory (now (connection .entry)) (now (registry .entry)) counters) (callWith (now (chunk .entry)) (now (response .entry))) ⌝ }
+    ensures { λ r. ⌜ outcomeWith (codeNumber (r .code)) (r .taken) (r .written) (lentMemory (now (connection .exit)) (now (registry .exit)) (r .counters)) (now (response .exit)) ≡ callOutcome (now (list .entry)) (lentMemory (now (connection .entry)) (now (registry .entry)) counters) (callWith (now (chunk .entry)) (now (response .entry))) ⌝ }
 {
-    let h = handle(chunk, connection, registry, counters, response);
+    let h = handle(chunk, connection, registry, list, counters, response);
     let after = with_increments(counters, added_of(h));
     outcome_of(h, after)
 }
@@ -109,12 +111,13 @@ pub fn call(
     chunk: &[u8],
     connection: &mut [u8],
     registry: &mut [u8],
+    list: &[u8],
     counters: &mut Counters,
     response: &mut [u8],
 ) -> CallAnswer
-    ensures { λ r. ⌜ CallContract (lentMemory (now (connection .entry)) (now (registry .entry)) (now (counters .entry))) (callWith (now (chunk .entry)) (now (response .entry))) r (lentMemory (now (connection .exit)) (now (registry .exit)) (now (counters .exit))) (now (response .exit)) ⌝ }
+    ensures { λ r. ⌜ CallContract (now (list .entry)) (lentMemory (now (connection .entry)) (now (registry .entry)) (now (counters .entry))) (callWith (now (chunk .entry)) (now (response .entry))) r (lentMemory (now (connection .exit)) (now (registry .exit)) (now (counters .exit))) (now (response .exit)) ⌝ }
 {
-    let h = handle(chunk, connection, registry, *counters, response);
+    let h = handle(chunk, connection, registry, list, *counters, response);
     count(counters, added_of(h));
     answer_of(h)
 }

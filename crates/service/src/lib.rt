@@ -1,4 +1,4 @@
-// The call: refused by C1 to C5 ("When a call is not taken"), or served and counted.
+// The call: refused by C1 to C6 ("When a call is not taken"), or served and counted.
 use counters::Counters;
 use counters::Increments;
 
@@ -6,13 +6,14 @@ pub mod call;
 pub mod refusals;
 pub mod serve;
 
-// Why a call is not taken: C1 to C5.
+// Why a call is not taken: C1 to C6.
 pub enum Refusal {
     ResponseBufferTooSmall,
     ChunkTooLong,
     ConnectionIllFormed,
     RegistryIllFormed,
     CounterTooHigh,
+    ListIllFormed,
 }
 
 // What a call says of itself: that it is taken, or why it is not.

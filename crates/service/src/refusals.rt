@@ -1,4 +1,4 @@
-// C1 to C5 ("When a call is not taken").
+// C1 to C6 ("When a call is not taken").
 use crate::Code;
 use crate::Refusal;
 use counters::Counters;
@@ -14,15 +14,16 @@ pub const BUFFER_LEAST: usize = 1024;
 
 pub const CHUNK_MOST: usize = 65536;
 
-// Which of C1 to C5 a call falls under, if any: the first that applies.
+// Which of C1 to C6 a call falls under, if any: the first that applies.
 pub fn judge_call(
     chunk: &[u8],
     connection: &[u8],
     registry: &[u8],
+    list: &[u8],
     counters: Counters,
     response: &[u8],
 ) -> Code
-    ensures { λ r. ⌜ r ≡ codeFor (firstOf (refusalTests (lentMemory (now (connection .entry)) (now (registry .entry)) counters) (callWith (now (chunk .entry)) (now (response .entry))))) ⌝ }
+    ensures { λ r. ⌜ r ≡ codeFor (firstOf (refusalTests (now (list .entry)) (lentMemory (now (connection .entry)) (now (registry .entry)) counters) (callWith (now (chunk .entry)) (now (response .entry))))) ⌝ }
 {
     if response.len() < BUFFER_LEAST {
         return Code::Refused(Refusal::ResponseBufferTooSmall);
@@ -38,6 +39,9 @@ pub fn judge_call(
     }
     if is_too_high(counters) {
         return Code::Refused(Refusal::CounterTooHigh);
+    }
+    if !shipped::check::is_well_formed(list) {
+        return Code::Refused(Refusal::ListIllFormed);
     }
     Code::Taken
 }

@@ -68,7 +68,7 @@ fn finish(n: usize, size: u64, a: Answered) -> Handled
 // An oversized request, its header held: `to_go` bytes are missing, and `here` are at hand behind the `used` first of the chunk.
 fn skip(connection: &mut [u8], out: &mut [u8], used: usize, here: usize, to_go: u64) -> Handled
     requires { ⌜ SkipReady (now connection) (now out) used here «to_go» ⌝ }
-    ensures { λ r. ⌜ ((registry : List ℕ) (c : Counters) → Carried c (skipEffect registry c (headerAt (now (connection .entry))) used here «to_go») (now (connection .exit)) registry (now (out .entry)) (now (out .exit)) r) ⌝ }
+    ensures { λ r. ⌜ ((list registry : List ℕ) (c : Counters) → Carried c (skipEffect list registry c (headerAt (now (connection .entry))) used here «to_go») (now (connection .exit)) registry (now (out .entry)) (now (out .exit)) r) ⌝ }
 {
     if (here as u64) < to_go {
         set_skipping(connection, to_go - here as u64);
@@ -81,9 +81,15 @@ fn skip(connection: &mut [u8], out: &mut [u8], used: usize, here: usize, to_go: 
 }
 
 // A connection that holds nothing: a request that is whole is read where it lies, in the chunk.
-fn serve_fresh(connection: &mut [u8], registry: &mut [u8], out: &mut [u8], chunk: &[u8]) -> Handled
-    requires { ⌜ Ready (now connection) (now registry) (now chunk) (now out) × (connectionOf (now connection) ≡ opened []) ⌝ }
-    ensures { λ r. ⌜ ((c : Counters) → Carried c (effectOf (lentMemory (now (connection .entry)) (now (registry .entry)) c) (now (chunk .entry))) (now (connection .exit)) (now (registry .exit)) (now (out .entry)) (now (out .exit)) r) ⌝ }
+fn serve_fresh(
+    connection: &mut [u8],
+    registry: &mut [u8],
+    list: &[u8],
+    out: &mut [u8],
+    chunk: &[u8],
+) -> Handled
+    requires { ⌜ Ready (now connection) (now registry) (now list) (now chunk) (now out) × (connectionOf (now connection) ≡ opened []) ⌝ }
+    ensures { λ r. ⌜ ((c : Counters) → Carried c (effectOf (now (list .entry)) (lentMemory (now (connection .entry)) (now (registry .entry)) c) (now (chunk .entry))) (now (connection .exit)) (now (registry .exit)) (now (out .entry)) (now (out .exit)) r) ⌝ }
 {
     match read_frame(chunk) {
         Frame::Unfinished => {
@@ -101,7 +107,7 @@ fn serve_fresh(connection: &mut [u8], registry: &mut [u8], out: &mut [u8], chunk
             wait(chunk.len())
         }
         Frame::Whole(n) => {
-            let a = answer_whole(out, &chunk[..n], registry);
+            let a = answer_whole(out, &chunk[..n], registry, list);
             finish(n, n as u64, a)
         }
     }
@@ -111,12 +117,13 @@ fn serve_fresh(connection: &mut [u8], registry: &mut [u8], out: &mut [u8], chunk
 fn serve_held(
     connection: &mut [u8],
     registry: &mut [u8],
+    list: &[u8],
     out: &mut [u8],
     chunk: &[u8],
     held: usize,
 ) -> Handled
-    requires { ⌜ Ready (now connection) (now registry) (now chunk) (now out) × (stateOf (connectionOf (now connection)) ≡ State.Open held) ⌝ }
-    ensures { λ r. ⌜ ((c : Counters) → Carried c (effectOf (lentMemory (now (connection .entry)) (now (registry .entry)) c) (now (chunk .entry))) (now (connection .exit)) (now (registry .exit)) (now (out .entry)) (now (out .exit)) r) ⌝ }
+    requires { ⌜ Ready (now connection) (now registry) (now list) (now chunk) (now out) × (stateOf (connectionOf (now connection)) ≡ State.Open held) ⌝ }
+    ensures { λ r. ⌜ ((c : Counters) → Carried c (effectOf (now (list .entry)) (lentMemory (now (connection .entry)) (now (registry .entry)) c) (now (chunk .entry))) (now (connection .exit)) (now (registry .exit)) (now (out .entry)) (now (out .exit)) r) ⌝ }
 {
     let g = gather(connection, held, chunk);
     let used = g.used;
@@ -133,7 +140,7 @@ fn serve_held(
         }
         Frame::Whole(n) => {
             let end = BYTES_AT + n;
-            let a = answer_whole(out, &connection[BYTES_AT..end], registry);
+            let a = answer_whole(out, &connection[BYTES_AT..end], registry, list);
             reset(connection);
             finish(used, n as u64, a)
         }
@@ -157,17 +164,23 @@ fn drop_all(n: usize) -> Handled
     }
 }
 
-// A call that none of C1 to C4 refuses. C5 is left to the caller, who counts: no counter is looked at here.
-pub fn serve(connection: &mut [u8], registry: &mut [u8], out: &mut [u8], chunk: &[u8]) -> Handled
-    requires { ⌜ Ready (now connection) (now registry) (now chunk) (now out) ⌝ }
-    ensures { λ r. ⌜ ((c : Counters) → Carried c (effectOf (lentMemory (now (connection .entry)) (now (registry .entry)) c) (now (chunk .entry))) (now (connection .exit)) (now (registry .exit)) (now (out .entry)) (now (out .exit)) r) ⌝ }
+// A call that none of C1 to C4 and C6 refuses. C5 is left to the caller, who counts: no counter is looked at here.
+pub fn serve(
+    connection: &mut [u8],
+    registry: &mut [u8],
+    list: &[u8],
+    out: &mut [u8],
+    chunk: &[u8],
+) -> Handled
+    requires { ⌜ Ready (now connection) (now registry) (now list) (now chunk) (now out) ⌝ }
+    ensures { λ r. ⌜ ((c : Counters) → Carried c (effectOf (now (list .entry)) (lentMemory (now (connection .entry)) (now (registry .entry)) c) (now (chunk .entry))) (now (connection .exit)) (now (registry .exit)) (now (out .entry)) (now (out .exit)) r) ⌝ }
 {
     match read_state(connection) {
         State::Open(held) => {
             if held == 0 {
-                return serve_fresh(connection, registry, out, chunk);
+                return serve_fresh(connection, registry, list, out, chunk);
             }
-            serve_held(connection, registry, out, chunk, held)
+            serve_held(connection, registry, list, out, chunk, held)
         }
         State::Skipping(to_go) => skip(connection, out, 0, chunk.len(), to_go),
         State::Closed => drop_all(chunk.len()),

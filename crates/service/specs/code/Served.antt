@@ -14,6 +14,7 @@ use Rattle.stream.specs.code.Effects.{waiting, answering}
 use Rattle.stream.specs.Call.{Effect, callRule}
 use Rattle.connection.specs.Connection.{bytesAt, connectionSize, laidOut, connectionBytes, wellFormedConnection}
 use Rattle.registry.specs.WellFormed.{wellFormedRegistry}
+use Rattle.shipped.specs.Shipped.{wellFormedList}
 use Rattle.judgement.specs.Counts.{Counts}
 use Rattle.judgement.specs.Judgement.{judgement}
 use Rattle.answer.specs.declared.Answered.{Answered}
@@ -26,12 +27,13 @@ use Rattle.service.specs.Call.{Memory, stateIn, bufferLeast, chunkMost}
 use Rattle.service.specs.declared.Code.the-variants.{Taken}
 use Rattle.service.specs.declared.Handled.{Handled}
 
--- none of C1 to C4 applies
-pub record Ready (connection registry chunk buffer : List ℕ) : Type 0 where
+-- none of C1 to C4 and C6 applies
+pub record Ready (connection registry list chunk buffer : List ℕ) : Type 0 where
   pub buffer-good : bufferLeast ≤ length buffer
   pub chunk-good : length chunk ≤ chunkMost
   pub connection-good : wellFormedConnection connection ≡ true
   pub registry-good : wellFormedRegistry registry ≡ true
+  pub list-good : wellFormedList list ≡ true
 
 -- ---- what a call comes to
 
@@ -71,16 +73,16 @@ pub record Carried (c : Counters) (e : Effect (List ℕ) Counts (List ℕ)) (con
   pub modest : Modest (r .added)
 
 -- what a taken call does
-abbrev pub effectOf : Memory → (chunk : List ℕ) → Effect (List ℕ) Counts (List ℕ)
-effectOf m chunk = callRule judgement (stateIn m) chunk
+abbrev pub effectOf : (list : List ℕ) → Memory → (chunk : List ℕ) → Effect (List ℕ) Counts (List ℕ)
+effectOf list m chunk = callRule (judgement list) (stateIn m) chunk
 
 -- ---- an oversized request, of which `toGo` bytes are missing and `here` are at hand behind the `used` first bytes of the chunk
 
-unfoldable pub skipEffect : (registry : List ℕ) → Counters → (header : List ℕ) (used here toGo : ℕ) → Effect (List ℕ) Counts (List ℕ)
-skipEffect registry c header used here toGo =
+unfoldable pub skipEffect : (list registry : List ℕ) → Counters → (header : List ℕ) (used here toGo : ℕ) → Effect (List ℕ) Counts (List ℕ)
+skipEffect list registry c header used here toGo =
     let s : State (List ℕ) Counts = record { connection = closed; registry = registry; totals = totalsOf c } in
     if ltb here toGo then waiting s (used + here) (skipping header (toGo - here))
-    else answering s (used + toGo) (requestLength header) (judgement .onOversized registry (totalsOf c .counts) header) (opened [])
+    else answering s (used + toGo) (requestLength header) (judgement list .onOversized registry (totalsOf c .counts) header) (opened [])
 
 -- the header that a skipping connection holds
 abbrev pub headerAt : (connection : List ℕ) → List ℕ

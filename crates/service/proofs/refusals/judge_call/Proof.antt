@@ -45,13 +45,26 @@ returns-5 c =
     let sized = connected .before .before in
     rw (le-ltb _ _ (sized .before .if1 .left), le-ltb _ _ (sized .if2 .left), ← connected .before .is-well-formed .ensures, connected .if3 .left, ← registered .before .is-well-formed2 .ensures, registered .if4 .left, ← c .before .is-too-high .ensures, c .if5 .taken)
 
+is-well-formed-requires-3 : tie.Need-is-well-formed-requires-3
+is-well-formed-requires-3 c κs = search needs
+
 returns-6 : tie.Need-returns-6
 unfolding codeFor firstOf refusalTests
 returns-6 c =
-    let registered = c .before .before in
+    let counted = c .before .before in
+    let registered = counted .before .before in
     let connected = registered .before .before in
     let sized = connected .before .before in
-    rw (le-ltb _ _ (sized .before .if1 .left), le-ltb _ _ (sized .if2 .left), ← connected .before .is-well-formed .ensures, connected .if3 .left, ← registered .before .is-well-formed2 .ensures, registered .if4 .left, ← c .before .is-too-high .ensures, c .if5 .left)
+    rw (le-ltb _ _ (sized .before .if1 .left), le-ltb _ _ (sized .if2 .left), ← connected .before .is-well-formed .ensures, connected .if3 .left, ← registered .before .is-well-formed2 .ensures, registered .if4 .left, ← counted .before .is-too-high .ensures, counted .if5 .left, ← c .before .is-well-formed3 .ensures, c .if6 .taken)
+
+returns-7 : tie.Need-returns-7
+unfolding codeFor firstOf refusalTests
+returns-7 c =
+    let counted = c .before .before in
+    let registered = counted .before .before in
+    let connected = registered .before .before in
+    let sized = connected .before .before in
+    rw (le-ltb _ _ (sized .before .if1 .left), le-ltb _ _ (sized .if2 .left), ← connected .before .is-well-formed .ensures, connected .if3 .left, ← registered .before .is-well-formed2 .ensures, registered .if4 .left, ← counted .before .is-too-high .ensures, counted .if5 .left, ← c .before .is-well-formed3 .ensures, c .if6 .left)
 
 pub judge-call-spec : {M : Type 1} → statement M
 judge-call-spec =
@@ -65,4 +78,6 @@ judge-call-spec =
     returns-4
     is-too-high-requires
     returns-5
-    returns-6)
+    is-well-formed-requires-3
+    returns-6
+    returns-7)

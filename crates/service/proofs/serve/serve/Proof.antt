@@ -32,7 +32,7 @@ fresh : (k : Connection) (n : ℕ) → stateOf k ≡ Open n → n ≡ 0 → k �
 fresh k n o e = let x = state-open k n o in let long = x .long in x .is ∙ ap opened (drop-of-length-le (x .held) (let none : length (x .held) ≤ 0 = omega arith in none))
 
 -- a request is being skipped
-module _ (k registry chunk before : List ℕ) (toGo : ℕ) (ready : Ready k registry chunk before) (o : stateOf (connectionOf k) ≡ Skipping toGo) where
+module _ (list k registry chunk before : List ℕ) (toGo : ℕ) (ready : Ready k registry list chunk before) (o : stateOf (connectionOf k) ≡ Skipping toGo) where
   header : List ℕ
   header = state-skipping (connectionOf k) toGo o .header
 
@@ -53,16 +53,16 @@ module _ (k registry chunk before : List ℕ) (toGo : ℕ) (ready : Ready k regi
       (let few = ready .chunk-good in (let x : 0 + length chunk ≤ chunkMost = omega arith in x))
 
   answers-skip : (c : Counters) (left after : List ℕ) (r : Handled)
-      → Carried c (skipEffect registry c (headerAt k) 0 (length chunk) toGo) left registry before after r
-      → Carried c (effectOf (lentMemory k registry c) chunk) left registry before after r
+      → Carried c (skipEffect list registry c (headerAt k) 0 (length chunk) toGo) left registry before after r
+      → Carried c (effectOf list (lentMemory k registry c) chunk) left registry before after r
   answers-skip c left after r done =
       let s : State (List ℕ) Counts = stateWith (connectionOf k) registry c in
-      serves-skip k registry c chunk before header 0 (length chunk) toGo left after r
-      (λ less. call-skips judgement s header toGo chunk is less
+      serves-skip list k registry c chunk before header 0 (length chunk) toGo left after r
+      (λ less. call-skips (judgement list) s header toGo chunk is less
       ∙ ap (λ (x : ℕ). waiting s x (skipping header (toGo - length chunk))) (let x : length chunk ≡ 0 + length chunk = omega arith in x))
-      (λ more. call-skipped judgement s header toGo chunk is (well-skipping header toGo good .least) more
-      ∙ ap (λ (x : ℕ). answering s x (requestLength header) (judgement .onOversized registry (totalsOf c .counts) header) (opened [])) (let x : toGo ≡ 0 + toGo = omega arith in x))
-      (subst (λ (x : List ℕ). Carried c (skipEffect registry c x 0 (length chunk) toGo) left registry before after r) (header-there k header 1 toGo header-held (skipping-whole header toGo good)) done)
+      (λ more. call-skipped (judgement list) s header toGo chunk is (well-skipping header toGo good .least) more
+      ∙ ap (λ (x : ℕ). answering s x (requestLength header) (judgement list .onOversized registry (totalsOf c .counts) header) (opened [])) (let x : toGo ≡ 0 + toGo = omega arith in x))
+      (subst (λ (x : List ℕ). Carried c (skipEffect list registry c x 0 (length chunk) toGo) left registry before after r) (header-there k header 1 toGo header-held (skipping-whole header toGo good)) done)
 
 read-state-requires : tie.Need-read-state-requires
 read-state-requires c κs = search needs
@@ -72,7 +72,7 @@ enum-known-held c = search needs
 
 serve-fresh-requires : tie.Need-serve-fresh-requires
 serve-fresh-requires c κs =
-    let s = c .before .before .before .before .before .before .before .before .before .before .before .before .before in
+    let s = c .before .before .before .before .before .before .before .before .before .before .before .before .before .before in
     let o = sym (c .before .before .before .before .before .before .before .read-state .ensures) ∙ c .before .before .before .before .before .held .given .1 in
     (s .pre, fresh (connectionOf (s .args .connection .now)) _ o (c .before .before .before .if1 .taken))
 
@@ -89,16 +89,16 @@ returns : tie.Need-returns
 returns c = search needs
 
 serve-held-requires : tie.Need-serve-held-requires
-serve-held-requires c κs = (c .before .before .before .before .before .before .before .before .before .before .before .before .before .pre, sym (c .before .before .before .before .before .before .before .read-state .ensures) ∙ c .before .before .before .before .before .held .given .1)
+serve-held-requires c κs = (c .before .before .before .before .before .before .before .before .before .before .before .before .before .before .pre, sym (c .before .before .before .before .before .before .before .read-state .ensures) ∙ c .before .before .before .before .before .held .given .1)
 
 enum-known-to-go : tie.Need-enum-known-to-go
 enum-known-to-go c = search needs
 
 skip-requires : tie.Need-skip-requires
 skip-requires c κs =
-    let s = c .before .before .before .before .before .before .before .before .before .before .before in
+    let s = c .before .before .before .before .before .before .before .before .before .before .before .before in
     let a = s .args in
-    skips (a .connection .now) (a .registry .now) (a .chunk .now) (a .out .now) (c .before .before .before .to-go .given .0 .0) (s .pre) (sym (c .before .before .before .before .before .read-state .ensures) ∙ c .before .before .before .to-go .given .1)
+    skips (a .list .now) (a .connection .now) (a .registry .now) (a .chunk .now) (a .out .now) (c .before .before .before .to-go .given .0 .0) (s .pre) (sym (c .before .before .before .before .before .read-state .ensures) ∙ c .before .before .before .to-go .given .1)
 
 enum-told : tie.Need-enum-told
 enum-told c = search needs
@@ -126,23 +126,23 @@ same-length-8 c = search needs
 
 returns-3 : tie.Need-returns-3
 returns-3 c =
-    let s = c .before .before .before .before .before .before .before .before .before .before .before .before .before .before .before .before in
+    let s = c .before .before .before .before .before .before .before .before .before .before .before .before .before .before .before .before .before in
     let a = s .args in
     let skip = c .before .before .before .before .skip in
     λ counters.
-    answers-skip (a .connection .now) (a .registry .now) (a .chunk .now) (a .out .now) (c .before .before .before .before .before .before .before .before .to-go .given .0 .0) (s .pre) (sym (c .before .before .before .before .before .before .before .before .before .before .read-state .ensures) ∙ c .before .before .before .before .before .before .before .before .to-go .given .1) counters
-    (skip .last .0) (skip .last .1 .0) (skip .result) (skip .ensures (a .registry .now) counters)
+    answers-skip (a .list .now) (a .connection .now) (a .registry .now) (a .chunk .now) (a .out .now) (c .before .before .before .before .before .before .before .before .to-go .given .0 .0) (s .pre) (sym (c .before .before .before .before .before .before .before .before .before .before .read-state .ensures) ∙ c .before .before .before .before .before .before .before .before .to-go .given .1) counters
+    (skip .last .0) (skip .last .1 .0) (skip .result) (skip .ensures (a .list .now) (a .registry .now) counters)
 
 same-length-9 : tie.Need-same-length-9
 same-length-9 c = search needs
 
 returns-4 : tie.Need-returns-4
 returns-4 c =
-    let s = c .before .before .before .before .before .before .before .before .before in
+    let s = c .before .before .before .before .before .before .before .before .before .before in
     let a = s .args in
     let shut = state-closed (connectionOf (a .connection .now)) (sym (c .before .before .before .read-state .ensures) ∙ c .before .enum-told .given .1) in
     λ counters.
-    serves-drop (a .connection .now) (a .registry .now) counters (a .chunk .now) (a .out .now) (a .connection .now) (a .out .now) (c .drop-all .result) shut (s .pre .chunk-good) (c .drop-all .ensures)
+    serves-drop (a .list .now) (a .connection .now) (a .registry .now) counters (a .chunk .now) (a .out .now) (a .connection .now) (a .out .now) (c .drop-all .result) shut (s .pre .chunk-good) (c .drop-all .ensures)
     (memory-is (a .connection .now) (s .pre .connection-good) closed shut) refl
 
 pub serve-spec : {M : Type 1} → statement M

@@ -31,12 +31,12 @@ nothing : next [] ≡ unfinished
 nothing = next-unfinished [] (short (omega arith))
 
 -- a whole request, read where it lies
-fresh-whole : (k registry : List ℕ) (c : Counters) (chunk : List ℕ) (n : ℕ) → connectionOf k ≡ opened [] → next chunk ≡ whole n
-    → (let s = stateWith (connectionOf k) registry c in callRule judgement s chunk ≡ answering s n n (judge judgement registry (totalsOf c .counts) (take n chunk)) (opened []))
-fresh-whole k registry c chunk n e w =
+fresh-whole : (list k registry : List ℕ) (c : Counters) (chunk : List ℕ) (n : ℕ) → connectionOf k ≡ opened [] → next chunk ≡ whole n
+    → (let s = stateWith (connectionOf k) registry c in callRule (judgement list) s chunk ≡ answering s n n (judge (judgement list) registry (totalsOf c .counts) (take n chunk)) (opened []))
+fresh-whole list k registry c chunk n e w =
     let s : State (List ℕ) Counts = stateWith (connectionOf k) registry c in
-    call-whole judgement s [] chunk e nothing n w
-    ∙ ap (λ (x : ℕ). answering s x n (judge judgement registry (totalsOf c .counts) (take n chunk)) (opened [])) (let z : n - 0 ≡ n = omega arith in z)
+    call-whole (judgement list) s [] chunk e nothing n w
+    ∙ ap (λ (x : ℕ). answering s x n (judge (judgement list) registry (totalsOf c .counts) (take n chunk)) (opened [])) (let z : n - 0 ≡ n = omega arith in z)
 
 -- the header that an open connection holds becomes one to skip
 laid-skipping : (before after header : List ℕ) (toGo : ℕ) → before ≡ connectionBytes (opened header)
@@ -53,7 +53,7 @@ enum-told c = search needs
 
 append-requires : tie.Need-append-requires
 append-requires c κs =
-    let s = c .before .before .before .before .before .before .before .before in
+    let s = c .before .before .before .before .before .before .before .before .before in
     let begun = frame-unfinished (next (s .args .chunk .now)) (sym (c .before .before .before .read-frame .ensures) ∙ c .before .enum-told .given .1) in
     let few = held-most (s .args .chunk .now) begun in
     (well-size (s .args .connection .now) (s .pre .0 .connection-good), omega arith)
@@ -68,7 +68,7 @@ answer-bad-start-requires : tie.Need-answer-bad-start-requires
 answer-bad-start-requires c κs = search needs
 
 close-requires : tie.Need-close-requires
-close-requires c κs = well-size _ (c .before .before .before .before .before .before .before .before .before .before .before .before .pre .0 .connection-good)
+close-requires c κs = well-size _ (c .before .before .before .before .before .before .before .before .before .before .before .before .before .pre .0 .connection-good)
 
 finish-requires : tie.Need-finish-requires
 finish-requires c κs = search needs
@@ -78,7 +78,7 @@ enum-known-header c = search needs
 
 slice-aggregate-append : tie.Need-slice-aggregate-append
 slice-aggregate-append c =
-    let chunk : List ℕ = c .before .before .before .before .before .before .before .before .before .before .args .chunk .now in
+    let chunk : List ℕ = c .before .before .before .before .before .before .before .before .before .before .before .args .chunk .now in
     let f = frame-skipped (next chunk) _ _ (sym (c .before .before .before .before .before .read-frame .ensures) ∙ c .before .before .before .header .given .1) in
     let part = header-part chunk (f .header) _ (f .is) in
     let long = f .long in
@@ -86,7 +86,7 @@ slice-aggregate-append c =
 
 append-requires-2 : tie.Need-append-requires-2
 append-requires-2 c κs =
-    let s = c .before .before .before .before .before .before .before .before .before .before in
+    let s = c .before .before .before .before .before .before .before .before .before .before .before in
     let chunk : List ℕ = s .args .chunk .now in
     let f = frame-skipped (next chunk) _ _ (sym (c .before .before .before .before .before .read-frame .ensures) ∙ c .before .before .before .header .given .1) in
     let part = header-part chunk (f .header) _ (f .is) in
@@ -97,7 +97,7 @@ append-requires-2 c κs =
 set-skipping-requires : tie.Need-set-skipping-requires
 unfolding connectionBytes
 set-skipping-requires c κs =
-    let s = c .before .before .before .before .before .before .before .before .before .before .before .before .before .before in
+    let s = c .before .before .before .before .before .before .before .before .before .before .before .before .before .before .before in
     let chunk : List ℕ = s .args .chunk .now in
     let f = frame-skipped (next chunk) _ _ (sym (c .before .before .before .before .before .before .before .before .before .read-frame .ensures) ∙ c .before .before .before .before .before .before .before .header .given .1) in
     let part = header-part chunk (f .header) _ (f .is) in
@@ -115,16 +115,16 @@ enum-known-n c = search needs
 
 slice-aggregate-answer-whole : tie.Need-slice-aggregate-answer-whole
 slice-aggregate-answer-whole c =
-    let chunk : List ℕ = c .before .before .before .before .before .before .before .before .before .before .args .chunk .now in
+    let chunk : List ℕ = c .before .before .before .before .before .before .before .before .before .before .before .args .chunk .now in
     let w = whole-part chunk _ (frame-whole (next chunk) _ (sym (c .before .before .before .before .before .read-frame .ensures) ∙ c .before .before .before .n .given .1)) in
     sym (length-take-le _ chunk (w .fits))
 
 answer-whole-requires : tie.Need-answer-whole-requires
 answer-whole-requires c κs =
-    let s = c .before .before .before .before .before .before .before .before .before .before .before in
+    let s = c .before .before .before .before .before .before .before .before .before .before .before .before in
     let chunk : List ℕ = s .args .chunk .now in
     let w = whole-part chunk _ (frame-whole (next chunk) _ (sym (c .before .before .before .before .before .before .read-frame .ensures) ∙ c .before .before .before .before .n .given .1)) in
-    (w .legal, w .long, s .pre .0 .registry-good, s .pre .0 .buffer-good)
+    (w .legal, w .long, s .pre .0 .registry-good, s .pre .0 .buffer-good, s .pre .0 .list-good)
 
 finish-requires-2 : tie.Need-finish-requires-2
 finish-requires-2 c κs = search needs
@@ -134,14 +134,14 @@ same-length c = search needs
 
 returns : tie.Need-returns
 returns c =
-    let s = c .before .before .before .before .before .before .before .before .before .before .before .before in
+    let s = c .before .before .before .before .before .before .before .before .before .before .before .before .before in
     let a = s .args in
     let chunk : List ℕ = a .chunk .now in
     let k : List ℕ = a .connection .now in
     let begun = frame-unfinished (next chunk) (sym (c .before .before .before .before .before .before .before .read-frame .ensures) ∙ c .before .before .before .before .before .enum-told .given .1) in
     λ counters.
-    serves-wait k (a .registry .now) counters chunk (a .out .now) (length chunk) (opened chunk) (c .before .before .before .append .last .0) (a .out .now) (c .wait .result)
-    (call-unfinished judgement (stateWith (connectionOf k) (a .registry .now) counters) [] chunk (s .pre .1) nothing begun)
+    serves-wait (a .list .now) k (a .registry .now) counters chunk (a .out .now) (length chunk) (opened chunk) (c .before .before .before .append .last .0) (a .out .now) (c .wait .result)
+    (call-unfinished (judgement (a .list .now)) (stateWith (connectionOf k) (a .registry .now) counters) [] chunk (s .pre .1) nothing begun)
     (s .pre .0 .chunk-good)
     (c .wait .ensures)
     (c .before .before .before .append .ensures [] refl (memory-is k (s .pre .0 .connection-good) (opened []) (s .pre .1)))
@@ -155,18 +155,18 @@ same-length-3 c = search needs
 
 returns-2 : tie.Need-returns-2
 returns-2 c =
-    let s = c .before .before .before .before .before .before .before .before .before .before .before .before .before .before .before .before in
+    let s = c .before .before .before .before .before .before .before .before .before .before .before .before .before .before .before .before .before in
     let a = s .args in
     let chunk : List ℕ = a .chunk .now in
     let k : List ℕ = a .connection .now in
     let bad = frame-bad (next chunk) (sym (c .before .before .before .before .before .before .before .before .before .before .before .read-frame .ensures) ∙ c .before .before .before .before .before .before .before .before .before .enum-told2 .given .1) in
     let answer = c .before .before .before .before .before .before .before .answer-bad-start in
     λ counters.
-    serves-answer k (a .registry .now) counters chunk (a .out .now) (λ x. judgement .onBadStart (a .registry .now) x) 6 6 closed
+    serves-answer (a .list .now) k (a .registry .now) counters chunk (a .out .now) (λ x. judgement (a .list .now) .onBadStart (a .registry .now) x) 6 6 closed
     (c .before .before .before .close .last .0) (a .registry .now) (answer .last .0) (answer .result) (c .finish .result)
-    (bad-steady (a .registry .now))
-    (call-bad judgement (stateWith (connectionOf k) (a .registry .now) counters) [] chunk (s .pre .1) nothing bad)
-    (answer .ensures (a .registry .now))
+    (bad-steady (a .list .now) (a .registry .now))
+    (call-bad (judgement (a .list .now)) (stateWith (connectionOf k) (a .registry .now) counters) [] chunk (s .pre .1) nothing bad)
+    (answer .ensures (a .list .now) (a .registry .now))
     (omega arith)
     (lit< tt)
     (c .finish .ensures)
@@ -177,7 +177,7 @@ same-length-4 c = search needs
 
 returns-3 : tie.Need-returns-3
 returns-3 c =
-    let s = c .before .before .before .before .before .before .before .before .before .before .before .before .before .before .before .before .before .before in
+    let s = c .before .before .before .before .before .before .before .before .before .before .before .before .before .before .before .before .before .before .before in
     let a = s .args in
     let chunk : List ℕ = a .chunk .now in
     let k : List ℕ = a .connection .now in
@@ -185,8 +185,8 @@ returns-3 c =
     let part : take (c .before .before .before .before .before .before .before .before .before .before .before .header .given .0 .0) chunk ≡ f .header = ap (λ (n : ℕ). take n chunk) (sym (f .long)) ∙ header-part chunk (f .header) _ (f .is) .1 in
     let held = c .before .before .before .before .before .before .before .append2 .ensures [] refl (memory-is k (s .pre .0 .connection-good) (opened []) (s .pre .1)) in
     λ counters.
-    serves-wait k (a .registry .now) counters chunk (a .out .now) (length chunk) (skipping (f .header) (c .before .before .before .before .before .before .before .before .before .before .before .header .given .0 .1 .0)) (c .before .before .before .set-skipping .last .0) (a .out .now) (c .wait2 .result)
-    (call-large judgement (stateWith (connectionOf k) (a .registry .now) counters) [] chunk (s .pre .1) nothing (f .header) _ (f .is))
+    serves-wait (a .list .now) k (a .registry .now) counters chunk (a .out .now) (length chunk) (skipping (f .header) (c .before .before .before .before .before .before .before .before .before .before .before .header .given .0 .1 .0)) (c .before .before .before .set-skipping .last .0) (a .out .now) (c .wait2 .result)
+    (call-large (judgement (a .list .now)) (stateWith (connectionOf k) (a .registry .now) counters) [] chunk (s .pre .1) nothing (f .header) _ (f .is))
     (s .pre .0 .chunk-good)
     (c .wait2 .ensures)
     (laid-skipping (c .before .before .before .before .before .before .before .append2 .last .0) (c .before .before .before .set-skipping .last .0) (f .header) _ (held ∙ ap (λ (x : List ℕ). connectionBytes (opened x)) part) (c .before .before .before .set-skipping .ensures))
@@ -200,7 +200,7 @@ same-length-6 c = search needs
 
 returns-4 : tie.Need-returns-4
 returns-4 c =
-    let s = c .before .before .before .before .before .before .before .before .before .before .before .before .before .before .before .before .before in
+    let s = c .before .before .before .before .before .before .before .before .before .before .before .before .before .before .before .before .before .before in
     let a = s .args in
     let chunk : List ℕ = a .chunk .now in
     let k : List ℕ = a .connection .now in
@@ -212,10 +212,10 @@ returns-4 c =
     let fits : n ≤ chunkMost = omega arith in
     let small : n < 2 ^ 40 = omega (arith, fits) in
     λ counters.
-    serves-answer k (a .registry .now) counters chunk (a .out .now) (λ x. judge judgement (a .registry .now) x (take n chunk)) n n (opened [])
+    serves-answer (a .list .now) k (a .registry .now) counters chunk (a .out .now) (λ x. judge (judgement (a .list .now)) (a .registry .now) x (take n chunk)) n n (opened [])
     k (answer .last .1 .1 .0) (answer .last .0) (answer .result) (c .finish2 .result)
-    (judge-steady (a .registry .now) (take n chunk))
-    (fresh-whole k (a .registry .now) counters chunk n (s .pre .1) w)
+    (judge-steady (a .list .now) (a .registry .now) (take n chunk))
+    (fresh-whole (a .list .now) k (a .registry .now) counters chunk n (s .pre .1) w)
     (answer .ensures)
     fits
     small

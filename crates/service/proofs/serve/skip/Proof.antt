@@ -50,9 +50,9 @@ returns c =
     let a = s .args in
     let m : List ℕ = a .connection .now in
     let less : a .here < a .to-go = omega arith in
-    λ registry counters.
+    λ list registry counters.
     subst (λ (e : Effect (List ℕ) Counts (List ℕ)). Carried counters e (c .before .before .before .set-skipping .last .0) registry (a .out .now) (a .out .now) (c .wait .result))
-    (sym (skip-waits registry counters (headerAt m) (a .used) (a .here) (a .to-go) less))
+    (sym (skip-waits list registry counters (headerAt m) (a .used) (a .here) (a .to-go) less))
     (carried-wait closed registry counters (a .used + a .here) (skipping (headerAt m) (a .to-go - a .here)) _ _ _ _ (s .pre .used-good) (c .wait .ensures)
     (c .before .before .before .set-skipping .ensures (s .pre .kind) (s .pre .number) (headerAt m) (s .pre .laid)) refl)
 
@@ -106,11 +106,11 @@ same-size m long =
     ∙ requestLength-append (headerAt m) (drop (headerLength (drop 9 m)) (drop 9 m)) long
 
 -- the answer to what stands there is that to the header
-answered-header : (registry m before after : List ℕ) (r : Answered)
-    → AnsweredBy (λ k. judgement .onOversized registry k (take (headerLength (take (length m - 9) (drop 9 m))) (take (length m - 9) (drop 9 m)))) registry before after r
-    → AnsweredBy (λ k. judgement .onOversized registry k (headerAt m)) registry before after r
-answered-header registry m before after r =
-    subst (λ (b : List ℕ). AnsweredBy (λ k. judgement .onOversized registry k (take (headerLength b) b)) registry before after r) (lent 9 m)
+answered-header : (list registry m before after : List ℕ) (r : Answered)
+    → AnsweredBy (λ k. judgement list .onOversized registry k (take (headerLength (take (length m - 9) (drop 9 m))) (take (length m - 9) (drop 9 m)))) registry before after r
+    → AnsweredBy (λ k. judgement list .onOversized registry k (headerAt m)) registry before after r
+answered-header list registry m before after r =
+    subst (λ (b : List ℕ). AnsweredBy (λ k. judgement list .onOversized registry k (take (headerLength b) b)) registry before after r) (lent 9 m)
 
 returns-2 : tie.Need-returns-2
 unfolding judgement refusedEarly
@@ -124,13 +124,13 @@ returns-2 c =
     let w = c .before .before .before .before .before .before .before .answer-skipped in
     let used = s .pre .used-good in
     let few : a .used + a .to-go ≤ chunkMost = omega (arith, more, used) in
-    λ registry counters.
+    λ list registry counters.
     subst (λ (e : Effect (List ℕ) Counts (List ℕ)). Carried counters e (c .before .before .before .reset .last .0) registry (a .out .now) (w .last .0) (c .finish .result))
-    (ap (λ (n : ℕ). answering (stateWith closed registry counters) (a .used + a .to-go) n (judgement .onOversized registry (totalsOf counters .counts) (headerAt m)) (opened [])) size
-    ∙ sym (skip-answers registry counters (headerAt m) (a .used) (a .here) (a .to-go) more))
-    (carried-answer closed registry counters (λ k. judgement .onOversized registry k (headerAt m)) (a .used + a .to-go) (f .request-length .result) (opened [])
+    (ap (λ (n : ℕ). answering (stateWith closed registry counters) (a .used + a .to-go) n (judgement list .onOversized registry (totalsOf counters .counts) (headerAt m)) (opened [])) size
+    ∙ sym (skip-answers list registry counters (headerAt m) (a .used) (a .here) (a .to-go) more))
+    (carried-answer closed registry counters (λ k. judgement list .onOversized registry k (headerAt m)) (a .used + a .to-go) (f .request-length .result) (opened [])
     (c .before .before .before .reset .last .0) registry (a .out .now) (w .last .0) (w .result) (c .finish .result) few (f .request-length .ensures .1)
-    (answered-header registry m (a .out .now) (w .last .0) (w .result) (w .ensures registry)) refl refl (c .finish .ensures) (c .before .before .before .reset .ensures))
+    (answered-header list registry m (a .out .now) (w .last .0) (w .result) (w .ensures list registry)) refl refl (c .finish .ensures) (c .before .before .before .reset .ensures))
 
 pub skip-spec : {M : Type 1} → statement M
 skip-spec =
