@@ -21,7 +21,8 @@ use Rattle.registry.specs.Names.{indexFrom}
 use Rattle.keys.specs.Key.{legalData, legalBits, importBits}
 use Rattle.registry.specs.Slots.{Entry, free, held, keyBytes, slotBytes, slotOf}
 use Rattle.registry.specs.Registry.{slotCount, applicationNamed, slotsOf, slotNamed, changed, lineOf, registryOf}
-use Rattle.roster.specs.Roster.{faultNumber, recordFaults, Roster, applications, faulty, recordTurn, rosterOf}
+use Rattle.records.specs.Records.{isWhole, recordTurn, readRecords}
+use Rattle.roster.specs.Roster.{faultNumber, recordFaults, Roster, applications, faulty, recordStep, rosterOf}
 use Rattle.stream.specs.Frame.{legalStart, oversized, next}
 use Rattle.stream.specs.Rules.{Outcome, heldBytes, answer, finish, judge, rulesWithin, rulesFrom, start, rules}
 use Rattle.judgement.specs.Status.{statusNumber}
@@ -55,8 +56,8 @@ startOf (faulty fault) = []
 
 -- all that a case computes with
 unfoldable pub showing : (roster stream : List ℕ) → Shown
-unfolding rosterOf recordTurn recordFaults firstOf legalName field littleEndian registryOf lineOf flatten rules rulesFrom rulesWithin start answer finish judge next legalStart oversized judgement noCounts requestOf resultOf refusals oneOf opcodesOf isSome applicationOf applicationNamed indexFrom operated operationOf readBody scanAt scanFrom stepAt itemOf fieldAt contentAt numberAt spanAt fixedAt groupAt varintOf withValue perform performImport performDestroy performExport exportOf performListOpcodes success refuse numberField bytesField packedField flatMap varint varintWithin importable importBits legalData legalBits slotNamed keyBytes slotBytes askersSlots verdictOf refusedEarly oversizedStatus responseBytes responseHeader littleEndianOf statusNumber changedBy changed count countServed countRefused increment indexOf slotsOf slotOf billOf textLine decimal digitsBefore applicationLines refusedLines heldBytes ascii shownBy startOf bill billFor refusedRoster faultNumber listed messageBytes readMessage packedOf outputBytes bind
-showing roster stream = shownBy (rules judgement (startOf (rosterOf roster)) stream) (bill (some roster) (some stream))
+unfolding rosterOf readRecords recordTurn isWhole recordStep recordFaults firstOf legalName field littleEndian registryOf lineOf flatten rules rulesFrom rulesWithin start answer finish judge next legalStart oversized judgement noCounts requestOf resultOf refusals oneOf opcodesOf isSome applicationOf applicationNamed indexFrom operated operationOf readBody scanAt scanFrom stepAt itemOf fieldAt contentAt numberAt spanAt fixedAt groupAt varintOf withValue perform performImport performDestroy performExport exportOf performListOpcodes success refuse numberField bytesField packedField flatMap varint varintWithin importable importBits legalData legalBits slotNamed keyBytes slotBytes askersSlots verdictOf refusedEarly oversizedStatus responseBytes responseHeader littleEndianOf statusNumber changedBy changed count countServed countRefused increment indexOf slotsOf slotOf billOf textLine decimal digitsBefore applicationLines refusedLines heldBytes ascii shownBy startOf bill billFor refusedRoster faultNumber listed messageBytes readMessage packedOf outputBytes bind
+showing roster stream = shownBy (rules (judgement []) (startOf (rosterOf roster)) stream) (bill (some roster) (some stream))
 
 -- ---- a table holds
 

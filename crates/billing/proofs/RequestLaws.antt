@@ -40,7 +40,7 @@ zeros-front zero n = refl
 zeros-front (suc k) zero = refl
 zeros-front (suc k) (suc n) = omega (arith, zeros-front k n)
 
-module _ (names : List (List ℕ)) (legal : LegalNames names) where
+module _ (list : List ℕ) (names : List (List ℕ)) (legal : LegalNames names) where
   -- a well-formed registry with the roster's names
   abbrev Named : (registry : List ℕ) → Type 0
   Named registry = (wellFormedRegistry registry ≡ true) × (namesIn registry ≡ names ++ replicate (lineCount - length names) [])
@@ -48,14 +48,14 @@ module _ (names : List (List ℕ)) (legal : LegalNames names) where
   abbrev servedOn : List ℕ → ℕ
   servedOn l = sum (take (length names) l)
 
-  named-kept : (r : List ℕ) (c : Counts) (request : List ℕ) → Named r → Named (verdictOn judgement r c request .registry)
+  named-kept : (r : List ℕ) (c : Counts) (request : List ℕ) → Named r → Named (verdictOn (judgement list) r c request .registry)
   unfolding verdictOn judgement refusedEarly
   named-kept r c request (good, same) =
       either (λ (v : Verdict (List ℕ) Counts (List ℕ)). Named (v .registry)) (legalStart request)
-      (λ _. (judge-good r c request good, judge-names r c request good ∙ same))
+      (λ _. (judge-good list r c request good, judge-names list r c request good ∙ same))
       (λ _. (good, same))
 
-  adds-named : Adds servedOn Named
+  adds-named : Adds servedOn Named list
   adds-named = record {
     nothing = zeros-front (length names) lineCount;
     one = λ r line l (good, same) used long.
@@ -66,8 +66,8 @@ module _ (names : List (List ℕ)) (legal : LegalNames names) where
   }
 
   -- every answered request stands on the bill once
-  pub bill-requests : (stream : List ℕ) → requestsOn names (rules judgement (registryOf names) stream .state) ≡ length (partsOf stream .answered)
+  pub bill-requests : (stream : List ℕ) → requestsOn names (rules (judgement list) (registryOf names) stream .state) ≡ length (partsOf stream .answered)
   unfolding requestsOn judgement noCounts
   bill-requests stream =
-      rules-counted judgement (countedBy servedOn Named) (Room servedOn Named) (each-counted servedOn Named adds-named)
+      rules-counted (judgement list) (countedBy servedOn Named) (Room servedOn Named) (each-counted servedOn Named list adds-named)
       (registryOf names) ((registry-good names legal, registry-names names legal), (refl, refl)) stream

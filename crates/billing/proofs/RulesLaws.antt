@@ -42,38 +42,38 @@ module _ (names : List (List ℕ)) (legal : LegalNames names) where
   registry-used = ap usedNames (registry-names names legal) ∙ used-first names (lineCount - length names) (legal .legal)
 
   -- the bill of what the rules leave in memory
-  pub bill-by-rules : (stream : List ℕ) → billIn (memoryOf (rules judgement (registryOf names) stream .state)) ≡ billFor (applications names) stream
+  pub bill-by-rules : (list stream : List ℕ) → billIn (memoryOf (rules (judgement list) (registryOf names) stream .state)) ≡ billFor list (applications names) stream
   unfolding billIn billFor Lawful layout memoryOf
-  bill-by-rules stream =
+  bill-by-rules list stream =
       ap₂ billOf
-      (ap usedNames (rules-names (registryOf names) (registry-good names legal) stream) ∙ registry-used)
-      (lawful (rules judgement (registryOf names) stream .state) (rules-connection judgement (registryOf names) stream))
+      (ap usedNames (rules-names list (registryOf names) (registry-good names legal) stream) ∙ registry-used)
+      (lawful (rules (judgement list) (registryOf names) stream .state) (rules-connection (judgement list) (registryOf names) stream))
 
 -- the bill of what calls left in memory, for a roster file with these names and the joined stream of taken bytes
-pub record BillOfCalls (file : List ℕ) (names : List (List ℕ)) (stream : List ℕ) (m : Memory) : Type 0 where
+pub record BillOfCalls (list file : List ℕ) (names : List (List ℕ)) (stream : List ℕ) (m : Memory) : Type 0 where
   -- its text is document 01's
-  pub text : billIn m ≡ billFor (rosterOf file) stream
+  pub text : billIn m ≡ billFor list (rosterOf file) stream
   -- the bytes on it are those of answered requests, those dropped and those held: every byte of the stream, once
   pub bytes : stateIn m .totals .taken ≡ length (flatten (partsOf stream .answered)) + stateIn m .totals .dropped + heldBytes (stateIn m .connection)
   -- the requests on it are the answered ones, each once
   pub requests : requestsOn names (stateIn m) ≡ length (partsOf stream .answered)
 
--- any calls of the code, from a fresh connection, zero counters and the registry of a good roster file
-pub bill-of-calls : (file : List ℕ) (names : List (List ℕ)) → rosterOf file ≡ applications names
-    → (calls : List Call) (runs : List Ran) → Runs (fresh (registryOf names)) calls runs
-    → BillOfCalls file names (takenStream calls (answersIn runs)) (leftAfter (fresh (registryOf names)) runs)
+-- any calls of the code, all lent this list, from a fresh connection, zero counters and the registry of a good roster file
+pub bill-of-calls : (list file : List ℕ) (names : List (List ℕ)) → rosterOf file ≡ applications names
+    → (calls : List Call) (runs : List Ran) → Runs list (fresh (registryOf names)) calls runs
+    → BillOfCalls list file names (takenStream calls (answersIn runs)) (leftAfter (fresh (registryOf names)) runs)
 unfolding stateIn totalsOf Lawful layout
-bill-of-calls file names good calls runs p =
+bill-of-calls list file names good calls runs p =
     let legal = roster-legal file names good in
     let stream : List ℕ = takenStream calls (answersIn runs) in
-    let follows = code-demand3 (registryOf names) .follows calls runs p in
+    let follows = code-demand3 list (registryOf names) .follows calls runs p in
     let accounted = follows .accounted in
     let answered = follows .answered in
-    let state : stateIn (leftAfter (fresh (registryOf names)) runs) ≡ rules judgement (registryOf names) stream .state
+    let state : stateIn (leftAfter (fresh (registryOf names)) runs) ≡ rules (judgement list) (registryOf names) stream .state
     = ap stateIn (follows .memory)
-    ∙ lawful (rules judgement (registryOf names) stream .state) (rules-connection judgement (registryOf names) stream) in
+    ∙ lawful (rules (judgement list) (registryOf names) stream .state) (rules-connection (judgement list) (registryOf names) stream) in
     record {
-      text = rw good (ap billIn (follows .memory) ∙ bill-by-rules names legal stream);
+      text = rw good (ap billIn (follows .memory) ∙ bill-by-rules names legal list stream);
       bytes = omega arith;
-      requests = ap (requestsOn names) state ∙ bill-requests names legal stream;
+      requests = ap (requestsOn names) state ∙ bill-requests list names legal stream;
     }

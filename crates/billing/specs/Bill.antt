@@ -68,13 +68,14 @@ refusedRoster fault = ascii "roster R" ++ textLine (decimal (faultNumber fault))
 unfoldable pub noFile : List ℕ
 noFile = textLine (ascii "no file") []
 
--- the start has the roster's names and no keys; a refused roster prints one line only
-unfoldable pub billFor : Roster → (stream : List ℕ) → List ℕ
-billFor (applications names) stream = billOf names (rules judgement (registryOf names) stream .state)
-billFor (faulty fault) stream = refusedRoster fault
+-- the start has the roster's names and no keys, and the list of keys that we ship is the same for all of the stream; a refused
+-- roster prints one line only
+unfoldable pub billFor : (list : List ℕ) → Roster → (stream : List ℕ) → List ℕ
+billFor list (applications names) stream = billOf names (rules (judgement list) (registryOf names) stream .state)
+billFor list (faulty fault) stream = refusedRoster fault
 
 -- `none` is a file that can't be read
 unfoldable pub bill : (roster stream : Option (List ℕ)) → List ℕ
 bill none stream = noFile
 bill (some roster) none = noFile
-bill (some roster) (some stream) = billFor (rosterOf roster) stream
+bill (some roster) (some stream) = billFor [] (rosterOf roster) stream
