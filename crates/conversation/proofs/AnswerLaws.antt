@@ -24,36 +24,36 @@ use Rattle.conversation.proofs.Asked.{Writable, read-as-written}
 use Rattle.conversation.proofs.Answered.{askedFor, result-read}
 use Rattle.conversation.proofs.Results.{result-sound}
 
-module _ (registry : List ℕ) (counts : Counts) (good : wellFormedRegistry registry ≡ true)
+module _ (list registry : List ℕ) (counts : Counts) (good : wellFormedRegistry registry ≡ true)
     (session : ℕ) (sender : Sender) (operation : Operation) (writable : Writable sender operation) where
   abbrev q : Request
   q = requestFor session sender operation
 
   -- what the rules make of it
   abbrev pub result : Result
-  result = resultOf registry q
+  result = resultOf list registry q
 
   -- the verdict is that of the request as it was written
-  pub verdict-is : judge judgement registry counts (requestBytes q) ≡ verdictOf registry counts q result
+  pub verdict-is : judge (judgement list) registry counts (requestBytes q) ≡ verdictOf registry counts q result
   unfolding judge judgement
   verdict-is =
       let r = read-as-written session sender operation writable in
       rw (r .within, r .fields)
 
-  pub response-is : judge judgement registry counts (requestBytes q) .response
+  pub response-is : judge (judgement list) registry counts (requestBytes q) .response
       ≡ responseBytes (providerOf operation) session (opcodeOf operation) (statusNumber (result .status)) (outputBytes protobuf (result .output))
   unfolding verdictOf requestFor
   response-is = ap (λ (v : Verdict (List ℕ) Counts (List ℕ)). v .response) verdict-is
 
   pub short-output : length (outputBytes protobuf (result .output)) ≤ contentMost
   short-output =
-      let s = judge-short registry counts (requestBytes q) good in
+      let s = judge-short list registry counts (requestBytes q) good in
       let e = ap length response-is in
       let l = response-long (providerOf operation) session (opcodeOf operation) (statusNumber (result .status)) (outputBytes protobuf (result .output)) [] in
       omega arith
 
   pub answer-read : (rest : List ℕ)
-      → found (askedFor session operation) (judge judgement registry counts (requestBytes q) .response ++ rest) ≡ some (answered (statusNumber (result .status)) (result .output))
+      → found (askedFor session operation) (judge (judgement list) registry counts (requestBytes q) .response ++ rest) ≡ some (answered (statusNumber (result .status)) (result .output))
   answer-read rest =
       ap (λ (b : List ℕ). found (askedFor session operation) (b ++ rest)) response-is
-      ∙ result-read session operation result rest (result-sound registry good session sender operation writable) short-output
+      ∙ result-read session operation result rest (result-sound list registry good session sender operation writable) short-output

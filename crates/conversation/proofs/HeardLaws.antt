@@ -67,19 +67,19 @@ AllHeard (ask ∷ asks) [] ys = ⊥
 AllHeard (ask ∷ asks) (r ∷ rs) [] = ⊥
 AllHeard (ask ∷ asks) (r ∷ rs) (y ∷ ys) = Hears (askedFor ask) r y × AllHeard asks rs ys
 
-module _ (registry : List ℕ) (counts : Counts) (good : wellFormedRegistry registry ≡ true) (ask : Ask) (w : Writable (ask .sender) (ask .operation)) where
+module _ (list registry : List ℕ) (counts : Counts) (good : wellFormedRegistry registry ≡ true) (ask : Ask) (w : Writable (ask .sender) (ask .operation)) where
   abbrev v : Verdict (List ℕ) Counts (List ℕ)
-  v = judge judgement registry counts (written ask)
+  v = judge (judgement list) registry counts (written ask)
 
   abbrev r : Result
-  r = result registry counts good (ask .session) (ask .sender) (ask .operation) w
+  r = result list registry counts good (ask .session) (ask .sender) (ask .operation) w
 
   hears : Hears (askedFor ask) (v .response) (answered (statusNumber (r .status)) (r .output))
   unfolding askedFor written
   hears =
-      let is = response-is registry counts good (ask .session) (ask .sender) (ask .operation) w in
+      let is = response-is list registry counts good (ask .session) (ask .sender) (ask .operation) w in
       let e : found (askedFor ask) (v .response) ≡ some (answered (statusNumber (r .status)) (r .output))
-      = ap (found (askedFor ask)) (sym (append-nil (v .response))) ∙ answer-read registry counts good (ask .session) (ask .sender) (ask .operation) w [] in
+      = ap (found (askedFor ask)) (sym (append-nil (v .response))) ∙ answer-read list registry counts good (ask .session) (ask .sender) (ask .operation) w [] in
       record {
         said = e;
         reads = λ rest.
@@ -88,25 +88,25 @@ module _ (registry : List ℕ) (counts : Counts) (good : wellFormedRegistry regi
             (sym is)
             (response-read (askedFor ask) (providerOf (ask .operation)) (ask .session) (opcodeOf (ask .operation)) (statusNumber (r .status)) (outputBytes protobuf (r .output))
             (its-own (ask .session) (ask .operation) (statusNumber (r .status)) (outputBytes protobuf (r .output)))
-            (short-output registry counts good (ask .session) (ask .sender) (ask .operation) w)
+            (short-output list registry counts good (ask .session) (ask .sender) (ask .operation) w)
             (answered (statusNumber (r .status)) (r .output)) (ap (found (askedFor ask)) (sym is) ∙ e) rest);
       }
 
   -- the verdict on the request as a part of the stream
-  verdict-on : verdictOn judgement registry counts (written ask) ≡ v
+  verdict-on : verdictOn (judgement list) registry counts (written ask) ≡ v
   unfolding verdictOn written
   verdict-on = rw (ap legalStart (sym (append-nil (written ask))) ∙ legal (ask .session) (ask .sender) (ask .operation) w [])
 
-pub all-heard : (asks : List Ask) → AllWritable asks → (registry : List ℕ) (counts : Counts) → wellFormedRegistry registry ≡ true
-    → AllHeard asks (responsesFrom judgement registry counts (map written asks)) (repliesFrom registry counts asks)
+pub all-heard : (asks : List Ask) → AllWritable asks → (list registry : List ℕ) (counts : Counts) → wellFormedRegistry registry ≡ true
+    → AllHeard asks (responsesFrom (judgement list) registry counts (map written asks)) (repliesFrom list registry counts asks)
 unfolding responsesFrom repliesFrom
-all-heard [] w registry counts good = tt
-all-heard (ask ∷ asks) (w, ws) registry counts good =
-    let x : Verdict (List ℕ) Counts (List ℕ) = v registry counts good ask w in
+all-heard [] w list registry counts good = tt
+all-heard (ask ∷ asks) (w, ws) list registry counts good =
+    let x : Verdict (List ℕ) Counts (List ℕ) = v list registry counts good ask w in
     let q = requestFor (ask .session) (ask .sender) (ask .operation) in
-    let z : Verdict (List ℕ) Counts (List ℕ) = verdictOf registry counts q (resultOf registry q) in
-    let same : x ≡ z = unfold written in verdict-is registry counts good (ask .session) (ask .sender) (ask .operation) w in
-    let rest : AllHeard asks (responsesFrom judgement (x .registry) (x .counts) (map written asks)) (repliesFrom (x .registry) (x .counts) asks)
-    = all-heard asks ws (x .registry) (x .counts) (judge-good registry counts (written ask) good) in
-    rw (verdict-on registry counts good ask w)
-    (hears registry counts good ask w, subst (λ (y : Verdict (List ℕ) Counts (List ℕ)). AllHeard asks (responsesFrom judgement (x .registry) (x .counts) (map written asks)) (repliesFrom (y .registry) (y .counts) asks)) same rest)
+    let z : Verdict (List ℕ) Counts (List ℕ) = verdictOf registry counts q (resultOf list registry q) in
+    let same : x ≡ z = unfold written in verdict-is list registry counts good (ask .session) (ask .sender) (ask .operation) w in
+    let rest : AllHeard asks (responsesFrom (judgement list) (x .registry) (x .counts) (map written asks)) (repliesFrom list (x .registry) (x .counts) asks)
+    = all-heard asks ws list (x .registry) (x .counts) (judge-good list registry counts (written ask) good) in
+    rw (verdict-on list registry counts good ask w)
+    (hears list registry counts good ask w, subst (λ (y : Verdict (List ℕ) Counts (List ℕ)). AllHeard asks (responsesFrom (judgement list) (x .registry) (x .counts) (map written asks)) (repliesFrom list (y .registry) (y .counts) asks)) same rest)

@@ -164,10 +164,10 @@ status-some registry q status e =
     first-has (λ s. 0 < statusNumber s) (refusals registry q)
     (omega arith, (omega arith, (omega arith, (omega arith, (omega arith, (omega arith, (omega arith, (omega arith, (omega arith, (omega arith, tt)))))))))) status e
 
-pub result-sound : (registry : List ℕ) → wellFormedRegistry registry ≡ true → (session : ℕ) (sender : Sender) (operation : Operation)
-    → Writable sender operation → Sound operation (resultOf registry (requestFor session sender operation))
+pub result-sound : (list registry : List ℕ) → wellFormedRegistry registry ≡ true → (session : ℕ) (sender : Sender) (operation : Operation)
+    → Writable sender operation → Sound operation (resultOf list registry (requestFor session sender operation))
 unfolding resultOf operated
-result-sound registry w session sender operation writable = go (firstOf (refusals registry q)) refl
+result-sound list registry w session sender operation writable = go (firstOf (refusals registry q)) refl
   where
     q : Request
     q = requestFor session sender operation
@@ -175,7 +175,7 @@ result-sound registry w session sender operation writable = go (firstOf (refusal
     slots : List Entry
     slots = askersSlots registry (applicationOf registry q)
 
-    go : (o : Option Status) → firstOf (refusals registry q) ≡ o → Sound operation (resultOf registry q)
+    go : (o : Option Status) → firstOf (refusals registry q) ≡ o → Sound operation (resultOf list registry q)
     go (some status) e = rw (e, resultOf) (refused operation status (status-some registry q status e))
     go none e =
         rw (e, resultOf, read-as-written session sender operation writable .operation-read, operated)

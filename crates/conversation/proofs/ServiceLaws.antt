@@ -14,13 +14,13 @@ use Rattle.service.proofs.CodeDemand3.{Ran, Runs, answersIn, code-demand3}
 use Rattle.conversation.specs.Conversation.{Ask, written, repliesTo}
 use Rattle.conversation.proofs.HeardLaws.{AllWritable, requests-framed, AllHeard, all-heard}
 
-pub service-heard : (registry : List ℕ) → wellFormedRegistry registry ≡ true → (asks : List Ask) → AllWritable asks
-    → (calls : List Call) (runs : List Ran) → Runs (fresh registry) calls runs → takenStream calls (answersIn runs) ≡ flatten (map written asks)
-    → AllHeard asks (responsesIn (answersIn runs)) (repliesTo registry asks)
+pub service-heard : (list registry : List ℕ) → wellFormedRegistry registry ≡ true → (asks : List Ask) → AllWritable asks
+    → (calls : List Call) (runs : List Ran) → Runs list (fresh registry) calls runs → takenStream calls (answersIn runs) ≡ flatten (map written asks)
+    → AllHeard asks (responsesIn (answersIn runs)) (repliesTo list registry asks)
 unfolding repliesTo responsesTo judgement
-service-heard registry good asks w calls runs p all =
-    let each = code-demand3 registry .follows calls runs p .each in
+service-heard list registry good asks w calls runs p all =
+    let each = code-demand3 list registry .follows calls runs p .each in
     let framed : partsOf (takenStream calls (answersIn runs)) .answered ≡ map written asks
     = ap (λ (s : List ℕ). partsOf s .answered) all ∙ ap (λ (x : Parts). x .answered) (requests-framed asks w) in
-    let same : responsesIn (answersIn runs) ≡ responsesTo judgement registry (map written asks) = each ∙ ap (responsesTo judgement registry) framed in
-    subst (λ (rs : List (List ℕ)). AllHeard asks rs (repliesTo registry asks)) (sym same) (all-heard asks w registry noCounts good)
+    let same : responsesIn (answersIn runs) ≡ responsesTo (judgement list) registry (map written asks) = each ∙ ap (responsesTo (judgement list) registry) framed in
+    subst (λ (rs : List (List ℕ)). AllHeard asks rs (repliesTo list registry asks)) (sym same) (all-heard asks w list registry noCounts good)

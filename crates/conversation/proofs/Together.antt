@@ -235,9 +235,9 @@ listening (ask ∷ asks) (r ∷ rs) (y ∷ ys) (h, hs) = (
   listening asks rs ys hs,
 )
 
--- from a fresh connection, zero counters and a well-formed registry
-pub together : (registry : List ℕ) → wellFormedRegistry registry ≡ true → (asks : List Ask) → AllWritable asks
-    → (calls : List stream.Call) (runs : List Ran) → Runs (fresh registry) calls runs → takenOf calls (answersIn runs) ≡ flatten (map written asks)
-    → Listening asks (responsesIn (answersIn runs)) (repliesTo registry asks)
-together registry good asks w calls runs p all =
-    listening asks (responsesIn (answersIn runs)) (repliesTo registry asks) (service-heard registry good asks w calls runs p all)
+-- from a fresh connection, zero counters and a well-formed registry, under any list of keys that we ship
+pub together : (list registry : List ℕ) → wellFormedRegistry registry ≡ true → (asks : List Ask) → AllWritable asks
+    → (calls : List stream.Call) (runs : List Ran) → Runs list (fresh registry) calls runs → takenOf calls (answersIn runs) ≡ flatten (map written asks)
+    → Listening asks (responsesIn (answersIn runs)) (repliesTo list registry asks)
+together list registry good asks w calls runs p all =
+    listening asks (responsesIn (answersIn runs)) (repliesTo list registry asks) (service-heard list registry good asks w calls runs p all)

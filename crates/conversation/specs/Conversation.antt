@@ -23,14 +23,14 @@ written ask = requestBytes (requestFor (ask .session) (ask .sender) (ask .operat
 unfoldable pub askedFor : Ask → Asked
 askedFor ask = record { opcode = opcodeOf (ask .operation); session = ask .session }
 
--- the results that the rules give for the operations, one after the other: a status's number and an output each
-unfoldable pub repliesFrom : (registry : List ℕ) → Counts → List Ask → List Reply
-repliesFrom registry counts [] = []
-repliesFrom registry counts (ask ∷ asks) =
+-- the results that the rules give for the operations under one list, one after the other: a status's number and an output each
+unfoldable pub repliesFrom : (list registry : List ℕ) → Counts → List Ask → List Reply
+repliesFrom list registry counts [] = []
+repliesFrom list registry counts (ask ∷ asks) =
     let q = requestFor (ask .session) (ask .sender) (ask .operation) in
-    let r = resultOf registry q in
+    let r = resultOf list registry q in
     let v = verdictOf registry counts q r in
-    answered (statusNumber (r .status)) (r .output) ∷ repliesFrom (v .registry) (v .counts) asks
+    answered (statusNumber (r .status)) (r .output) ∷ repliesFrom list (v .registry) (v .counts) asks
 
-unfoldable pub repliesTo : (registry : List ℕ) → List Ask → List Reply
-repliesTo registry asks = repliesFrom registry noCounts asks
+unfoldable pub repliesTo : (list registry : List ℕ) → List Ask → List Reply
+repliesTo list registry asks = repliesFrom list registry noCounts asks
