@@ -75,6 +75,7 @@ fn refusal_number(refusal: Refusal) -> u32
         Refusal::ConnectionIllFormed => 3,
         Refusal::RegistryIllFormed => 4,
         Refusal::CounterTooHigh => 5,
+        Refusal::ListIllFormed => 6,
     }
 }
 
@@ -103,12 +104,13 @@ pub extern "C" fn razidkot_call(
     chunk: &[u8],
     connection: &mut [u8],
     registry: &mut [u8],
+    list: &[u8],
     counters: &mut Counters,
     response: &mut [u8],
 ) -> Answer
-    ensures { λ r. ⌜ outcomeWith (r .code) (r .taken) (r .written) (lentMemory (now (connection .exit)) (now (registry .exit)) (now (counters .exit))) (now (response .exit)) ≡ callOutcome (lentMemory (now (connection .entry)) (now (registry .entry)) (now (counters .entry))) (callWith (now (chunk .entry)) (now (response .entry))) ⌝ }
+    ensures { λ r. ⌜ outcomeWith (r .code) (r .taken) (r .written) (lentMemory (now (connection .exit)) (now (registry .exit)) (now (counters .exit))) (now (response .exit)) ≡ callOutcome (now (list .entry)) (lentMemory (now (connection .entry)) (now (registry .entry)) (now (counters .entry))) (callWith (now (chunk .entry)) (now (response .entry))) ⌝ }
 {
-    number(call(chunk, connection, registry, counters, response))
+    number(call(chunk, connection, registry, list, counters, response))
 }
 
 fn number_billed(billed: Billed) -> Bill
