@@ -1,5 +1,6 @@
--- "The bill": its text for a roster file and a captured stream.
+-- "The bill": its text for a roster file, a captured stream and the list of keys that we ship.
 use Prim.Native.Nat.{ℕ, zero, suc, _+_, _/_, _%_}
+use mathlib.Core.Bool.{Bool, false, not}
 use mathlib.Core.Option.{Option, none, some}
 use mathlib.Core.List.{List, [], _∷_, _++_}
 use lib.ListN.{length, take, getD}
@@ -9,6 +10,7 @@ use Rattle.stream.specs.Rules.{heldBytes, State, rules}
 use Rattle.registry.specs.Registry.{registryOf}
 use Rattle.roster.specs.Roster.{faultNumber, Roster, applications, faulty, rosterOf}
 use Rattle.roster.specs.declared.RosterFault.{RosterFault}
+use Rattle.shipped.specs.Shipped.{wellFormedList}
 use Rattle.judgement.specs.Status.{statusNumber, refusedStatuses}
 use Rattle.judgement.specs.Counts.{Counts, sum}
 use Rattle.judgement.specs.Judgement.{judgement}
@@ -61,9 +63,12 @@ unfoldable pub requestsOn : (names : List (List ℕ)) → State (List ℕ) Count
 requestsOn names s =
     sum (take (length names) (s .totals .counts .served)) + s .totals .counts .unauthenticated + sum (s .totals .counts .refused)
 
--- what is printed for a refused roster, as `roster R3`, and where a file can't be read
+-- what is printed for a refused roster, as `roster R3`, for a bad list, and where a file can't be read
 unfoldable pub refusedRoster : RosterFault → List ℕ
 refusedRoster fault = ascii "roster R" ++ textLine (decimal (faultNumber fault)) []
+
+unfoldable pub refusedList : List ℕ
+refusedList = textLine (ascii "list C6") []
 
 unfoldable pub noFile : List ℕ
 noFile = textLine (ascii "no file") []
@@ -74,8 +79,15 @@ unfoldable pub billFor : (list : List ℕ) → Roster → (stream : List ℕ) �
 billFor list (applications names) stream = billOf names (rules (judgement list) (registryOf names) stream .state)
 billFor list (faulty fault) stream = refusedRoster fault
 
+-- a bad list, the roster being good
+unfoldable pub isListRefused : Roster → (list : List ℕ) → Bool
+isListRefused (applications names) list = not (wellFormedList list)
+isListRefused (faulty fault) list = false
+
 -- `none` is a file that can't be read
-unfoldable pub bill : (roster stream : Option (List ℕ)) → List ℕ
-bill none stream = noFile
-bill (some roster) none = noFile
-bill (some roster) (some stream) = billFor [] (rosterOf roster) stream
+unfoldable pub bill : (roster stream list : Option (List ℕ)) → List ℕ
+bill none stream list = noFile
+bill (some roster) none list = noFile
+bill (some roster) (some stream) none = noFile
+bill (some roster) (some stream) (some list) =
+    if isListRefused (rosterOf roster) list then refusedList else billFor list (rosterOf roster) stream
