@@ -17,6 +17,7 @@ use Rattle.stream.proofs.CallsLaws.{took-taken, call-took, fresh-memory}
 use Rattle.stream.proofs.DeliveryLaws.{call-takes}
 use Rattle.connection.specs.Connection.{connectionSize, connectionBytes, Opening, openConnection}
 use Rattle.registry.specs.WellFormed.{wellFormedRegistry}
+use Rattle.shipped.specs.Shipped.{wellFormedList}
 use Rattle.judgement.specs.Judgement.{judgement}
 use Rattle.counters.specs.Counters.{zeroCounters, counterMost}
 use Rattle.service.specs.Call.{Memory, memoryOf, layout, fresh, bufferLeast, chunkMost, refusalOf, callOutcome}
@@ -43,105 +44,115 @@ kept-bytes {most} w e = subst (KeptWithin most) e w
 -- ---- one call
 
 -- n bytes of a chunk were taken, one at least
-record Handed (registry seen chunk : List ℕ) (n : ℕ) (m : Memory) : Type 0 where
+record Handed (list registry seen chunk : List ℕ) (n : ℕ) (m : Memory) : Type 0 where
   pub some : 1 ≤ n
   pub fits : n ≤ length chunk
-  pub memory : m ≡ leftBy registry (seen ++ take n chunk)
+  pub memory : m ≡ leftBy list registry (seen ++ take n chunk)
 
-takes-some : (registry seen chunk : List ℕ) → 1 ≤ length chunk → 1 ≤ callRule judgement (rules judgement registry seen .state) chunk .taken
-takes-some registry seen [] h = absurd (omega arith)
-takes-some registry seen (b ∷ chunk) h = call-takes judgement (rules judgement registry seen .state) b chunk
+takes-some : (list registry seen chunk : List ℕ) → 1 ≤ length chunk
+    → 1 ≤ callRule (judgement list) (rules (judgement list) registry seen .state) chunk .taken
+takes-some list registry seen [] h = absurd (omega arith)
+takes-some list registry seen (b ∷ chunk) h = call-takes (judgement list) (rules (judgement list) registry seen .state) b chunk
 
-module _ (registry seen : List ℕ) (good : wellFormedRegistry registry ≡ true) (short : length seen ≤ counterMost) (chunk buffer : List ℕ)
-    (some : 1 ≤ length chunk) (few : length chunk ≤ chunkMost) (room : bufferLeast ≤ length buffer) where
+module _ (list registry seen : List ℕ) (good : wellFormedRegistry registry ≡ true) (listed : wellFormedList list ≡ true)
+    (short : length seen ≤ counterMost) (chunk buffer : List ℕ) (some : 1 ≤ length chunk) (few : length chunk ≤ chunkMost) (room : bufferLeast ≤ length buffer) where
   abbrev n : ℕ
-  n = callRule judgement (rules judgement registry seen .state) chunk .taken
+  n = callRule (judgement list) (rules (judgement list) registry seen .state) chunk .taken
 
   abbrev call : Call
   call = callWith chunk buffer
 
-  call-leaves : callOutcome (leftBy registry seen) call
-      ≡ record { answer = took n (callRule judgement (rules judgement registry seen .state) chunk .response) call; memory = leftBy registry (seen ++ take n chunk) }
+  call-leaves : callOutcome list (leftBy list registry seen) call
+      ≡ record { answer = took n (callRule (judgement list) (rules (judgement list) registry seen .state) chunk .response) call; memory = leftBy list registry (seen ++ take n chunk) }
   unfolding callOutcome layout
-  call-leaves = call-took judgement layout lawful refusalOf registry seen call (accepts registry good seen call short few room)
+  call-leaves = call-took (judgement list) layout lawful (refusalOf list) registry seen call (accepts list registry good listed seen call short few room)
 
-  call-hands : (o : CallOutcome Memory) → o ≡ callOutcome (leftBy registry seen) call → Handed registry seen chunk (o .answer .taken) (o .memory)
+  call-hands : (o : CallOutcome Memory) → o ≡ callOutcome list (leftBy list registry seen) call → Handed list registry seen chunk (o .answer .taken) (o .memory)
   call-hands o e =
       let all = e ∙ call-leaves in
       let taken : o .answer .taken ≡ n
-      = ap (λ (x : CallOutcome Memory). x .answer .taken) all ∙ took-taken n (callRule judgement (rules judgement registry seen .state) chunk .response) call in
+      = ap (λ (x : CallOutcome Memory). x .answer .taken) all ∙ took-taken n (callRule (judgement list) (rules (judgement list) registry seen .state) chunk .response) call in
       record {
-        some = omega (arith, taken, takes-some registry seen chunk some);
-        fits = omega (arith, taken, call-facts judgement registry seen chunk .fits);
-        memory = ap (λ (x : CallOutcome Memory). x .memory) all ∙ ap (λ (k : ℕ). leftBy registry (seen ++ take k chunk)) (sym taken);
+        some = omega (arith, taken, takes-some list registry seen chunk some);
+        fits = omega (arith, taken, call-facts (judgement list) registry seen chunk .fits);
+        memory = ap (λ (x : CallOutcome Memory). x .memory) all ∙ ap (λ (k : ℕ). leftBy list registry (seen ++ take k chunk)) (sym taken);
       }
 
 -- ---- what is left of a chunk handed over again
 
-pub takes-none : (chunk : List ℕ) (m : Memory) → Takes (take 0 chunk) m m
+pub takes-none : (list chunk : List ℕ) (m : Memory) → Takes list (take 0 chunk) m m
 unfolding Takes
-takes-none chunk m registry stream good short e = e ∙ ap (leftBy registry) (sym (append-nil stream))
+takes-none list chunk m registry stream good listed short e = e ∙ ap (leftBy list registry) (sym (append-nil stream))
 
-pub takes-all : (chunk : List ℕ) (at : ℕ) (before after : Memory) → length chunk ≤ at → Takes (take at chunk) before after → Takes chunk before after
-takes-all chunk at before after h t = subst (λ (x : List ℕ). Takes x before after) (take-all at chunk h) t
+pub takes-all : (list chunk : List ℕ) (at : ℕ) (before after : Memory) → length chunk ≤ at
+    → Takes list (take at chunk) before after → Takes list chunk before after
+takes-all list chunk at before after h t = subst (λ (x : List ℕ). Takes list x before after) (take-all at chunk h) t
 
-module _ (chunk : List ℕ) (at : ℕ) (before after : Memory) (buffer : List ℕ) (o : CallOutcome Memory)
+module _ (list chunk : List ℕ) (at : ℕ) (before after : Memory) (buffer : List ℕ) (o : CallOutcome Memory)
     (few : length chunk ≤ chunkMost) (more : at < length chunk) (room : bufferLeast ≤ length buffer)
-    (taken : Takes (take at chunk) before after) (called : o ≡ callOutcome after (callWith (drop at chunk) buffer)) where
-  handed : (registry stream : List ℕ) → wellFormedRegistry registry ≡ true → length stream + at ≤ counterMost
-      → before ≡ leftBy registry stream → Handed registry (stream ++ take at chunk) (drop at chunk) (o .answer .taken) (o .memory)
+    (taken : Takes list (take at chunk) before after) (called : o ≡ callOutcome list after (callWith (drop at chunk) buffer)) where
+  handed : (registry stream : List ℕ) → wellFormedRegistry registry ≡ true → wellFormedList list ≡ true → length stream + at ≤ counterMost
+      → before ≡ leftBy list registry stream → Handed list registry (stream ++ take at chunk) (drop at chunk) (o .answer .taken) (o .memory)
   unfolding Takes
-  handed registry stream good short e =
+  handed registry stream good listed short e =
       let t = length-take at chunk in
       let d = length-drop at chunk in
       let a = length-append stream (take at chunk) in
-      call-hands registry (stream ++ take at chunk) good (omega arith) (drop at chunk) buffer (omega arith) (omega arith) room o
-      (called ∙ ap (λ (m : Memory). callOutcome m (callWith (drop at chunk) buffer)) (taken registry stream good (omega arith) e))
+      call-hands list registry (stream ++ take at chunk) good listed (omega arith) (drop at chunk) buffer (omega arith) (omega arith) room o
+      (called ∙ ap (λ (m : Memory). callOutcome list m (callWith (drop at chunk) buffer)) (taken registry stream good listed (omega arith) e))
 
-  pub takes-more : Takes (take (at + o .answer .taken) chunk) before (o .memory)
+  pub takes-more : Takes list (take (at + o .answer .taken) chunk) before (o .memory)
   unfolding Takes
-  takes-more registry stream good short e =
+  takes-more registry stream good listed short e =
       let n : ℕ = o .answer .taken in
       let t = length-take (at + n) chunk in
-      let h = handed registry stream good (omega arith) e in
+      let h = handed registry stream good listed (omega arith) e in
       h .memory
-      ∙ ap (leftBy registry)
+      ∙ ap (leftBy list registry)
       (append-assoc stream (take at chunk) (take n (drop at chunk)) ∙ ap (λ (x : List ℕ). stream ++ x) (sym (take-add at n chunk)))
 
-  pub takes-fits : Follows (length chunk) before → (1 ≤ o .answer .taken) × (at + o .answer .taken ≤ length chunk)
+  pub takes-fits : Follows list (length chunk) before → (1 ≤ o .answer .taken) × (at + o .answer .taken ≤ length chunk)
   takes-fits f =
-      let h = handed (f .registry) (f .stream) (f .good) (omega (arith, f .short)) (f .memory) in
+      let h = handed (f .registry) (f .stream) (f .good) (f .listed) (omega (arith, f .short)) (f .memory) in
       let d = length-drop at chunk in
       (h .some, omega (arith, h .fits))
 
 -- ---- a stream, chunk by chunk
 
 -- a fresh connection and zero counters
-pub starts : (registry before connection : List ℕ) (opened : Opened) (counters : Counters) → length before ≡ connectionSize
+pub starts : (list registry before connection : List ℕ) (opened : Opened) (counters : Counters) → length before ≡ connectionSize
     → record { answer = opened; memory = connection } ≡ openConnection before → counters ≡ zeroCounters
-    → After registry 0 (lentMemory connection registry counters)
+    → After list registry 0 (lentMemory connection registry counters)
 unfolding openConnection layout memoryOf stream.fresh judgement fresh zeroCounters
-starts registry before connection opened counters size e zero =
+starts list registry before connection opened counters size e zero =
     let made : openConnection before .memory ≡ connectionBytes (rulesOf.opened []) = rw (eq-eqb (length before) connectionSize size) in
     let memory : connection ≡ connectionBytes (rulesOf.opened []) = ap (λ (o : Opening). o .memory) e ∙ made in
     record {
       stream = [];
       short = omega arith;
-      memory = (λ i. lentMemory (memory i) registry (zero i)) ∙ sym (fresh-memory judgement layout lawful refusalOf registry);
+      memory = (λ i. lentMemory (memory i) registry (zero i)) ∙ sym (fresh-memory (judgement list) layout lawful (refusalOf list) registry);
     }
 
-module _ (registry : List ℕ) (good : wellFormedRegistry registry ≡ true) (most : ℕ) (m : Memory) (a : After registry most m) where
+module _ (list registry : List ℕ) (good : wellFormedRegistry registry ≡ true) (listed : wellFormedList list ≡ true) (most : ℕ) (m : Memory)
+    (a : After list registry most m) where
   -- the next chunk can be handed over
-  pub follows : (more : ℕ) → most + more ≤ counterMost → Follows more m
-  follows more h = record { registry = registry; stream = a .stream; good = good; short = omega (arith, a .short); memory = a .memory }
+  pub follows : (more : ℕ) → most + more ≤ counterMost → Follows list more m
+  follows more h = record {
+    registry = registry;
+    stream = a .stream;
+    good = good;
+    listed = listed;
+    short = omega (arith, a .short);
+    memory = a .memory;
+  }
 
-  pub after-more : (chunk : List ℕ) (after : Memory) → most + length chunk ≤ counterMost → Takes chunk m after → After registry (most + length chunk) after
+  pub after-more : (chunk : List ℕ) (after : Memory) → most + length chunk ≤ counterMost → Takes list chunk m after → After list registry (most + length chunk) after
   unfolding Takes
   after-more chunk after h t = record {
     stream = a .stream ++ chunk;
     short = omega (arith, a .short, length-append (a .stream) chunk);
-    memory = t registry (a .stream) good (omega (arith, a .short)) (a .memory);
+    memory = t registry (a .stream) good listed (omega (arith, a .short)) (a .memory);
   }
 
-  pub after-most : (least : ℕ) → most ≤ least → After registry least m
+  pub after-most : (least : ℕ) → most ≤ least → After list registry least m
   after-most least h = record { stream = a .stream; short = omega (arith, a .short); memory = a .memory }

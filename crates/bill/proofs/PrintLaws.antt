@@ -1,4 +1,4 @@
--- What is written is the bill of some two files.
+-- What is written is the bill of some three files.
 use mathlib.Core.Path.{_≡_, refl, ap, _∙_, subst}
 use mathlib.Core.Bool.{Bool, true, false}
 use mathlib.Core.Option.{Option, none, some}
@@ -8,6 +8,7 @@ use native.Mathlib.Omega.{arith}
 use borrow.Author.Tests.{le-ltb}
 use denote.Enum.Declared.{tagOf}
 use types.Run.{OneOf, miss}
+use lib.IntN.{ℤ}
 use lib.ListN.{length, take, drop, length-append}
 use lib.Seq.{take-append-seam}
 use Rattle.wire.specs.Choice.{firstOf}
@@ -20,10 +21,11 @@ use Rattle.connection.proofs.ConnectionLaws.{stored-good}
 use Rattle.registry.specs.WellFormed.{wellFormedRegistry}
 use Rattle.roster.specs.declared.RosterFault.{RosterFault}
 use Rattle.roster.proofs.RosterLaws.{roster-legal}
+use Rattle.shipped.specs.Shipped.{wellFormedList}
 use Rattle.judgement.specs.Judgement.{judgement}
 use Rattle.counters.specs.Counters.{counterMost, largestCount}
 use Rattle.service.specs.Call.{Memory, memoryOf}
-use Rattle.billing.specs.Bill.{refusedRoster, noFile, billFor, bill}
+use Rattle.billing.specs.Bill.{refusedRoster, refusedList, noFile, billFor, isListRefused, bill}
 use Rattle.service.proofs.KeptLaws.{keeps}
 use Rattle.billing.specs.Outcome.{billMost, billIn, refusalTests, BillOutcome, outcomeOf, billOutcome}
 use Rattle.billing.specs.declared.Billed.{Billed}
@@ -32,7 +34,7 @@ use Rattle.billing.proofs.Billed.{the-type}
 use Rattle.billing.proofs.RulesLaws.{bill-by-rules}
 use Rattle.bill.specs.code.Stream.{leftBy, After}
 use Rattle.bill.specs.Prints.{printed, MayGive, Prints}
-use Rattle.bill.specs.code.Sources.{Started, SourceOf, RosterRead, StreamTaken, StreamRead, Billable}
+use Rattle.bill.specs.code.Sources.{Started, StartOf, StartRead, StreamTaken, StreamRead, Billable}
 use Rattle.bill.specs.declared.files.File.{File}
 use Rattle.bill.specs.declared.files.File.the-variants.{Open, Missing}
 use Rattle.bill.specs.declared.text.Source.{Source}
@@ -65,28 +67,34 @@ module _ (d e : List ℕ) (answer : Billed) (m : Memory) (room : billMost ≤ le
 
 -- ---- the bill of a stream
 
-module _ (registry : List ℕ) (started : Started registry) (most : ℕ) (m : Memory) (a : After registry most m) where
+module _ (registry list : List ℕ) (started : Started registry) (most : ℕ) (m : Memory) (a : After list registry most m) where
   pub after-connected : wellFormedConnection (m .connection) ≡ true
   unfolding memoryOf
   after-connected =
       ap (λ (x : Memory). wellFormedConnection (x .connection)) (a .memory)
-      ∙ stored-good (rules judgement registry (a .stream) .state .connection) (rules-connection judgement registry (a .stream))
+      ∙ stored-good (rules (judgement list) registry (a .stream) .state .connection) (rules-connection (judgement list) registry (a .stream))
 
   pub after-registered : wellFormedRegistry (m .registry) ≡ true
   unfolding memoryOf
   after-registered =
       ap (λ (x : Memory). wellFormedRegistry (x .registry)) (a .memory)
-      ∙ rules-kept largestCount wellFormedRegistry judgement keeps registry (started-good registry started) (a .stream) .good
+      ∙ rules-kept largestCount wellFormedRegistry (judgement list) (keeps list) registry (started-good registry started) (a .stream) .good
 
-  by-rules : billIn m ≡ bill (some (started .file)) (some (a .stream))
-  unfolding bill
-  by-rules =
-      rw (started .good)
+  by-rules : wellFormedList list ≡ true → billIn m ≡ bill (some (started .file)) (some (a .stream)) (some list)
+  unfolding bill isListRefused
+  by-rules listed =
+      rw (started .good, listed)
       (ap billIn (a .memory)
-      ∙ ap (λ (r : List ℕ). billIn (leftBy r (a .stream))) (started .start)
-      ∙ bill-by-rules (started .names) (roster-legal (started .file) (started .names) (started .good)) (a .stream))
+      ∙ ap (λ (r : List ℕ). billIn (leftBy list r (a .stream))) (started .start)
+      ∙ bill-by-rules (started .names) (roster-legal (started .file) (started .names) (started .good)) list (a .stream))
 
--- ---- what is written, by what became of the two files
+-- only the line of a bad list, after a good roster
+list-refused : (registry list stream : List ℕ) (started : Started registry) → wellFormedList list ≡ false
+    → refusedList ≡ bill (some (started .file)) (some stream) (some list)
+unfolding bill isListRefused
+list-refused registry list stream started bad = rw (started .good, bad)
+
+-- ---- what is written, by what became of the three files
 
 module _ (s : Source) (isWhole : Bool) (m : Memory) where
   pub has-bill : s ≡ source.Good → isWhole ≡ true → Billable s isWhole m → (wellFormedConnection (m .connection) ≡ true) × (wellFormedRegistry (m .registry) ≡ true)
@@ -101,6 +109,7 @@ module _ (s : Source) (isWhole : Bool) (m : Memory) where
         go : (x : Source) → Wrote (printed x false m) d e r
         go source.Unreadable = t
         go (source.Faulty fault) = t
+        go source.BadList = t
         go source.Good = t
 
     pub wrote-unreadable : s ≡ source.Unreadable → Wrote noFile d e r → Wrote (printed s isWhole m) d e r
@@ -111,9 +120,20 @@ module _ (s : Source) (isWhole : Bool) (m : Memory) where
     unfolding printed
     wrote-refused q w t = rw (q, w) t
 
+    pub wrote-unlisted : s ≡ source.BadList → isWhole ≡ true → Wrote refusedList d e r → Wrote (printed s isWhole m) d e r
+    unfolding printed
+    wrote-unlisted q w t = rw (q, w) t
+
     pub wrote-bill : s ≡ source.Good → isWhole ≡ true → Wrote (billIn m) d e r → Wrote (printed s isWhole m) d e r
     unfolding printed
     wrote-bill q w t = rw (q, w) t
+
+unread : (s : Source) (m : Memory) {d e : List ℕ} {r : ℕ} → Wrote (printed s false m) d e r → Wrote noFile d e r
+unfolding printed
+unread source.Unreadable m w = w
+unread (source.Faulty fault) m w = w
+unread source.BadList m w = w
+unread source.Good m w = w
 
 -- ---- text at the front of the buffer
 
@@ -122,56 +142,79 @@ unfolding MayGive
 none-given (Open fd) = tt
 none-given Missing = refl
 
-module _ (rosterFile streamFile : File) {text d e : List ℕ} {r : ℕ} (w : Wrote text d e r) where
-  prints : (roster stream : Option (List ℕ)) → MayGive rosterFile roster → MayGive streamFile stream → text ≡ bill roster stream → Prints rosterFile streamFile e r
-  prints roster stream g h same = record {
+module _ (rosterFile streamFile listFile : File) {text d e : List ℕ} {r : ℕ} (w : Wrote text d e r) where
+  prints : (roster stream list : Option (List ℕ)) → MayGive rosterFile roster → MayGive streamFile stream → MayGive listFile list
+      → text ≡ bill roster stream list → Prints rosterFile streamFile listFile e r
+  prints roster stream list g h k same = record {
     roster = roster;
     stream = stream;
+    list = list;
     rosterGiven = g;
     streamGiven = h;
+    listGiven = k;
     fits = omega (arith, w .count, ap length (w .bytes) ∙ length-append text (drop (length text) d));
     text = ap (λ (n : ℕ). take n e) (w .count) ∙ ap (take (length text)) (w .bytes) ∙ take-append-seam text (drop (length text) d) ∙ same;
   }
 
-  no-file-prints : text ≡ noFile → Prints rosterFile streamFile e r
+  pub no-file-prints : text ≡ noFile → Prints rosterFile streamFile listFile e r
   unfolding bill
-  no-file-prints same = prints none none (none-given rosterFile) (none-given streamFile) same
+  no-file-prints same = prints none none none (none-given rosterFile) (none-given streamFile) (none-given listFile) same
 
--- ---- the bill of what became of the two files
+-- ---- the bill of what became of the three files
 
-module _ (registry : List ℕ) (m : Memory) where
-  pub billable : (stream : File) (s : Source) (isWhole : Bool) → SourceOf registry s → StreamRead stream s registry isWhole m → Billable s isWhole m
-  unfolding SourceOf StreamRead StreamTaken Billable
+module _ (registry list : List ℕ) (m : Memory) where
+  pub billable : (stream : File) (s : Source) (isWhole : Bool) → StartOf registry list s → StreamRead stream s registry list isWhole m → Billable s isWhole m
+  unfolding StartOf StreamRead StreamTaken Billable
   billable stream source.Unreadable isWhole f g = tt
   billable stream (source.Faulty fault) isWhole f g = tt
+  billable stream source.BadList isWhole f g = tt
   billable stream source.Good false f g = tt
-  billable (Open fd) source.Good true f g = (after-connected registry f counterMost m g, after-registered registry f counterMost m g)
+  billable (Open fd) source.Good true (started, listed) g =
+      (after-connected registry list started counterMost m g, after-registered registry list started counterMost m g)
   billable Missing source.Good true f g = absurd (let z : _≡_ {A = ℕ} 0 1 = cc in omega arith)
 
-  pub outcome-prints : (roster stream : File) (s : Source) (isWhole : Bool) {d e : List ℕ} {r : ℕ}
-      → RosterRead roster registry s → StreamRead stream s registry isWhole m → Wrote (printed s isWhole m) d e r → Prints roster stream e r
-  unfolding MayGive RosterRead SourceOf StreamRead StreamTaken printed bill billFor
-  outcome-prints roster stream source.Unreadable isWhole f g w = no-file-prints roster stream w refl
-  outcome-prints roster stream (source.Faulty fault) false f g w = no-file-prints roster stream w refl
-  outcome-prints roster stream source.Good false f g w = no-file-prints roster stream w refl
-  outcome-prints (Open fd) (Open fd2) (source.Faulty fault) true f g w = prints (Open fd) (Open fd2) w (some (f .file)) (some []) tt tt (rw (f .first))
-  outcome-prints (Open fd) (Open fd2) source.Good true f g w =
-      prints (Open fd) (Open fd2) w (some (f .file)) (some (g .stream)) tt tt (by-rules registry f counterMost m g)
-  outcome-prints (Open fd) Missing (source.Faulty fault) true f g w = absurd (let z : _≡_ {A = ℕ} 0 1 = cc in omega arith)
-  outcome-prints (Open fd) Missing source.Good true f g w = absurd (let z : _≡_ {A = ℕ} 0 1 = cc in omega arith)
-  outcome-prints Missing stream (source.Faulty fault) true f g w = absurd (let z : _≡_ {A = ℕ} 0 1 = cc in omega arith)
-  outcome-prints Missing stream source.Good true f g w = absurd (let z : _≡_ {A = ℕ} 0 1 = cc in omega arith)
+  module _ (listFile : File) (given : MayGive listFile (some list)) where
+    -- roster and stream could be opened, and the stream was read to its end
+    pub read-prints : (fd fd2 : ℤ) (s : Source) {d e : List ℕ} {r : ℕ} → StartOf registry list s → StreamTaken s registry list m
+        → Wrote (printed s true m) d e r → Prints (Open fd) (Open fd2) listFile e r
+    unfolding MayGive StartOf StreamTaken printed bill isListRefused billFor
+    read-prints fd fd2 source.Unreadable f g w = no-file-prints (Open fd) (Open fd2) listFile w refl
+    read-prints fd fd2 (source.Faulty fault) f g w =
+        prints (Open fd) (Open fd2) listFile w (some (f .file)) (some []) (some list) tt tt given (rw (f .first))
+    read-prints fd fd2 source.BadList (started, bad) g w =
+        prints (Open fd) (Open fd2) listFile w (some (started .file)) (some []) (some list) tt tt given (list-refused registry list [] started bad)
+    read-prints fd fd2 source.Good (started, listed) g w =
+        prints (Open fd) (Open fd2) listFile w (some (started .file)) (some (g .stream)) (some list) tt tt given
+        (by-rules registry list started counterMost m g listed)
+
+    pub outcome-prints : (roster stream : File) (s : Source) (isWhole : Bool) {d e : List ℕ} {r : ℕ} → StartRead roster registry list s
+        → StreamRead stream s registry list isWhole m → Wrote (printed s isWhole m) d e r → Prints roster stream listFile e r
+    unfolding StartRead StreamRead printed
+    outcome-prints roster stream s false f g w = no-file-prints roster stream listFile (unread s m w) refl
+    outcome-prints (Open fd) (Open fd2) s true f g w = read-prints fd fd2 s f g w
+    outcome-prints (Open fd) Missing s true f g w = absurd (let z : _≡_ {A = ℕ} 0 1 = cc in omega arith)
+    outcome-prints Missing stream s true f g w = no-file-prints Missing stream listFile (rw f at w) refl
 
 -- ---- a missing file: exactly `no file` is printed
 
-pub missing-roster-prints : (stream : File) (out : List ℕ) (n : ℕ) → Prints Missing stream out n → take n out ≡ noFile
+pub missing-roster-prints : (stream list : File) (out : List ℕ) (n : ℕ) → Prints Missing stream list out n → take n out ≡ noFile
 unfolding MayGive bill
-missing-roster-prints stream out n p = p .text ∙ ap (λ (o : Option (List ℕ)). bill o (p .stream)) (p .rosterGiven)
+missing-roster-prints stream list out n p = p .text ∙ ap (λ (o : Option (List ℕ)). bill o (p .stream) (p .list)) (p .rosterGiven)
 
-pub missing-stream-prints : (roster : File) (out : List ℕ) (n : ℕ) → Prints roster Missing out n → take n out ≡ noFile
+pub missing-stream-prints : (roster list : File) (out : List ℕ) (n : ℕ) → Prints roster Missing list out n → take n out ≡ noFile
 unfolding MayGive bill
-missing-stream-prints roster out n p = p .text ∙ ap (bill (p .roster)) (p .streamGiven) ∙ go (p .roster)
+missing-stream-prints roster list out n p =
+    p .text ∙ ap (λ (o : Option (List ℕ)). bill (p .roster) o (p .list)) (p .streamGiven) ∙ go (p .roster)
   where
-    go : (o : Option (List ℕ)) → bill o none ≡ noFile
+    go : (o : Option (List ℕ)) → bill o none (p .list) ≡ noFile
     go none = refl
     go (some file) = refl
+
+pub missing-list-prints : (roster stream : File) (out : List ℕ) (n : ℕ) → Prints roster stream Missing out n → take n out ≡ noFile
+unfolding MayGive bill
+missing-list-prints roster stream out n p = p .text ∙ ap (bill (p .roster) (p .stream)) (p .listGiven) ∙ go (p .roster) (p .stream)
+  where
+    go : (o s : Option (List ℕ)) → bill o s none ≡ noFile
+    go none s = refl
+    go (some file) none = refl
+    go (some file) (some bytes) = refl

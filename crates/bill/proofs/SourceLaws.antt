@@ -1,8 +1,10 @@
--- What becomes of the two files, by what was read of them.
+-- What becomes of the three files, by what was read of them.
 use mathlib.Core.Path.{_≡_, refl, sym, ap, _∙_, subst}
-use mathlib.Core.Bool.{Bool, true, false}
+use mathlib.Core.Bool.{Bool, true, false, not}
 use mathlib.Core.List.{List}
-use Prim.Native.Nat.{ℕ}
+use mathlib.Core.Option.{some}
+use Prim.Native.Nat.{ℕ, _≤_}
+use native.Mathlib.Omega.{arith}
 use borrow.Author.Tests.{eq-eqb}
 use lib.ListN.{length, take}
 use lib.IntN.{ℤ}
@@ -13,16 +15,19 @@ use Rattle.roster.specs.Roster.{Roster, applications, faulty, rosterOf, rosterI
 use Rattle.roster.specs.declared.RosterFault.{RosterFault}
 use Rattle.roster.specs.declared.Loaded.{Loaded}
 use Rattle.roster.proofs.RosterLaws.{roster-legal}
+use Rattle.shipped.specs.Shipped.{wellFormedList}
 use Rattle.counters.specs.Counters.{counterMost}
 use Rattle.service.specs.Call.{Memory}
-use Rattle.bill.specs.code.Stream.{After}
-use Rattle.bill.specs.code.Sources.{SourceOutcome, sourceWith, sourceFor, sourceOf, loadFront, Started, SourceOf, RosterRead, StreamTaken, StreamRead}
+use Rattle.bill.specs.Prints.{MayGive}
+use Rattle.bill.specs.code.Stream.{KeptWithin, After}
+use Rattle.bill.specs.code.Sources.{SourceOutcome, sourceWith, sourceFor, sourceOf, loadFront, Started, SourceOf, RosterRead, ListRead, isListRefused, withList, StartOf, StartRead, StreamTaken, StreamRead}
 use Rattle.bill.specs.declared.files.File.{File}
 use Rattle.bill.specs.declared.files.File.the-variants.{Open, Missing}
 use Rattle.bill.specs.declared.files.Front.{Front}
 use Rattle.bill.specs.declared.files.Front.the-variants as front
 use Rattle.bill.specs.declared.text.Source.{Source}
 use Rattle.bill.specs.declared.text.Source.the-variants as source
+use Rattle.bill.proofs.FeedLaws.{kept-bytes}
 
 -- ---- what was kept of a roster file, loaded
 
@@ -61,35 +66,99 @@ pub roster-open : (registry : List ℕ) (s : Source) {f : File} {fd : ℤ} → f
 unfolding RosterRead
 roster-open registry s e r = rw e r
 
--- a file that is missing has no registry
-pub read-source : (roster : File) (registry : List ℕ) (s : Source) → RosterRead roster registry s → SourceOf registry s
-unfolding RosterRead SourceOf
-read-source (Open fd) registry s r = r
-read-source Missing registry s r = rw r tt
-
 pub started-good : (registry : List ℕ) → Started registry → wellFormedRegistry registry ≡ true
 started-good registry s = ap wellFormedRegistry (s .start) ∙ registry-good (s .names) (roster-legal (s .file) (s .names) (s .good))
 
-pub source-good : (registry : List ℕ) {s : Source} → s ≡ source.Good → SourceOf registry s → wellFormedRegistry registry ≡ true
-unfolding SourceOf
-source-good registry e f = started-good registry (subst (SourceOf registry) e f)
+-- ---- and then a list of keys
+
+pub list-missing : (most : ℕ) {f : File} → f ≡ Missing → ListRead f most front.Unreadable
+unfolding ListRead
+list-missing most e = rw e refl
+
+pub list-open : (most : ℕ) (read : Front) {f : File} {fd : ℤ} → f ≡ Open fd → KeptWithin most read → ListRead f most read
+unfolding ListRead
+list-open most read e k = rw e k
+
+-- a list of which bytes were kept was opened
+pub list-kept : (f : File) {most n : ℕ} {read : Front} (bytes : List ℕ) → ListRead f most read → read ≡ front.Kept n → (n ≤ most) × MayGive f (some bytes)
+unfolding ListRead MayGive
+list-kept (Open fd) bytes k e = (kept-bytes k e, tt)
+list-kept Missing bytes k e = absurd (let z : _≡_ {A = ℕ} 0 1 = cc in omega arith)
+
+module _ (s : Source) (isGood : Bool) where
+  pub refused-good : {t : Bool} → s ≡ source.Good → t ≡ isGood → not t ≡ isListRefused s isGood
+  unfolding isListRefused
+  refused-good q e = rw q (ap not e)
+
+  pub refused-faulty : {fault : RosterFault} → s ≡ source.Faulty fault → false ≡ isListRefused s isGood
+  unfolding isListRefused
+  refused-faulty q = rw q refl
+
+  pub refused-before : s ≡ source.BadList → false ≡ isListRefused s isGood
+  unfolding isListRefused
+  refused-before q = rw q refl
+
+  pub refused-unread : s ≡ source.Unreadable → false ≡ isListRefused s isGood
+  unfolding isListRefused
+  refused-unread q = rw q refl
+
+  module _ {t : Bool} (e : t ≡ isListRefused s isGood) where
+    pub with-bad : t ≡ true → source.BadList ≡ withList s isGood
+    unfolding withList
+    with-bad w = rw (sym e ∙ w) refl
+
+    pub with-good : t ≡ false → s ≡ withList s isGood
+    unfolding withList
+    with-good w = rw (sym e ∙ w) refl
+
+start-of : (registry list : List ℕ) (s : Source) → SourceOf registry s → StartOf registry list (withList s (wellFormedList list))
+unfolding SourceOf StartOf withList isListRefused
+start-of registry list source.Unreadable f = tt
+start-of registry list (source.Faulty fault) f = f
+start-of registry list source.BadList f = absurd f
+start-of registry list source.Good f = go (wellFormedList list) refl
+  where
+    go : (t : Bool) → wellFormedList list ≡ t → StartOf registry list (withList source.Good t)
+    go true e = (f, e)
+    go false e = (f, e)
+
+pub start-read : (roster : File) (registry list : List ℕ) (s start : Source) → RosterRead roster registry s → start ≡ withList s (wellFormedList list)
+    → StartRead roster registry list start
+unfolding RosterRead StartRead withList isListRefused
+start-read (Open fd) registry list s start r e = subst (StartOf registry list) (sym e) (start-of registry list s r)
+start-read Missing registry list s start r e = e ∙ ap (λ (x : Source). withList x (wellFormedList list)) r
+
+-- a file that is missing has no registry
+pub read-start : (roster : File) (registry list : List ℕ) (s : Source) → StartRead roster registry list s → StartOf registry list s
+unfolding StartRead StartOf
+read-start (Open fd) registry list s r = r
+read-start Missing registry list s r = rw r tt
+
+pub start-good : (registry list : List ℕ) {s : Source} → s ≡ source.Good → StartOf registry list s
+    → (wellFormedRegistry registry ≡ true) × (wellFormedList list ≡ true)
+unfolding StartOf
+start-good registry list e f = let (started, listed) = subst (StartOf registry list) e f in (started-good registry started, listed)
 
 -- ---- a stream that was read
 
-module _ (s : Source) (registry : List ℕ) (isWhole : Bool) (m : Memory) {f : File} where
-  pub stream-missing : f ≡ Missing → isWhole ≡ false → StreamRead f s registry isWhole m
+module _ (s : Source) (registry list : List ℕ) (isWhole : Bool) (m : Memory) {f : File} where
+  pub stream-missing : f ≡ Missing → isWhole ≡ false → StreamRead f s registry list isWhole m
   unfolding StreamRead
   stream-missing e w = rw e w
 
   module _ {fd : ℤ} (e : f ≡ Open fd) where
-    pub stream-good : s ≡ source.Good → After registry counterMost m → StreamRead f s registry isWhole m
+    pub stream-good : s ≡ source.Good → After list registry counterMost m → StreamRead f s registry list isWhole m
     unfolding StreamRead StreamTaken
     stream-good q a = rw (e, q) a
 
-    pub stream-faulty : {fault : RosterFault} → s ≡ source.Faulty fault → StreamRead f s registry isWhole m
+    pub stream-faulty : {fault : RosterFault} → s ≡ source.Faulty fault → StreamRead f s registry list isWhole m
     unfolding StreamRead StreamTaken
     stream-faulty q = rw (e, q) tt
 
-    pub stream-unread : s ≡ source.Unreadable → StreamRead f s registry isWhole m
+    pub stream-unlisted : s ≡ source.BadList → StreamRead f s registry list isWhole m
+    unfolding StreamRead StreamTaken
+    stream-unlisted q = rw (e, q) tt
+
+    pub stream-unread : s ≡ source.Unreadable → StreamRead f s registry list isWhole m
     unfolding StreamRead StreamTaken
     stream-unread q = rw (e, q) tt

@@ -14,6 +14,7 @@ ghost use Prim.Native.Nat.{_≤_};
 ghost use lib.ListN.{length};
 ghost use Rattle.connection.specs.Connection.{connectionSize};
 ghost use Rattle.registry.specs.WellFormed.{wellFormedRegistry};
+ghost use Rattle.shipped.specs.Shipped.{wellFormedList};
 ghost use Rattle.counters.specs.Counters.{counterMost};
 ghost use Rattle.service.specs.Call.{bufferLeast, chunkMost};
 ghost use Rattle.service.specs.Contract.{lentMemory};
@@ -30,26 +31,27 @@ fn feed(
     chunk: &[u8],
     connection: &mut [u8],
     registry: &mut [u8],
+    list: &[u8],
     counters: Counters,
     response: &mut [u8],
 ) -> Counters
-    requires { ⌜ (length (now chunk) ≤ chunkMost) × (bufferLeast ≤ length (now response)) × Follows (length (now chunk)) (lentMemory (now connection) (now registry) counters) ⌝ }
-    ensures { λ r. ⌜ Takes (now (chunk .entry)) (lentMemory (now (connection .entry)) (now (registry .entry)) counters) (lentMemory (now (connection .exit)) (now (registry .exit)) r) ⌝ }
+    requires { ⌜ (length (now chunk) ≤ chunkMost) × (bufferLeast ≤ length (now response)) × Follows (now list) (length (now chunk)) (lentMemory (now connection) (now registry) counters) ⌝ }
+    ensures { λ r. ⌜ Takes (now (list .entry)) (now (chunk .entry)) (lentMemory (now (connection .entry)) (now (registry .entry)) counters) (lentMemory (now (connection .exit)) (now (registry .exit)) r) ⌝ }
 {
     let mut after = counters;
     let mut at = 0;
     while at < chunk.len() {
-        let o = call_by_value(&chunk[at..], connection, registry, after, response);
+        let o = call_by_value(&chunk[at..], connection, registry, list, after, response);
         at += o.taken;
         after = counters_of(o);
     }
     after
 }
 
-// Runs a stream through the call, from a fresh connection and zero counters.
-pub fn take_stream(fd: i32, connection: &mut [u8], registry: &mut [u8]) -> Taken
-    requires { ⌜ (length (now connection) ≡ connectionSize) × (wellFormedRegistry (now registry) ≡ true) ⌝ }
-    ensures { λ r. ⌜ After (now (registry .entry)) counterMost (lentMemory (now (connection .exit)) (now (registry .exit)) (r .counters)) ⌝ }
+// Runs a stream through the call, from a fresh connection and zero counters, with a good list.
+pub fn take_stream(fd: i32, connection: &mut [u8], registry: &mut [u8], list: &[u8]) -> Taken
+    requires { ⌜ (length (now connection) ≡ connectionSize) × (wellFormedRegistry (now registry) ≡ true) × (wellFormedList (now list) ≡ true) ⌝ }
+    ensures { λ r. ⌜ After (now (list .entry)) (now (registry .entry)) counterMost (lentMemory (now (connection .exit)) (now (registry .exit)) (r .counters)) ⌝ }
 {
     open_connection(connection);
     let mut chunk = io::large_buffer();
@@ -64,7 +66,14 @@ pub fn take_stream(fd: i32, connection: &mut [u8], registry: &mut [u8]) -> Taken
                 is_whole: is_end(input),
             };
         };
-        counters = feed(&chunk[..n], connection, registry, counters, &mut response);
+        counters = feed(
+            &chunk[..n],
+            connection,
+            registry,
+            list,
+            counters,
+            &mut response,
+        );
         turns -= 1;
     }
     Taken {

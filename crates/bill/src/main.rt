@@ -1,4 +1,5 @@
-// `bill ROSTER STREAM`: prints the bill of a roster file and a captured stream (document 01, "The bill").
+// `bill ROSTER STREAM LIST`: prints the bill of a roster file, a captured stream and the list of keys that we ship (document 01,
+// "The bill"; document 02, "Keys we ship").
 use files::open_argument;
 use libc::STDOUT_FILENO;
 use memory::bill_buffer;
@@ -12,7 +13,8 @@ mod text;
 fn main() {
     let roster = open_argument(1);
     let stream = open_argument(2);
+    let list = open_argument(3);
     let mut out = bill_buffer();
-    let size = write_text(&mut out, roster, stream);
+    let size = write_text(&mut out, roster, stream, list);
     io::write_all(STDOUT_FILENO, &out[..size]);
 }

@@ -2,14 +2,17 @@
 use billing::BILL_MOST;
 use connection::CONNECTION_SIZE;
 use keys::APPLICATION_NAME_MOST;
+use keys::DATA_MOST;
+use keys::KEY_NAME_MOST;
 use registry::LINES;
 use registry::REGISTRY_SIZE;
+use shipped::LISTED_MOST;
 ghost use mathlib.Core.Path.{_≡_};
 ghost use lib.ListN.{length};
 ghost use Rattle.connection.specs.Connection.{connectionSize};
 ghost use Rattle.registry.specs.Registry.{registrySize};
 ghost use Rattle.billing.specs.Outcome.{billMost};
-ghost use Rattle.bill.specs.code.Front.{frontMost};
+ghost use Rattle.bill.specs.code.Front.{frontMost, listFrontMost};
 
 // The longest good record of a roster file: tag, length and name.
 const GOOD_RECORD_MOST: usize = 3 + APPLICATION_NAME_MOST;
@@ -25,6 +28,19 @@ pub fn roster_front() -> [u8; ROSTER_MOST]
     ensures { λ r. ⌜ frontMost ≡ length r ⌝ }
 {
     [0; ROSTER_MOST]
+}
+
+// The longest good list: as many pairs as it may have, each a record with a name and one with data.
+const LIST_MOST: usize = LISTED_MOST * (3 + KEY_NAME_MOST + 3 + DATA_MOST);
+
+// Room for a good list and one byte more, with which a list is bad whatever follows: `list-front-decides` in
+// proofs/FrontLaws.antt.
+pub const LIST_FRONT_MOST: usize = LIST_MOST + 1;
+
+pub fn list_front() -> [u8; LIST_FRONT_MOST]
+    ensures { λ r. ⌜ listFrontMost ≡ length r ⌝ }
+{
+    [0; LIST_FRONT_MOST]
 }
 
 pub fn registry_memory() -> [u8; REGISTRY_SIZE]

@@ -6,6 +6,7 @@ use crate::files::Front;
 use crate::files::read_front;
 use crate::files::read_rest;
 use crate::memory::connection_memory;
+use crate::memory::list_front;
 use crate::memory::registry_memory;
 use crate::memory::roster_front;
 use billing::Billed;
@@ -18,6 +19,7 @@ use roster::Loaded;
 use roster::RosterFault;
 use roster::load::fault_number;
 use roster::load::load_roster;
+use shipped::check::is_well_formed;
 ghost use mathlib.Core.Bool.{true};
 ghost use mathlib.Core.Path.{_≡_};
 ghost use Prim.Native.Nat.{_≤_};
@@ -26,18 +28,20 @@ ghost use Rattle.wire.specs.code.Wrote.{Wrote};
 ghost use Rattle.connection.specs.Connection.{connectionSize, wellFormedConnection};
 ghost use Rattle.registry.specs.WellFormed.{wellFormedRegistry};
 ghost use Rattle.registry.specs.Registry.{registrySize};
+ghost use Rattle.shipped.specs.Shipped.{wellFormedList};
 ghost use Rattle.counters.specs.Counters.{zeroCounters};
 ghost use Rattle.service.specs.Contract.{lentMemory};
-ghost use Rattle.billing.specs.Bill.{noFile, refusedRoster};
+ghost use Rattle.billing.specs.Bill.{noFile, refusedRoster, refusedList};
 ghost use Rattle.billing.specs.Outcome.{billMost, billIn};
 ghost use Rattle.bill.specs.Prints.{printed, Prints};
 ghost use Rattle.bill.specs.code.Stream.{KeptWithin};
-ghost use Rattle.bill.specs.code.Sources.{sourceFor, takenWith, sourceWith, loadFront, SourceOf, RosterRead, StreamRead, Billable};
+ghost use Rattle.bill.specs.code.Sources.{sourceFor, isListRefused, withList, takenWith, sourceWith, loadFront, RosterRead, ListRead, StartOf, StreamRead, Billable};
 
-// What becomes of a roster file.
+// What becomes of a roster file, and then of a list of keys.
 enum Source {
     Good,
     Faulty(RosterFault),
+    BadList,
     Unreadable,
 }
 
@@ -58,6 +62,14 @@ fn write_refused(out: &mut [u8], fault: RosterFault) -> usize
     write_word(out, numbered, b"\n")
 }
 
+// The line of a bad list.
+fn write_list_refused(out: &mut [u8]) -> usize
+    requires { ⌜ billMost ≤ length (now out) ⌝ }
+    ensures { λ r. ⌜ Wrote refusedList (now (out .entry)) (now (out .exit)) r ⌝ }
+{
+    write_word(out, 0, b"list C6\n")
+}
+
 // The bill of what a stream left in memory.
 fn write_memory(out: &mut [u8], counters: Counters, registry: &[u8], connection: &[u8]) -> usize
     requires { ⌜ (billMost ≤ length (now out)) × (wellFormedConnection (now connection) ≡ true) × (wellFormedRegistry (now registry) ≡ true) ⌝ }
@@ -70,7 +82,7 @@ fn write_memory(out: &mut [u8], counters: Counters, registry: &[u8], connection:
     }
 }
 
-// The text for what became of the two files. Either one unreadable comes before a faulty roster.
+// The text for what became of the files. One that is unreadable comes before a faulty roster, and that before a bad list.
 fn write_outcome(
     out: &mut [u8],
     source: Source,
@@ -89,6 +101,7 @@ fn write_outcome(
     match source {
         Source::Unreadable => write_no_file(out),
         Source::Faulty(fault) => write_refused(out, fault),
+        Source::BadList => write_list_refused(out),
         Source::Good => write_memory(out, counters, registry, connection),
     }
 }
@@ -126,6 +139,39 @@ fn read_roster(roster: File, registry: &mut [u8]) -> Source
     load_front(&front, read, registry)
 }
 
+// Reads a list of keys: so many of its bytes are kept as decide whether it is good.
+fn read_list(list: File, front: &mut [u8]) -> Front
+    ensures { λ r. ⌜ ListRead list (length (now (front .entry))) r ⌝ }
+{
+    let File::Open(fd) = list else {
+        return Front::Unreadable;
+    };
+    read_front(fd, front)
+}
+
+// Whether a list is refused, by what became of the roster file: a roster's fault comes before a bad list.
+fn is_list_refused(source: Source, list: &[u8]) -> bool
+    ensures { λ r. ⌜ r ≡ isListRefused source (wellFormedList (now (list .entry))) ⌝ }
+{
+    let is_bad = !is_well_formed(list);
+    match source {
+        Source::Good => is_bad,
+        Source::Faulty(_) => false,
+        Source::BadList => false,
+        Source::Unreadable => false,
+    }
+}
+
+// What becomes of the list, behind what became of the roster file.
+fn with_list(source: Source, list: &[u8]) -> Source
+    ensures { λ r. ⌜ r ≡ withList source (wellFormedList (now (list .entry))) ⌝ }
+{
+    if is_list_refused(source, list) {
+        return Source::BadList;
+    }
+    source
+}
+
 // A stream of which nothing is counted.
 fn uncounted(is_whole: bool) -> Taken
     ensures { λ r. ⌜ r ≡ takenWith zeroCounters «is_whole» ⌝ }
@@ -136,30 +182,44 @@ fn uncounted(is_whole: bool) -> Taken
     }
 }
 
-// Reads a stream: through the call where the roster is good; with a faulty one only to its end, for an unreadable stream comes
-// before that.
-fn read_stream(stream: File, source: Source, connection: &mut [u8], registry: &mut [u8]) -> Taken
-    requires { ⌜ (length (now connection) ≡ connectionSize) × SourceOf (now registry) source ⌝ }
-    ensures { λ r. ⌜ StreamRead stream source (now (registry .entry)) (r .«is_whole») (lentMemory (now (connection .exit)) (now (registry .exit)) (r .counters)) ⌝ }
+// Reads a stream: through the call where roster and list are good; else only to its end, for an unreadable stream comes before a
+// faulty roster and a bad list.
+fn read_stream(
+    stream: File,
+    source: Source,
+    connection: &mut [u8],
+    registry: &mut [u8],
+    list: &[u8],
+) -> Taken
+    requires { ⌜ (length (now connection) ≡ connectionSize) × StartOf (now registry) (now list) source ⌝ }
+    ensures { λ r. ⌜ StreamRead stream source (now (registry .entry)) (now (list .entry)) (r .«is_whole») (lentMemory (now (connection .exit)) (now (registry .exit)) (r .counters)) ⌝ }
 {
     let File::Open(fd) = stream else {
         return uncounted(false);
     };
     match source {
-        Source::Good => take_stream(fd, connection, registry),
+        Source::Good => take_stream(fd, connection, registry, list),
         Source::Faulty(_) => uncounted(read_rest(fd)),
+        Source::BadList => uncounted(read_rest(fd)),
         Source::Unreadable => uncounted(false),
     }
 }
 
-// The text for two files.
-pub fn write_text(out: &mut [u8], roster: File, stream: File) -> usize
+// The text for three files.
+pub fn write_text(out: &mut [u8], roster: File, stream: File, list: File) -> usize
     requires { ⌜ billMost ≤ length (now out) ⌝ }
-    ensures { λ r. ⌜ Prints roster stream (now (out .exit)) r ⌝ }
+    ensures { λ r. ⌜ Prints roster stream list (now (out .exit)) r ⌝ }
 {
     let mut registry = registry_memory();
     let mut connection = connection_memory();
+    let mut front = list_front();
     let source = read_roster(roster, &mut registry);
-    let taken = read_stream(stream, source, &mut connection, &mut registry);
-    write_outcome(out, source, taken, &registry, &connection)
+    let read = read_list(list, &mut front);
+    let Front::Kept(size) = read else {
+        return write_no_file(out);
+    };
+    let keys = &front[..size];
+    let start = with_list(source, keys);
+    let taken = read_stream(stream, start, &mut connection, &mut registry, keys);
+    write_outcome(out, start, taken, &registry, &connection)
 }

@@ -11,6 +11,9 @@ open-argument-requires c κs = search needs
 open-argument-requires-2 : tie.Need-open-argument-requires-2
 open-argument-requires-2 c κs = search needs
 
+open-argument-requires-3 : tie.Need-open-argument-requires-3
+open-argument-requires-3 c κs = search needs
+
 bill-buffer-requires : tie.Need-bill-buffer-requires
 bill-buffer-requires c κs = search needs
 
@@ -40,6 +43,7 @@ main-spec =
     (tie.spec
     open-argument-requires
     open-argument-requires-2
+    open-argument-requires-3
     bill-buffer-requires
     slice-aggregate-write-text
     write-text-requires

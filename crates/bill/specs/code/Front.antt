@@ -1,7 +1,9 @@
--- How much of a roster file decides whether it is good, and how.
+-- How much of a roster file decides whether it is good, and how; and how much of a list of keys whether it is.
 use Prim.Native.Nat.{ℕ, _+_, _*_}
-use Rattle.keys.specs.Names.{applicationNameMost}
+use Rattle.keys.specs.Names.{applicationNameMost, keyNameMost}
+use Rattle.keys.specs.Key.{dataMost}
 use Rattle.registry.specs.Registry.{lineCount}
+use Rattle.shipped.specs.Shipped.{listedMost}
 
 -- a record has 3 bytes of tag and length, and its value: in a good one a name, in any as many bytes as the 2 bytes of the
 -- length can say
@@ -15,3 +17,14 @@ recordMost = 3 + 65535
 -- proofs/FrontLaws.antt
 abbrev pub frontMost : ℕ
 frontMost = lineCount * goodRecordMost + recordMost
+
+-- a good list has at most so many pairs of a name and data, each in its record
+abbrev pub pairMost : ℕ
+pairMost = 3 + keyNameMost + (3 + dataMost)
+
+abbrev pub listMost : ℕ
+listMost = listedMost * pairMost
+
+-- with one byte more a list is bad, whatever is behind that: `list-front-decides`
+abbrev pub listFrontMost : ℕ
+listFrontMost = listMost + 1

@@ -1,9 +1,10 @@
--- What becomes of the two files.
+-- What becomes of the three files.
 use Prim.Native.Nat.{ℕ}
 use mathlib.Core.Path.{_≡_}
-use mathlib.Core.Bool.{Bool, true, false}
+use mathlib.Core.Bool.{Bool, true, false, not}
 use mathlib.Core.List.{List}
 use lib.ListN.{take}
+use Rattle.wire.specs.Choice.{if_then_else_}
 use Rattle.connection.specs.Connection.{wellFormedConnection}
 use Rattle.registry.specs.Registry.{registryOf}
 use Rattle.registry.specs.WellFormed.{wellFormedRegistry}
@@ -11,9 +12,10 @@ use Rattle.roster.specs.Roster.{applications, faulty, rosterOf, RosterOutcome, 
 use Rattle.roster.specs.declared.Loaded.{Loaded}
 use Rattle.roster.specs.declared.Loaded.the-variants as loaded
 use Rattle.roster.specs.declared.RosterFault.{RosterFault}
+use Rattle.shipped.specs.Shipped.{wellFormedList}
 use Rattle.counters.specs.Counters.{counterMost}
 use Rattle.service.specs.Call.{Memory}
-use Rattle.bill.specs.code.Stream.{After}
+use Rattle.bill.specs.code.Stream.{KeptWithin, After}
 use Rattle.counters.specs.declared.Counters.{Counters}
 use Rattle.bill.specs.declared.feed.Taken.{Taken}
 use Rattle.bill.specs.declared.files.File.{File}
@@ -21,7 +23,7 @@ use Rattle.bill.specs.declared.files.File.the-variants.{Open, Missing}
 use Rattle.bill.specs.declared.files.Front.{Front}
 use Rattle.bill.specs.declared.files.Front.the-variants as front
 use Rattle.bill.specs.declared.text.Source.{Source}
-use Rattle.bill.specs.declared.text.Source.the-variants.{Good, Faulty, Unreadable}
+use Rattle.bill.specs.declared.text.Source.the-variants.{Good, Faulty, BadList, Unreadable}
 
 -- ---- what was kept of a roster file, loaded
 
@@ -60,30 +62,59 @@ pub record Refused (fault : RosterFault) : Type 0 where
 unfoldable pub SourceOf : (registry : List ℕ) → Source → Type 0
 SourceOf registry Good = Started registry
 SourceOf registry (Faulty fault) = Refused fault
+SourceOf registry BadList = ⊥  -- no list was looked at
 SourceOf registry Unreadable = Unit {0}
 
 unfoldable pub RosterRead : File → (registry : List ℕ) → Source → Type 0
 RosterRead (Open fd) registry source = SourceOf registry source
 RosterRead Missing registry source = source ≡ Unreadable
 
+-- ---- and then a list of keys
+
+unfoldable pub ListRead : File → (most : ℕ) → Front → Type 0
+ListRead (Open fd) most read = KeptWithin most read
+ListRead Missing most read = read ≡ front.Unreadable
+
+-- a bad list is refused after a good roster only
+unfoldable pub isListRefused : Source → (isGood : Bool) → Bool
+isListRefused Good isGood = not isGood
+isListRefused (Faulty fault) isGood = false
+isListRefused BadList isGood = false
+isListRefused Unreadable isGood = false
+
+unfoldable pub withList : Source → (isGood : Bool) → Source
+withList source isGood = if isListRefused source isGood then BadList else source
+
+unfoldable pub StartOf : (registry list : List ℕ) → Source → Type 0
+StartOf registry list Good = Started registry × (wellFormedList list ≡ true)
+StartOf registry list (Faulty fault) = Refused fault
+StartOf registry list BadList = Started registry × (wellFormedList list ≡ false)
+StartOf registry list Unreadable = Unit {0}
+
+unfoldable pub StartRead : File → (registry list : List ℕ) → Source → Type 0
+StartRead (Open fd) registry list source = StartOf registry list source
+StartRead Missing registry list source = source ≡ Unreadable
+
 -- ---- a stream that was read
 
 abbrev pub takenWith : Counters → (isWhole : Bool) → Taken
 takenWith counters isWhole = record { counters = counters; «is_whole» = isWhole }
 
--- after a good roster it ran through the call
-unfoldable pub StreamTaken : Source → (registry : List ℕ) → Memory → Type 0
-StreamTaken Good registry m = After registry counterMost m
-StreamTaken (Faulty fault) registry m = Unit {0}
-StreamTaken Unreadable registry m = Unit {0}
+-- after a good roster and a good list it ran through the call
+unfoldable pub StreamTaken : Source → (registry list : List ℕ) → Memory → Type 0
+StreamTaken Good registry list m = After list registry counterMost m
+StreamTaken (Faulty fault) registry list m = Unit {0}
+StreamTaken BadList registry list m = Unit {0}
+StreamTaken Unreadable registry list m = Unit {0}
 
-unfoldable pub StreamRead : File → Source → (registry : List ℕ) → (isWhole : Bool) → Memory → Type 0
-StreamRead (Open fd) source registry isWhole m = StreamTaken source registry m
-StreamRead Missing source registry isWhole m = isWhole ≡ false
+unfoldable pub StreamRead : File → Source → (registry list : List ℕ) → (isWhole : Bool) → Memory → Type 0
+StreamRead (Open fd) source registry list isWhole m = StreamTaken source registry list m
+StreamRead Missing source registry list isWhole m = isWhole ≡ false
 
 -- memory that has a bill, where a bill is printed
 unfoldable pub Billable : Source → (isWhole : Bool) → Memory → Type 0
 Billable Good true m = (wellFormedConnection (m .connection) ≡ true) × (wellFormedRegistry (m .registry) ≡ true)
 Billable Good false m = Unit {0}
 Billable (Faulty fault) isWhole m = Unit {0}
+Billable BadList isWhole m = Unit {0}
 Billable Unreadable isWhole m = Unit {0}

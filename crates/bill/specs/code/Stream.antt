@@ -6,6 +6,7 @@ use mathlib.Core.List.{List, _++_}
 use lib.ListN.{length}
 use Rattle.stream.specs.Rules.{rules}
 use Rattle.registry.specs.WellFormed.{wellFormedRegistry}
+use Rattle.shipped.specs.Shipped.{wellFormedList}
 use Rattle.judgement.specs.Judgement.{judgement}
 use Rattle.counters.specs.Counters.{counterMost}
 use Rattle.service.specs.Call.{Memory, memoryOf, chunkMost}
@@ -29,25 +30,28 @@ KeptWithin most Unreadable = Unit {0}
 abbrev pub turnsMost : ℕ
 turnsMost = counterMost / chunkMost
 
--- what the rules leave in memory after a stream
-abbrev pub leftBy : (registry stream : List ℕ) → Memory
-leftBy registry stream = memoryOf (rules judgement registry stream .state)
+-- what the rules leave in memory after a stream, with this list of keys
+abbrev pub leftBy : (list registry stream : List ℕ) → Memory
+leftBy list registry stream = memoryOf (rules (judgement list) registry stream .state)
 
--- memory that the rules leave after some stream, from a good registry, and so many bytes more are below the counters' limit
-pub record Follows (more : ℕ) (m : Memory) : Type 0 where
+-- memory that the rules leave after some stream, from a good registry and with a good list, and so many bytes more are below the
+-- counters' limit
+pub record Follows (list : List ℕ) (more : ℕ) (m : Memory) : Type 0 where
   pub registry : List ℕ
   pub stream : List ℕ
   pub good : wellFormedRegistry registry ≡ true
+  pub listed : wellFormedList list ≡ true
   pub short : length stream + more ≤ counterMost
-  pub memory : m ≡ leftBy registry stream
+  pub memory : m ≡ leftBy list registry stream
 
 -- bytes were taken: from what the rules leave after a stream to what they leave after it and the bytes
-unfoldable pub Takes : (bytes : List ℕ) (before after : Memory) → Type 0
-Takes bytes before after = (registry stream : List ℕ) → wellFormedRegistry registry ≡ true → length stream + length bytes ≤ counterMost
-    → before ≡ leftBy registry stream → after ≡ leftBy registry (stream ++ bytes)
+unfoldable pub Takes : (list bytes : List ℕ) (before after : Memory) → Type 0
+Takes list bytes before after =
+    (registry stream : List ℕ) → wellFormedRegistry registry ≡ true → wellFormedList list ≡ true → length stream + length bytes ≤ counterMost
+    → before ≡ leftBy list registry stream → after ≡ leftBy list registry (stream ++ bytes)
 
 -- what the rules leave after some stream of at most so many bytes
-pub record After (registry : List ℕ) (most : ℕ) (m : Memory) : Type 0 where
+pub record After (list registry : List ℕ) (most : ℕ) (m : Memory) : Type 0 where
   pub stream : List ℕ
   pub short : length stream ≤ most
-  pub memory : m ≡ leftBy registry stream
+  pub memory : m ≡ leftBy list registry stream

@@ -15,39 +15,39 @@ use Rattle.bill.proofs.feed.feed.Statement.{statement}
 use Rattle.bill.proofs.feed.feed.Tie as tie
 
 abbrev Inv-loop : tie.InvT-loop
-Inv-loop chunk connection₀ registry₀ response₀ after₀ at₀ connection registry response after at =
-    Takes (take at chunk) (lentMemory connection₀ registry₀ after₀) (lentMemory connection registry after) × (at ≤ length chunk)
+Inv-loop chunk connection₀ registry₀ list response₀ after₀ at₀ connection registry response after at =
+    Takes list (take at chunk) (lentMemory connection₀ registry₀ after₀) (lentMemory connection registry after) × (at ≤ length chunk)
     × (length connection ≡ length connection₀) × (length registry ≡ length registry₀) × (length response ≡ length response₀)
 
 abbrev μ-loop : tie.MeasureT-loop
-μ-loop chunk connection₀ registry₀ response₀ after₀ at₀ connection registry response after at = length chunk - at
+μ-loop chunk connection₀ registry₀ list response₀ after₀ at₀ connection registry response after at = length chunk - at
 
 -- all that the call says and leaves
 abbrev outcome : (c : tie.After-call-by-value Inv-loop μ-loop) → CallOutcome Memory
 outcome c =
     let call = c .call-by-value in
     let r = call .result in
-    outcomeWith (codeNumber (r .code)) (r .taken) (r .written) (lentMemory (call .last .1 .0) (call .last .1 .1 .0) (r .counters)) (call .last .1 .1 .1 .1 .0)
+    outcomeWith (codeNumber (r .code)) (r .taken) (r .written) (lentMemory (call .last .1 .0) (call .last .1 .1 .0) (r .counters)) (call .last .1 .1 .1 .1 .1 .0)
 
 called : (c : tie.After-call-by-value Inv-loop μ-loop)
     → (let l = c .before .before .before .before .before .before .loop in
-    let chunk = c .before .before .before .before .before .before .before .before .before .before .before .args .chunk .now in
-    outcome c ≡ callOutcome (lentMemory (l .connection) (l .registry) (l .after)) (callWith (drop (l .at) chunk) (l .response)))
-called c = rw (lent (c .before .before .before .before .before .before .loop .at) (c .before .before .before .before .before .before .before .before .before .before .before .args .chunk .now)) at (c .call-by-value .ensures)
+    let a = c .before .before .before .before .before .before .before .before .before .before .before .before .args in
+    outcome c ≡ callOutcome (a .list .now) (lentMemory (l .connection) (l .registry) (l .after)) (callWith (drop (l .at) (a .chunk .now)) (l .response)))
+called c = rw (lent (c .before .before .before .before .before .before .loop .at) (c .before .before .before .before .before .before .before .before .before .before .before .before .args .chunk .now)) at (c .call-by-value .ensures)
 
 -- a byte at least was taken, and no more than are left
 fits : (c : tie.After-call-by-value Inv-loop μ-loop)
     → (let l = c .before .before .before .before .before .before .loop in
-    (1 ≤ c .call-by-value .result .taken) × (l .at + c .call-by-value .result .taken ≤ length (c .before .before .before .before .before .before .before .before .before .before .before .args .chunk .now)))
+    (1 ≤ c .call-by-value .result .taken) × (l .at + c .call-by-value .result .taken ≤ length (c .before .before .before .before .before .before .before .before .before .before .before .before .args .chunk .now)))
 fits c =
     let l = c .before .before .before .before .before .before .loop in
-    let start = c .before .before .before .before .before .before .before .before .before .before .before in
+    let start = c .before .before .before .before .before .before .before .before .before .before .before .before in
     let (few, room, follows) = start .pre in
     let (taken, within, same, same2, long) = l .inv in
-    takes-fits (start .args .chunk .now) (l .at) _ _ (l .response) (outcome c) few (omega arith) (omega arith) taken (called c) follows
+    takes-fits (start .args .list .now) (start .args .chunk .now) (l .at) _ _ (l .response) (outcome c) few (omega arith) (omega arith) taken (called c) follows
 
 loop-holds : tie.Need-loop-holds Inv-loop μ-loop
-loop-holds c = let a = c .before .before .before .before .args in (takes-none (a .chunk .now) _, omega arith, refl, refl, refl)
+loop-holds c = let a = c .before .before .before .before .before .args in (takes-none (a .list .now) (a .chunk .now) _, omega arith, refl, refl, refl)
 
 sub-call-by-value : tie.Need-sub-call-by-value Inv-loop μ-loop
 sub-call-by-value c = omega arith
@@ -74,18 +74,18 @@ loop-again : tie.Need-loop-again Inv-loop μ-loop
 loop-again c =
     let t = c .before .before .before .before .before .before .before .before in
     let l = t .before .before .before .before .before .before .loop in
-    let start = t .before .before .before .before .before .before .before .before .before .before .before in
+    let start = t .before .before .before .before .before .before .before .before .before .before .before .before in
     let chunk = start .args .chunk .now in
     let (few, room, follows) = start .pre in
     let (taken, within, same, same2, long) = l .inv in
     let call = t .call-by-value in
-    let more = takes-more chunk (l .at) _ _ (l .response) (outcome t) few (omega arith) (omega arith) taken (called t) in (
-      subst (λ (x : Counters). Takes (take (l .at + call .result .taken) chunk) (lentMemory (start .args .connection .now) (start .args .registry .now) (start .args .counters)) (lentMemory (call .last .1 .0) (call .last .1 .1 .0) x))
+    let more = takes-more (start .args .list .now) chunk (l .at) _ _ (l .response) (outcome t) few (t .before .before .before .before .before .loop-test .taken) (omega (arith, room, long)) taken (called t) in (
+      subst (λ (x : Counters). Takes (start .args .list .now) (take (l .at + call .result .taken) chunk) (lentMemory (start .args .connection .now) (start .args .registry .now) (start .args .counters)) (lentMemory (call .last .1 .0) (call .last .1 .1 .0) x))
           (sym (c .counters-of .ensures)) more,
       fits t .1,
       call .kept .1 .0 ∙ same,
       call .kept .1 .1 .0 ∙ same2,
-      call .kept .1 .1 .1 .1 .0 ∙ long,
+      call .kept .1 .1 .1 .1 .1 .0 ∙ long,
     )
 
 same-length : tie.Need-same-length Inv-loop μ-loop
@@ -100,7 +100,8 @@ same-length-3 c = search needs
 returns : tie.Need-returns Inv-loop μ-loop
 returns c =
     let l = c .before .loop in
-    takes-all (c .before .before .before .before .before .before .args .chunk .now) (l .at) _ _ (omega arith) (l .inv .0)
+    let a = c .before .before .before .before .before .before .before .args in
+    takes-all (a .list .now) (a .chunk .now) (l .at) _ _ (omega arith) (l .inv .0)
 
 pub feed-spec : {M : Type 1} → statement M
 feed-spec =
