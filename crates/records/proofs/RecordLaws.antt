@@ -1,7 +1,7 @@
 -- Laws of a file of records: when one is whole, the plain equations of `readRecords`, what holds of every state that is reached,
 -- and a file behind another.
 use mathlib.Core.Path.{_≡_, refl, sym, ap, ap₂, _∙_}
-use mathlib.Core.Bool.{Bool, true, false, false≢true, not, _||_, or-true}
+use mathlib.Core.Bool.{Bool, true, false, _||_, or-true}
 use mathlib.Core.List.{List, [], _∷_, _++_}
 use Prim.Native.Nat.{ℕ, zero, suc, _+_, _-_, _≤_, _<_}
 use native.Mathlib.Omega.{arith}
@@ -12,8 +12,8 @@ use lib.ListN.{length, take, drop, length-append, length-drop}
 use lib.Seq.{drop-drop, drop-append-le, take-append-seam, length-take-le}
 use Rattle.wire.specs.Choice.{if_then_else_}
 use Rattle.wire.specs.Numbers.{field}
-use Rattle.wire.specs.Scan.{Turn, on, out, follow, scanFrom, scanAt}
-use Rattle.wire.proofs.TestLaws.{or-right, not-across}
+use Rattle.wire.specs.Scan.{Turn, out, follow, scanFrom, scanAt}
+use Rattle.wire.proofs.TestLaws.{or-right}
 use Rattle.wire.proofs.ListLaws.{part-of-part}
 use Rattle.wire.proofs.NumberLaws.{field-append}
 use Rattle.wire.proofs.ScanLaws.{TurnAhead, TurnHas, scan-end, scan-on, scan-has}

@@ -1,7 +1,7 @@
 -- Laws of one pair: what the list's reading makes of it, and that bytes behind a pair do not matter to it.
 use mathlib.Core.Path.{_≡_, refl, sym, ap, ap₂, _∙_}
 use mathlib.Core.Bool.{Bool, true, false, true≢false, _&&_, and-false}
-use mathlib.Core.Option.{Option, none, some}
+use mathlib.Core.Option.{Option, none}
 use mathlib.Core.List.{List, [], _∷_, _++_}
 use Prim.Native.Nat.{ℕ, _+_, _≤_, _<_}
 use native.Mathlib.Omega.{arith}
@@ -18,7 +18,7 @@ use Rattle.keys.specs.Names.{legalName, keyNameMost}
 use Rattle.registry.specs.Names.{isNew}
 use Rattle.records.specs.Records.{Record, recordLength, valueIn, recordIn, isWhole, next, stop, readRecords}
 use Rattle.records.proofs.RecordLaws.{whole-fit, whole-room, room-front, size-append, record-append, whole-append, records-empty, records-cut, records-on, afterStep}
-use Rattle.shipped.specs.Shipped.{ListedKey, namesOf, listedMost, Pairs, whole, named, nameTests, dataTests, pairStep, pairsDone}
+use Rattle.shipped.specs.Shipped.{ListedKey, namesOf, listedMost, Pairs, whole, named, dataTests, pairStep, pairsDone}
 use Rattle.shipped.specs.code.Pairs.{isName, isData, nameLength, dataLength, behind, isPair, pairLength, keyIn}
 
 abbrev listed : (name bytes : List ℕ) → ListedKey

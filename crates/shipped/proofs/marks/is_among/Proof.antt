@@ -1,11 +1,11 @@
 -- `shipped::marks::is_among` meets its contract.
 use Prim.Native.Nat.{_≤_, _-_}
-use mathlib.Core.Path.{_≡_, refl, sym, ap, _∙_}
+use mathlib.Core.Path.{_≡_, refl, ap, _∙_}
 use mathlib.Core.Bool.{not, _&&_}
 use native.Mathlib.Omega.{arith}
 use borrow.Author.Needs.{needs}
 use lib.Dec.{eqb}
-use lib.ListN.{length, drop}
+use lib.ListN.{drop}
 use Rattle.wire.specs.Lists.{all}
 use Rattle.wire.proofs.BitLaws.{or-more, or-all}
 use Rattle.shipped.specs.Shipped.{listedMost}

@@ -1,7 +1,7 @@
 -- `shipped::pairs::data_length` meets its contract.
 use Prim.Native.Nat.{ℕ, _+_, _<_}
-use mathlib.Core.Path.{_≡_, sym, ap, _∙_}
-use mathlib.Core.Bool.{Bool, true, false}
+use mathlib.Core.Path.{_≡_, sym, _∙_}
+use mathlib.Core.Bool.{true, false}
 use mathlib.Core.List.{List}
 use native.Mathlib.Omega.{arith}
 use borrow.Author.Needs.{needs}
@@ -11,10 +11,9 @@ use lib.ListN.{length, getD}
 use Rattle.wire.specs.Numbers.{field}
 use Rattle.wire.proofs.NumberLaws.{field-byte}
 use Rattle.keys.specs.Key.{dataMost, legalData}
-use Rattle.keys.specs.Names.{legalName, keyNameMost}
-use Rattle.records.specs.Records.{recordLength, valueIn, isWhole}
+use Rattle.records.specs.Records.{valueIn, isWhole}
 use Rattle.records.proofs.RecordLaws.{whole-room, value-length}
-use Rattle.shipped.specs.code.Pairs.{isName, isData, nameLength, dataLength}
+use Rattle.shipped.specs.code.Pairs.{isData, dataLength}
 use Rattle.shipped.proofs.pairs.data_length.Statement.{statement}
 use Rattle.shipped.proofs.pairs.data_length.Tie as tie
 

@@ -1,20 +1,19 @@
 -- `shipped::pairs::name_length` meets its contract.
-use Prim.Native.Nat.{ℕ, _-_, _<_}
+use Prim.Native.Nat.{ℕ, _<_}
 use mathlib.Core.Path.{_≡_, sym, ap, _∙_}
-use mathlib.Core.Bool.{Bool, true, false}
+use mathlib.Core.Bool.{true}
 use mathlib.Core.List.{List}
 use native.Mathlib.Omega.{arith}
 use borrow.Author.Needs.{needs}
-use borrow.Author.Tests.{eq-eqb, ne-eqb, lt-leb, le-leb, not-true, not-false}
-use lib.Dec.{eqb, leb}
+use borrow.Author.Tests.{eq-eqb, ne-eqb, not-true, not-false}
+use lib.Dec.{eqb}
 use lib.ListN.{length, getD}
 use Rattle.wire.specs.Numbers.{field}
 use Rattle.wire.proofs.NumberLaws.{field-byte}
-use Rattle.keys.specs.Key.{dataMost, legalData}
 use Rattle.keys.specs.Names.{legalName, keyNameMost}
-use Rattle.records.specs.Records.{recordLength, valueIn, isWhole}
-use Rattle.records.proofs.RecordLaws.{whole-room, value-length}
-use Rattle.shipped.specs.code.Pairs.{isName, isData, nameLength, dataLength}
+use Rattle.records.specs.Records.{valueIn, isWhole}
+use Rattle.records.proofs.RecordLaws.{whole-room}
+use Rattle.shipped.specs.code.Pairs.{isName, nameLength}
 use Rattle.shipped.proofs.pairs.name_length.Statement.{statement}
 use Rattle.shipped.proofs.pairs.name_length.Tie as tie
 
