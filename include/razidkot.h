@@ -1,17 +1,19 @@
 /*
  * The key service for C: target/staticlib/libabi.a, which `rt staticlib abi` writes (x86-64, System V).
  * The archive allocates nothing, keeps nothing between calls and needs no library but C's. All memory is the caller's.
- * docs/LAYOUT.md has the layouts of registry and connection memory; document 01 is the requirements paper.
+ * docs/LAYOUT.md has the layouts of registry and connection memory and of the list; document 01 is the requirements
+ * paper, document 02 the requests after it.
  *
  * Memory is handed over as a pointer and a length in bytes. Every function is defined for any bytes and any lengths:
  *
  *   - Short or long memory is answered: a registry or connection of a wrong size, a response buffer below
  *     RAZIDKOT_LEAST_RESPONSE_BUFFER, a chunk above RAZIDKOT_LONGEST_CHUNK, a buffer for the bill below
  *     RAZIDKOT_LEAST_BILL_BUFFER.
- *   - NULL with length 0 is empty memory and is answered as such: an empty roster file or an empty chunk, which are
- *     good; a registry or connection of a wrong size; a buffer for a response or for the bill that is too small.
- *   - Ill-formed memory of the right size is answered: RAZIDKOT_CALL_CONNECTION_ILL_FORMED,
- *     RAZIDKOT_CALL_REGISTRY_ILL_FORMED, RAZIDKOT_BILL_CONNECTION_ILL_FORMED, RAZIDKOT_BILL_REGISTRY_ILL_FORMED.
+ *   - NULL with length 0 is empty memory and is answered as such: an empty roster file, list or chunk, which are good;
+ *     a registry or connection of a wrong size; a buffer for a response or for the bill that is too small.
+ *   - Ill-formed memory of the right size, and an ill-formed list, are answered: RAZIDKOT_CALL_CONNECTION_ILL_FORMED,
+ *     RAZIDKOT_CALL_REGISTRY_ILL_FORMED, RAZIDKOT_CALL_LIST_ILL_FORMED, RAZIDKOT_BILL_CONNECTION_ILL_FORMED,
+ *     RAZIDKOT_BILL_REGISTRY_ILL_FORMED.
  *
  * What it can't tell, and what is undefined:
  *
@@ -22,7 +24,8 @@
  *
  * Threads: the functions share no memory, so calls on different memory may run at the same time. Registry, connection,
  * counters and response buffer may each be in one call at a time, and nothing else may read or write them meanwhile.
- * Connections that share a registry or counters therefore take turns.
+ * Connections that share a registry or counters therefore take turns. Chunk and list are only read: calls at the same
+ * time may share them.
  */
 #ifndef RAZIDKOT_H
 #define RAZIDKOT_H
@@ -50,6 +53,11 @@ extern "C" {
 #define RAZIDKOT_LEAST_BILL_BUFFER 2048
 /* 2^62: a call is refused if any counter is above it. */
 #define RAZIDKOT_HIGHEST_COUNTER (UINT64_C(1) << 62)
+
+/* How many keys a list of shipped keys may have. */
+#define RAZIDKOT_MOST_LISTED_KEYS 64
+/* No good list is longer. */
+#define RAZIDKOT_LONGEST_LIST 40832
 
 /* How many applications a roster may have. */
 #define RAZIDKOT_LINES 8
@@ -103,7 +111,7 @@ enum razidkot_open_code {
     RAZIDKOT_OPEN_WRONG_SIZE = 1
 };
 
-/* What razidkot_call says: 0, or the digit of document 01's C1 to C5. The first that applies, in this order. */
+/* What razidkot_call says: 0, or the digit of the papers' C1 to C6. The first that applies, in this order. */
 enum razidkot_call_code {
     RAZIDKOT_CALL_TAKEN = 0,
     /* C1: the response buffer has fewer than RAZIDKOT_LEAST_RESPONSE_BUFFER bytes. */
@@ -115,7 +123,9 @@ enum razidkot_call_code {
     /* C4: the registry memory has another size than RAZIDKOT_REGISTRY_SIZE, or no registry in it. */
     RAZIDKOT_CALL_REGISTRY_ILL_FORMED = 4,
     /* C5: a counter is above RAZIDKOT_HIGHEST_COUNTER. */
-    RAZIDKOT_CALL_COUNTER_TOO_HIGH = 5
+    RAZIDKOT_CALL_COUNTER_TOO_HIGH = 5,
+    /* C6: the list is none: document 02, "Keys we ship". */
+    RAZIDKOT_CALL_LIST_ILL_FORMED = 6
 };
 
 /* What a call says. A call that is not taken says 0 taken and 0 written. */
@@ -146,11 +156,16 @@ void razidkot_clear_counters(razidkot_counters *counters);
 /*
  * Takes bytes of the chunk until one response is written, or to the chunk's end, and says how many. A chunk may end
  * anywhere within a request. Bytes of the buffer past the response stay. An empty chunk is taken and changes nothing.
- * A call that is refused (code 1 to 5) changes nothing at all: connection, registry, counters and buffer stay.
+ * A call that is refused (code 1 to 6) changes nothing at all: connection, registry, counters and buffer stay.
+ *
+ * The list has the keys that every application may export and verify with besides its own: records as the roster's, a
+ * name (tag 1) and its data (tag 2) for each key, at most RAZIDKOT_MOST_LISTED_KEYS. It is judged on every call and
+ * never written; NULL with length 0 is the list of none. Another call may be lent another list.
  */
 razidkot_answer razidkot_call(const uint8_t *chunk, size_t chunk_length,
                               uint8_t *connection, size_t connection_length,
                               uint8_t *registry, size_t registry_length,
+                              const uint8_t *list, size_t list_length,
                               razidkot_counters *counters,
                               uint8_t *response, size_t response_length);
 

@@ -36,7 +36,7 @@ static bool send_bytes(const uint8_t *bytes, size_t length)
 {
     while (length > 0) {
         razidkot_answer answer = razidkot_call(bytes, length, connection, sizeof connection, registry, sizeof registry,
-                                               &counters, responses + responses_length,
+                                               NULL, 0, &counters, responses + responses_length,
                                                sizeof responses - responses_length);
         if (answer.code != RAZIDKOT_CALL_TAKEN)
             return false;

@@ -1,6 +1,6 @@
 /*
- * Embeds the key service in a C program: loads a roster, opens a connection, sends a Ping, an Import and an Export in
- * chunks, and prints what came back.
+ * Embeds the key service in a C program: loads a roster, opens a connection, sends a Ping, an Import and two Exports in
+ * chunks, one of a key that was imported and one of a key in the list, and prints what came back.
  *
  *   rt staticlib abi
  *   cc -std=c99 -Iinclude -o keys examples/c/keys.c target/staticlib/libabi.a
@@ -13,7 +13,10 @@
 /* One record: tag 1, the length in two bytes, the name. */
 static const uint8_t roster[] = {0x01, 7, 0, 's', 'c', 'a', 'n', 'n', 'e', 'r'};
 
-/* Three requests: magic, H, version and provider, session, types, content length, auth length, opcode, body, auth. */
+/* The keys that every application has: the name of each (tag 1), then its data (tag 2). */
+static const uint8_t list[] = {0x01, 7, 0, 'r', 'e', 'l', 'e', 'a', 's', 'e', 0x02, 2, 0, 0xCC, 0xDD};
+
+/* Four requests: magic, H, version and provider, session, types, content length, auth length, opcode, body, auth. */
 static const uint8_t stream[] = {
     /* Ping, with auth type 0. */
     0x10, 0xA7, 0xC0, 0x5E, 22, 0, 1, 0, 0, 0, 0, 0, 0, 0, 0, 0, 0, 1, 1, 0, 0, 0, 0, 0, 0, 0, 1, 0,
@@ -22,7 +25,10 @@ static const uint8_t stream[] = {
     0x0A, 0x01, 'a', 0x12, 0x02, 0xAA, 0xBB, 0x18, 0x80, 0x10, 0x20, 0x01, 's', 'c', 'a', 'n', 'n', 'e', 'r',
     /* Export from scanner: the key "a". */
     0x10, 0xA7, 0xC0, 0x5E, 22, 0, 1, 0, 1, 0, 0, 0, 0, 0, 0, 0, 0, 1, 1, 1, 3, 0, 0, 0, 7, 0, 7, 0,
-    0x0A, 0x01, 'a', 's', 'c', 'a', 'n', 'n', 'e', 'r'};
+    0x0A, 0x01, 'a', 's', 'c', 'a', 'n', 'n', 'e', 'r',
+    /* Export from scanner: the key "release", which it has not imported. */
+    0x10, 0xA7, 0xC0, 0x5E, 22, 0, 1, 0, 1, 0, 0, 0, 0, 0, 0, 0, 0, 1, 1, 1, 9, 0, 0, 0, 7, 0, 7, 0,
+    0x0A, 0x07, 'r', 'e', 'l', 'e', 'a', 's', 'e', 's', 'c', 'a', 'n', 'n', 'e', 'r'};
 
 static uint8_t registry[RAZIDKOT_REGISTRY_SIZE];
 static uint8_t connection[RAZIDKOT_CONNECTION_SIZE];
@@ -41,8 +47,8 @@ static void print_response(size_t length)
 static uint32_t send_chunk(const uint8_t *chunk, size_t length)
 {
     while (length > 0) {
-        razidkot_answer answer = razidkot_call(chunk, length, connection, sizeof connection, registry,
-                                               sizeof registry, &counters, response, sizeof response);
+        razidkot_answer answer = razidkot_call(chunk, length, connection, sizeof connection, registry, sizeof registry,
+                                               list, sizeof list, &counters, response, sizeof response);
         if (answer.code != RAZIDKOT_CALL_TAKEN)
             return answer.code;
         if (answer.written > 0)
@@ -78,7 +84,11 @@ int main(void)
 
     /* A buffer that is too small: nothing is taken. */
     razidkot_answer refused = razidkot_call(stream, sizeof stream, connection, sizeof connection, registry,
-                                            sizeof registry, &counters, NULL, 0);
+                                            sizeof registry, list, sizeof list, &counters, NULL, 0);
     printf("without a buffer C%" PRIu32 " taken %zu\n", refused.code, refused.taken);
+    /* A list without its last byte. */
+    refused = razidkot_call(stream, sizeof stream, connection, sizeof connection, registry, sizeof registry,
+                            list, sizeof list - 1, &counters, response, sizeof response);
+    printf("with a cut list C%" PRIu32 " taken %zu\n", refused.code, refused.taken);
     return 0;
 }

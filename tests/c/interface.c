@@ -9,6 +9,8 @@ static uint8_t connection[RAZIDKOT_CONNECTION_SIZE];
 static uint8_t response[RAZIDKOT_LEAST_RESPONSE_BUFFER];
 static uint8_t chunk[RAZIDKOT_LONGEST_CHUNK + 1];
 static razidkot_counters counters;
+/* A key of one byte. */
+static const uint8_t list[] = {1, 1, 0, 'k', 2, 1, 0, 0xDD};
 static int failed;
 
 static void expect(const char *what, uint64_t is, uint64_t expected)
@@ -57,18 +59,22 @@ static void expect_connections(void)
 
 static void expect_calls(void)
 {
-    const size_t c = sizeof connection, g = sizeof registry, r = sizeof response;
-    expect_answer("an empty chunk", razidkot_call(NULL, 0, connection, c, registry, g, &counters, response, r), 0, 0, 0);
-    expect_answer("C1", razidkot_call(NULL, 0, NULL, 0, NULL, 0, &counters, NULL, 0), 1, 0, 0);
-    expect_answer("C1", razidkot_call(chunk, 9, connection, c, registry, g, &counters, response, r - 1), 1, 0, 0);
-    expect_answer("C2", razidkot_call(chunk, sizeof chunk, NULL, 0, NULL, 0, &counters, response, r), 2, 0, 0);
-    expect_answer("C3", razidkot_call(chunk, 9, NULL, 0, NULL, 0, &counters, response, r), 3, 0, 0);
-    expect_answer("C4", razidkot_call(chunk, 9, connection, c, NULL, 0, &counters, response, r), 4, 0, 0);
+    const size_t c = sizeof connection, g = sizeof registry, r = sizeof response, l = sizeof list;
+    razidkot_counters *const n = &counters;
+    expect_answer("empty", razidkot_call(NULL, 0, connection, c, registry, g, NULL, 0, n, response, r), 0, 0, 0);
+    expect_answer("a list", razidkot_call(NULL, 0, connection, c, registry, g, list, l, n, response, r), 0, 0, 0);
+    expect_answer("C1", razidkot_call(NULL, 0, NULL, 0, NULL, 0, list, 1, n, NULL, 0), 1, 0, 0);
+    expect_answer("C1", razidkot_call(chunk, 9, connection, c, registry, g, NULL, 0, n, response, r - 1), 1, 0, 0);
+    expect_answer("C2", razidkot_call(chunk, sizeof chunk, NULL, 0, NULL, 0, list, 1, n, response, r), 2, 0, 0);
+    expect_answer("C3", razidkot_call(chunk, 9, NULL, 0, NULL, 0, list, 1, n, response, r), 3, 0, 0);
+    expect_answer("C4", razidkot_call(chunk, 9, connection, c, NULL, 0, list, 1, n, response, r), 4, 0, 0);
     counters.refused[18] = RAZIDKOT_HIGHEST_COUNTER + 1;
-    expect_answer("C5", razidkot_call(chunk, 9, connection, c, registry, g, &counters, response, r), 5, 0, 0);
+    expect_answer("C5", razidkot_call(chunk, 9, connection, c, registry, g, list, 1, n, response, r), 5, 0, 0);
     counters.refused[18] = RAZIDKOT_HIGHEST_COUNTER;
+    for (size_t cut = 1; cut < l; cut++)
+        expect_answer("C6", razidkot_call(chunk, 9, connection, c, registry, g, list, cut, n, response, r), 6, 0, 0);
     /* Nine zeros: a bad start, and status 17 at the sixth. */
-    expect_answer("taken", razidkot_call(chunk, 9, connection, c, registry, g, &counters, response, r), 0, 6, 26);
+    expect_answer("taken", razidkot_call(chunk, 9, connection, c, registry, g, list, l, n, response, r), 0, 6, 26);
     expect("status 17", response[24], RAZIDKOT_INVALID_HEADER);
     expect("refused with 17", counters.refused[9], 1);
     expect("taken", counters.taken, 6);

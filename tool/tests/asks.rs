@@ -38,6 +38,7 @@ impl Service {
         let server = Server::start(Settings {
             socket: &socket,
             roster: &roster,
+            list: b"",
             capture: None,
             patience: TOO_LONG,
             say: |_| (),

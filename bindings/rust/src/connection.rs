@@ -25,8 +25,13 @@ impl Connection {
     /// anywhere within a request. Bytes of `response` past the response stay, and a refused call
     /// changes nothing.
     ///
+    /// `list` has the keys that every application may export and verify with besides its own, as a
+    /// [`List`](crate::List) has them in its [`bytes`](crate::List::bytes); no bytes are a list of
+    /// none. It may be another one for each call.
+    ///
     /// A connection and a registry that are held in their types are well formed, so this never says
-    /// [`Refusal::ConnectionIllFormed`] or [`Refusal::RegistryIllFormed`].
+    /// [`Refusal::ConnectionIllFormed`] or [`Refusal::RegistryIllFormed`]; nor
+    /// [`Refusal::ListIllFormed`] of a `List`'s bytes.
     ///
     /// ```
     /// use razidkot::{Answer, Connection, Counters, Refusal, Registry};
@@ -39,26 +44,29 @@ impl Connection {
     /// let mut response = [0; razidkot::LEAST_RESPONSE_BUFFER];
     ///
     /// // The first bytes are held, the others bring the answer.
-    /// let first = connection.call(&mut registry, &mut counters, &ping[..9], &mut response)?;
+    /// let first = connection.call(&mut registry, b"", &mut counters, &ping[..9], &mut response)?;
     /// assert_eq!(first, Answer { taken: 9, written: 0 });
-    /// let second = connection.call(&mut registry, &mut counters, &ping[9..], &mut response)?;
+    /// let second = connection.call(&mut registry, b"", &mut counters, &ping[9..], &mut response)?;
     /// assert_eq!(second, Answer { taken: 19, written: 28 });
     /// assert_eq!(response[26..28], [8, 1], "major version 1");
     /// assert_eq!(counters.unauthenticated, 1);
     ///
-    /// let refused = connection.call(&mut registry, &mut counters, &ping, &mut [0; 1_023]);
+    /// let refused = connection.call(&mut registry, b"", &mut counters, &ping, &mut [0; 1_023]);
     /// assert_eq!(refused, Err(Refusal::ResponseBufferTooSmall));
+    /// let refused = connection.call(&mut registry, b"\x01", &mut counters, &ping, &mut response);
+    /// assert_eq!(refused, Err(Refusal::ListIllFormed));
     /// # Ok::<(), Box<dyn std::error::Error>>(())
     /// ```
     pub fn call(
         &mut self,
         registry: &mut Registry,
+        list: &[u8],
         counters: &mut Counters,
         chunk: &[u8],
         response: &mut [u8],
     ) -> Result<Answer, Refusal> {
         let registry = registry.memory_mut();
-        raw::call(chunk, &mut self.memory, registry, counters, response).result()
+        raw::call(chunk, &mut self.memory, registry, list, counters, response).result()
     }
 
     /// Has a request with a wrong start closed it? Later bytes are taken and dropped.
@@ -77,7 +85,7 @@ impl Connection {
     /// let mut registry = Registry::load(b"")?;
     /// let mut counters = Counters::default();
     /// let mut response = [0; razidkot::LEAST_RESPONSE_BUFFER];
-    /// connection.call(&mut registry, &mut counters, b"\x10\xA7\xC0", &mut response)?;
+    /// connection.call(&mut registry, b"", &mut counters, b"\x10\xA7\xC0", &mut response)?;
     /// assert_eq!(connection.held(), Held::Beginning(b"\x10\xA7\xC0"));
     /// assert_eq!(connection.held().count(), 3, "as the bill says");
     /// # Ok::<(), Box<dyn std::error::Error>>(())
@@ -125,7 +133,7 @@ pub struct Answer {
     pub written: usize,
 }
 
-/// Why a call is not taken: document 01's C1 to C5, the first that applies.
+/// Why a call is not taken: the papers' C1 to C6, the first that applies.
 #[derive(Clone, Copy, Debug, PartialEq, Eq)]
 #[repr(u8)]
 pub enum Refusal {
@@ -140,19 +148,22 @@ pub enum Refusal {
     RegistryIllFormed = 4,
     /// C5: a counter above [`HIGHEST_COUNTER`](crate::HIGHEST_COUNTER).
     CounterTooHigh = 5,
+    /// C6: a list that is none. [`List::from_bytes`](crate::List::from_bytes) says why.
+    ListIllFormed = 6,
 }
 
 impl Refusal {
-    /// Every refusal, in document 01's order.
-    pub const ALL: [Refusal; 5] = [
+    /// Every refusal, in the papers' order.
+    pub const ALL: [Refusal; 6] = [
         Refusal::ResponseBufferTooSmall,
         Refusal::ChunkTooLong,
         Refusal::ConnectionIllFormed,
         Refusal::RegistryIllFormed,
         Refusal::CounterTooHigh,
+        Refusal::ListIllFormed,
     ];
 
-    /// The digit of C1 to C5.
+    /// The digit of C1 to C6.
     pub fn number(self) -> u8 {
         self as u8
     }

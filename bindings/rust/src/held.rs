@@ -92,7 +92,7 @@ mod tests {
         let mut response = [0; LEAST_RESPONSE_BUFFER];
         let mut rest = bytes;
         while !rest.is_empty() {
-            let answer = connection.call(&mut registry, &mut counters, rest, &mut response);
+            let answer = connection.call(&mut registry, b"", &mut counters, rest, &mut response);
             rest = &rest[answer.expect("a call that is taken").taken..];
         }
         let bill = connection.bill(&registry, &counters);

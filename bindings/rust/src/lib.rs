@@ -3,14 +3,16 @@
 //!
 //! Load a [`Registry`] from a roster file, open a [`Connection`], and hand bytes over with
 //! [`Connection::call`]. Each call writes one response at most. Several connections can share a
-//! registry and counters, and `&mut` has them take turns.
+//! registry and counters, and `&mut` has them take turns. Each call is lent a [`List`] of keys that
+//! are every application's.
 //!
 //! ```
-//! use razidkot::{Connection, Counters, Registry, LEAST_RESPONSE_BUFFER};
+//! use razidkot::{Connection, Counters, List, Registry, LEAST_RESPONSE_BUFFER};
 //!
 //! /// Hands over all of the bytes, and gives the responses.
 //! fn send(
 //!     registry: &mut Registry,
+//!     list: &List,
 //!     connection: &mut Connection,
 //!     counters: &mut Counters,
 //!     bytes: &[u8],
@@ -20,7 +22,7 @@
 //!     for chunk in bytes.chunks(4_096) {
 //!         let mut rest = chunk;
 //!         while !rest.is_empty() {
-//!             let answer = connection.call(registry, counters, rest, &mut buffer)?;
+//!             let answer = connection.call(registry, list.bytes(), counters, rest, &mut buffer)?;
 //!             if answer.written > 0 {
 //!                 responses.push(buffer[..answer.written].to_vec());
 //!             }
@@ -31,10 +33,13 @@
 //! }
 //!
 //! let mut registry = Registry::load(b"\x01\x07\x00scanner")?;
+//! let mut list = List::new();
+//! list.push(b"release-2027", b"\xAA\xBB")?;
 //! let mut connection = Connection::open();
 //! let mut counters = Counters::default();
 //! // No request begins like this: one response with status 17, and the connection is closed.
-//! let responses = send(&mut registry, &mut connection, &mut counters, b"GET / HTTP/1.0")?;
+//! let http = b"GET / HTTP/1.0";
+//! let responses = send(&mut registry, &list, &mut connection, &mut counters, http)?;
 //! assert_eq!(responses.len(), 1);
 //! assert_eq!(responses[0][24..26], [17, 0]);
 //! assert!(connection.is_closed());
@@ -49,6 +54,7 @@ mod counters;
 #[allow(unsafe_code)]
 mod foreign;
 mod held;
+mod list;
 pub mod raw;
 mod registry;
 
@@ -56,6 +62,7 @@ pub use application::{Application, Key, SLOTS};
 pub use connection::{Answer, Connection, Refusal};
 pub use counters::Counters;
 pub use held::Held;
+pub use list::{List, ListFault, ListedKey, LONGEST_LIST, MOST_LISTED_KEYS};
 pub use razidkot_status::{Status, REFUSED_STATUSES};
 pub use registry::{IllFormed, Registry, RosterFault};
 

@@ -1,4 +1,4 @@
-//! The same functions on any memory, for callers that keep registry and connection themselves.
+//! The same functions on any memory, for callers that keep registry, connection and list themselves.
 //! Memory of a wrong size or content is refused, and stays as it was.
 
 use crate::{foreign, Counters, Refusal, RosterFault};
@@ -47,7 +47,7 @@ pub fn open_connection(memory: &mut [u8]) -> Result<(), WrongSize> {
 #[derive(Clone, Copy, Debug, PartialEq, Eq)]
 #[repr(C)]
 pub struct Answer {
-    /// 0 for a call that is taken, else the digit of C1 to C5.
+    /// 0 for a call that is taken, else the digit of C1 to C6.
     pub code: u32,
     /// Bytes of the chunk; 0 if the call is not taken.
     pub taken: usize,
@@ -69,7 +69,7 @@ impl Answer {
 }
 
 /// [`Connection::call`](crate::Connection::call) on any memory; the response buffer and the chunk
-/// are judged before connection, registry and counters.
+/// are judged before connection, registry, counters and list.
 ///
 /// ```
 /// use razidkot::{raw, Counters, Refusal, CONNECTION_SIZE, REGISTRY_SIZE};
@@ -77,17 +77,23 @@ impl Answer {
 /// let (mut connection, mut registry) = ([0; CONNECTION_SIZE], [0; REGISTRY_SIZE]);
 /// connection[0] = 3; // No such kind.
 /// let mut counters = Counters::default();
-/// let answer = raw::call(b"", &mut connection, &mut registry, &mut counters, &mut [0; 1_024]);
+/// let response = &mut [0; 1_024];
+/// let answer = raw::call(b"", &mut connection, &mut registry, b"", &mut counters, response);
 /// assert_eq!(answer.result(), Err(Refusal::ConnectionIllFormed));
+/// connection[0] = 0;
+/// let name = b"\x01\x01\x00k"; // And no data behind it.
+/// let answer = raw::call(b"", &mut connection, &mut registry, name, &mut counters, response);
+/// assert_eq!(answer.result(), Err(Refusal::ListIllFormed));
 /// ```
 pub fn call(
     chunk: &[u8],
     connection: &mut [u8],
     registry: &mut [u8],
+    list: &[u8],
     counters: &mut Counters,
     response: &mut [u8],
 ) -> Answer {
-    foreign::call(chunk, connection, registry, counters, response)
+    foreign::call(chunk, connection, registry, list, counters, response)
 }
 
 /// Why there is no bill, in the order in which it is judged.

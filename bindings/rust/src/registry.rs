@@ -54,6 +54,7 @@ impl Registry {
             b"",
             connection,
             &mut memory,
+            b"",
             &mut Counters::default(),
             response,
         );

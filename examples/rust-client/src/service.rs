@@ -29,7 +29,13 @@ impl Write for Service {
         let mut response = [0; LEAST_RESPONSE_BUFFER];
         let answer = self
             .connection
-            .call(&mut self.registry, &mut self.counters, bytes, &mut response)
+            .call(
+                &mut self.registry,
+                b"",
+                &mut self.counters,
+                bytes,
+                &mut response,
+            )
             .map_err(io::Error::other)?;
         self.responses.extend(&response[..answer.written]);
         Ok(answer.taken)

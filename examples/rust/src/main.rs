@@ -1,9 +1,10 @@
 //! Embeds the key service in a Rust program: loads a roster, opens a connection, sends a Ping, an
-//! Import and an Export in chunks, and prints what came back.
+//! Import and two Exports in chunks, one of a key that was imported and one of a key in the list, and
+//! prints what came back.
 //!
 //!     rt staticlib abi && cargo run --quiet -p razidkot-example
 
-use razidkot::{Connection, Counters, Registry, LEAST_RESPONSE_BUFFER};
+use razidkot::{Connection, Counters, List, Registry, LEAST_RESPONSE_BUFFER};
 use std::error::Error;
 
 const PING: u16 = 1;
@@ -15,16 +16,22 @@ const SCANNER: &[u8] = b"scanner";
 fn main() -> Result<(), Box<dyn Error>> {
     // One record: tag 1, the length in two bytes, the name.
     let mut registry = Registry::load(b"\x01\x07\x00scanner")?;
+    // The keys that every application has.
+    let mut list = List::new();
+    list.push(b"release", b"\xCC\xDD")?;
+    let list = list.bytes();
     let mut connection = Connection::open();
     let mut counters = Counters::default();
     let mut response = [0; LEAST_RESPONSE_BUFFER];
 
-    // The key "a", data AA BB, 2,048 bits, export allowed; then its name alone.
+    // The key "a", data AA BB, 2,048 bits, export allowed; then its name alone, and that of a key
+    // which the scanner has not imported.
     let import = b"\x0A\x01a\x12\x02\xAA\xBB\x18\x80\x10\x20\x01";
     let stream = [
         core_request(PING),
         keystore_request(IMPORT, import, SCANNER),
         keystore_request(EXPORT, b"\x0A\x01a", SCANNER),
+        keystore_request(EXPORT, b"\x0A\x07release", SCANNER),
     ]
     .concat();
 
@@ -32,7 +39,8 @@ fn main() -> Result<(), Box<dyn Error>> {
     for chunk in stream.chunks(40) {
         let mut rest = chunk;
         while !rest.is_empty() {
-            let answer = connection.call(&mut registry, &mut counters, rest, &mut response)?;
+            let answer =
+                connection.call(&mut registry, list, &mut counters, rest, &mut response)?;
             if answer.written > 0 {
                 print_response(&response[..answer.written]);
             }
@@ -46,8 +54,14 @@ fn main() -> Result<(), Box<dyn Error>> {
     );
 
     // A buffer that is too small: nothing is taken.
-    if let Err(refusal) = connection.call(&mut registry, &mut counters, &stream, &mut []) {
+    if let Err(refusal) = connection.call(&mut registry, list, &mut counters, &stream, &mut []) {
         println!("without a buffer C{} taken 0", refusal.number());
+    }
+    // A list without its last byte.
+    let cut = &list[..list.len() - 1];
+    let refused = connection.call(&mut registry, cut, &mut counters, &stream, &mut response);
+    if let Err(refusal) = refused {
+        println!("with a cut list C{} taken 0", refusal.number());
     }
     Ok(())
 }

@@ -12,7 +12,9 @@ Serves the applications of the file ROSTER at the socket SOCKET until SIGTERM or
 SIGINT comes. Then it serves what has arrived, removes SOCKET, and prints the
 bill of all connections on standard output. Messages go to standard error.
 
-  --capture FILE  append every answered request to FILE, for `bill ROSTER FILE`
+  --list FILE     the keys that every application has besides its own
+  --capture FILE  append every answered request to FILE, for `bill ROSTER FILE
+                  LIST`; without --list, LIST is an empty file, as /dev/null is
   --stdin         stop at the end of standard input too, which is not read else
   --help          print this
 
@@ -30,6 +32,7 @@ pub enum Asked {
 pub struct Arguments {
     pub socket: PathBuf,
     pub roster: PathBuf,
+    pub list: Option<PathBuf>,
     pub capture: Option<PathBuf>,
     pub stdin: bool,
 }
@@ -38,9 +41,13 @@ pub struct Arguments {
 #[derive(Debug)]
 pub enum Fault {
     UnknownOption(OsString),
-    NoCaptureFile,
+    /// Behind this option.
+    NoFile(&'static str),
     NotTwoFiles(usize),
 }
+
+const CAPTURE: &str = "--capture";
+const LIST: &str = "--list";
 
 /// Options may stand anywhere; behind `--` there are none.
 pub fn read(given: impl Iterator<Item = OsString>) -> Result<Asked, Fault> {
@@ -51,11 +58,12 @@ pub fn read(given: impl Iterator<Item = OsString>) -> Result<Asked, Fault> {
         match argument.as_bytes() {
             b"--help" | b"-h" => return Ok(Asked::Help),
             b"--stdin" => arguments.stdin = true,
-            b"--capture" => arguments.capture = Some(capture_file(given.next())?),
             b"--" => files.extend(given.by_ref()),
-            option if option.starts_with(b"--capture=") => {
-                let file = OsStr::from_bytes(&option[b"--capture=".len()..]);
-                arguments.capture = Some(capture_file(Some(file.to_owned()))?);
+            option if is_option(option, CAPTURE) => {
+                arguments.capture = Some(file(CAPTURE, &argument, &mut given)?);
+            }
+            option if is_option(option, LIST) => {
+                arguments.list = Some(file(LIST, &argument, &mut given)?);
             }
             option if option.starts_with(b"-") => return Err(Fault::UnknownOption(argument)),
             _ => files.push(argument),
@@ -69,16 +77,31 @@ pub fn read(given: impl Iterator<Item = OsString>) -> Result<Asked, Fault> {
     Ok(Asked::Serve(arguments))
 }
 
-fn capture_file(given: Option<OsString>) -> Result<PathBuf, Fault> {
-    let file = given.filter(|file| !file.is_empty());
-    file.map(PathBuf::from).ok_or(Fault::NoCaptureFile)
+/// Is it this option, with or without a file behind `=`?
+fn is_option(argument: &[u8], option: &str) -> bool {
+    let behind = argument.strip_prefix(option.as_bytes());
+    matches!(behind, Some([] | [b'=', ..]))
+}
+
+/// The file of an option, which stands behind `=` or is the next argument.
+fn file(
+    option: &'static str,
+    argument: &OsStr,
+    given: &mut impl Iterator<Item = OsString>,
+) -> Result<PathBuf, Fault> {
+    let file = match &argument.as_bytes()[option.len()..] {
+        [] => given.next().unwrap_or_default(),
+        [_, file @ ..] => OsStr::from_bytes(file).to_owned(),
+    };
+    let is_there = !file.is_empty();
+    is_there.then(|| file.into()).ok_or(Fault::NoFile(option))
 }
 
 impl fmt::Display for Fault {
     fn fmt(&self, out: &mut fmt::Formatter) -> fmt::Result {
         match self {
             Fault::UnknownOption(option) => write!(out, "no such option: {}", option.display()),
-            Fault::NoCaptureFile => write!(out, "--capture needs a file"),
+            Fault::NoFile(option) => write!(out, "{option} needs a file"),
             Fault::NotTwoFiles(count) => {
                 write!(out, "SOCKET and ROSTER are needed, not {count} files")
             }

@@ -10,7 +10,7 @@ use signals::StopSignals;
 use std::env;
 use std::fs;
 use std::io::{self, Write};
-use std::path;
+use std::path::{self, Path};
 use std::process::ExitCode;
 use std::sync::mpsc::{self, Receiver};
 use std::thread;
@@ -39,18 +39,20 @@ fn main() -> ExitCode {
 }
 
 fn run(arguments: &Arguments) -> Result<(), String> {
-    let roster_file = arguments.roster.display();
-    let roster = fs::read(&arguments.roster).map_err(|error| format!("{roster_file}: {error}"))?;
+    let roster = read(&arguments.roster)?;
+    let list = arguments.list.as_deref().map_or(Ok(Vec::new()), read)?;
     let stop = await_stop(arguments.stdin).map_err(|error| format!("no signals: {error}"))?;
     let server = Server::start(Settings {
         socket: &arguments.socket,
         roster: &roster,
+        list: &list,
         capture: arguments.capture.as_deref(),
         patience: PATIENCE,
         say,
     });
-    let server = server.map_err(|error| match error {
-        StartError::Roster(_) => format!("{roster_file}: {error}"),
+    let server = server.map_err(|error| match (&error, &arguments.list) {
+        (StartError::Roster(_), _) => format!("{}: {error}", arguments.roster.display()),
+        (StartError::List(_), Some(file)) => format!("{}: {error}", file.display()),
         _ => error.to_string(),
     })?;
     let socket = path::absolute(&arguments.socket).unwrap_or(arguments.socket.clone());
@@ -58,6 +60,10 @@ fn run(arguments: &Arguments) -> Result<(), String> {
     let why = stop.recv().expect("the thread that waits for signals");
     say(&format_args!("stopping: {why}"));
     report(&server.stop())
+}
+
+fn read(file: &Path) -> Result<Vec<u8>, String> {
+    fs::read(file).map_err(|error| format!("{}: {error}", file.display()))
 }
 
 /// What will say why to stop. It is to be called before any other thread is started.

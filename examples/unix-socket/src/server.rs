@@ -3,7 +3,7 @@
 use crate::address::{self, Address, SocketError};
 use crate::listener::{Listener, Sum};
 use crate::{Capture, CaptureError, Captured, Say, Service};
-use razidkot::{Counters, RosterFault};
+use razidkot::{Counters, List, ListFault, Registry, RosterFault};
 use std::fmt;
 use std::io;
 use std::net::Shutdown;
@@ -21,6 +21,8 @@ pub struct Settings<'a> {
     pub socket: &'a Path,
     /// The bytes of a roster file.
     pub roster: &'a [u8],
+    /// The bytes of a list of keys that every application has; none for no such keys.
+    pub list: &'a [u8],
     /// Where it appends the requests it answers.
     pub capture: Option<&'a Path>,
     /// A peer that takes nothing of a response for so long gets no more of them, and a stop takes
@@ -60,15 +62,19 @@ pub struct Totals {
 #[derive(Debug)]
 pub enum StartError {
     Roster(RosterFault),
+    List(ListFault),
     Socket(PathBuf, SocketError),
     Capture(PathBuf, CaptureError),
     Thread(io::Error),
 }
 
 impl Server {
-    /// Serves with a registry of the roster's applications and no keys.
+    /// Serves with a registry of the roster's applications and no keys but the list's. Of two faulty
+    /// files the roster is said, as `bill` does.
     pub fn start(settings: Settings) -> Result<Server, StartError> {
-        let service = Arc::new(Service::load(settings.roster).map_err(StartError::Roster)?);
+        let registry = Registry::load(settings.roster).map_err(StartError::Roster)?;
+        let list = List::from_bytes(settings.list).map_err(StartError::List)?;
+        let service = Arc::new(Service::new(registry, list));
         let no_socket = |error| StartError::Socket(settings.socket.to_path_buf(), error);
         let (listener, address) =
             address::listen(settings.socket, settings.say).map_err(no_socket)?;
@@ -121,6 +127,7 @@ impl fmt::Display for StartError {
     fn fmt(&self, out: &mut fmt::Formatter) -> fmt::Result {
         match self {
             StartError::Roster(fault) => write!(out, "{fault}: {}", reason(*fault)),
+            StartError::List(fault) => write!(out, "{fault}"),
             StartError::Socket(path, error) => write!(out, "{}: {error}", path.display()),
             StartError::Capture(path, error) => write!(out, "{}: {error}", path.display()),
             StartError::Thread(error) => write!(out, "no thread to accept clients: {error}"),

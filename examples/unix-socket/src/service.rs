@@ -1,13 +1,15 @@
-//! One registry, one set of counters and one capture for all connections.
+//! One registry, one list, one set of counters and one capture for all connections.
 
 use crate::{Capture, Captured, Rest};
-use razidkot::{Answer, Connection, Counters, Refusal, Registry, RosterFault};
+use razidkot::{Answer, Connection, Counters, List, Refusal, Registry};
 use std::sync::{Mutex, MutexGuard};
 
 /// All that connections share, behind one lock, so that each call is whole: no other connection sees
 /// or changes any of it in the middle of one.
 pub struct Service {
     shared: Mutex<Shared>,
+    /// The keys that every application has. Nothing changes them, so that they need no lock.
+    list: List,
 }
 
 struct Shared {
@@ -17,15 +19,17 @@ struct Shared {
 }
 
 impl Service {
-    /// The applications of a roster file, no keys, counters of 0, and nothing captured.
-    pub fn load(roster: &[u8]) -> Result<Service, RosterFault> {
-        Ok(Service {
+    /// The registry's applications and keys, the list's keys, counters of 0, and nothing captured.
+    pub fn new(registry: Registry, list: List) -> Service {
+        let counters = Counters::default();
+        Service {
             shared: Mutex::new(Shared {
-                registry: Registry::load(roster)?,
-                counters: Counters::default(),
+                registry,
+                counters,
                 capture: None,
             }),
-        })
+            list,
+        }
     }
 
     /// From now on requests are captured.
@@ -46,8 +50,13 @@ impl Service {
         response: &mut [u8],
     ) -> Result<Answer, Refusal> {
         let shared = &mut *self.lock();
-        let answer =
-            connection.call(&mut shared.registry, &mut shared.counters, chunk, response)?;
+        let answer = connection.call(
+            &mut shared.registry,
+            self.list.bytes(),
+            &mut shared.counters,
+            chunk,
+            response,
+        )?;
         rest.add(&chunk[..answer.taken]);
         // A bad start is answered too, and would close the captured stream in front of all others.
         if answer.written > 0 && !connection.is_closed() {

@@ -3,10 +3,10 @@
 mod common;
 
 use common::client::{import, Client};
-use common::program::{bill, refused, Folder, Program};
+use common::program::{bill, bill_with_list, refused, Folder, Program, NO_LIST};
 use common::*;
 use razidkot_client::{Operation, Reading};
-use razidkot_tests::ask::{registry_of, request, PING};
+use razidkot_tests::ask::{record, registry_of, request, PING};
 use razidkot_tests::bill::{ping, printed_from_pipe, text};
 use razidkot_tests::generate::Random;
 use razidkot_tests::requests::{applications, requests, with_lengths};
@@ -22,9 +22,14 @@ use unix_socket::{Captured, Server, Settings, Totals};
 const KEPT: usize = 4_422;
 
 fn start(folder: &Folder) -> Server {
+    start_with_list(folder, b"")
+}
+
+fn start_with_list(folder: &Folder, list: &[u8]) -> Server {
     let server = Server::start(Settings {
         socket: &folder.socket(),
         roster: &roster(),
+        list,
         capture: Some(&folder.at("capture")),
         patience: TOO_LONG,
         say: |_| {},
@@ -182,6 +187,28 @@ fn zeros_stand_for_skipped_bytes_that_nothing_reads() {
     }
 }
 
+/// Listed keys are not in the stream, and `bill` is handed the list that the server had.
+#[test]
+fn a_server_with_a_list_has_the_same_bill_with_that_list() {
+    let folder = Folder::new("listed");
+    let list = [record(1, b"shipped"), record(2, b"data")].concat();
+    fs::write(folder.at("list"), &list).expect("a list file");
+    let server = start_with_list(&folder, &list);
+    let mut client = Client::connect(&folder.socket(), Some(NAMES[0]));
+    assert_eq!(client.export(b"shipped"), b"data");
+    assert_eq!(client.ask(import(b"shipped", b"other")), 1139);
+    assert_eq!(client.ask(Operation::DestroyKey { name: b"shipped" }), 1133);
+    let totals = server.stop();
+    assert_eq!(captured(&totals).connections, 0);
+    let [roster, capture] = [folder.roster(), folder.at("capture")];
+    assert_eq!(
+        bill_with_list(&roster, &capture, &folder.at("list")),
+        totals.bill
+    );
+    assert!(totals.bill.contains("\nline 0 archive 1\n"));
+    assert_ne!(bill(&roster, &capture), totals.bill);
+}
+
 // ---- ends of connections
 
 fn ends() -> Vec<Vec<u8>> {
@@ -263,7 +290,8 @@ fn a_second_run_goes_on_behind_the_first() {
         let said = format!("captured bytes {begin} to {}, with the", stream.len());
         assert_eq!(output.count(&said), 1, "{output:?}");
         assert_eq!(output.count("captures behind its"), round);
-        let pipe = [&folder.roster(), Path::new("/dev/stdin")];
+        let [stdin, no_list] = ["/dev/stdin", NO_LIST].map(Path::new);
+        let pipe = [&folder.roster(), stdin, no_list];
         let printed = printed_from_pipe(&pipe, &stream[begin..]);
         assert_eq!(text(printed), output.stdout);
         begin = stream.len();

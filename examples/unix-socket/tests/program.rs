@@ -167,7 +167,7 @@ fn help_is_printed_and_wrong_arguments_are_status_2() {
         let output = refused(help);
         assert_eq!(output.status.code(), Some(0));
         assert!(output.stdout.starts_with("usage: unix-socket "));
-        for option in ["--capture FILE", "--stdin", "--help"] {
+        for option in ["--list FILE", "--capture FILE", "--stdin", "--help"] {
             assert!(output.stdout.contains(option), "{option}");
         }
         assert!(output.messages.is_empty());
@@ -187,6 +187,9 @@ fn help_is_printed_and_wrong_arguments_are_status_2() {
         (&["a", "b", "-v"], "no such option: -v"),
         (&["a", "b", "--capture"], "--capture needs a file"),
         (&["--capture=", "a", "b"], "--capture needs a file"),
+        (&["a", "b", "--list"], "--list needs a file"),
+        (&["--list=", "a", "b"], "--list needs a file"),
+        (&["--lists=f", "a", "b"], "no such option: --lists=f"),
     ] {
         let output = refused(wrong);
         assert_eq!(output.status.code(), Some(2), "{wrong:?}");
@@ -212,6 +215,45 @@ fn a_roster_that_is_missing_or_faulty_is_named() {
     );
     assert!(message(&output).starts_with(&named), "{output:?}");
     assert!(!folder.socket().exists(), "nobody listened");
+}
+
+#[test]
+fn a_list_that_is_missing_or_faulty_is_named() {
+    let folder = Folder::new("list");
+    let list = folder.at("list");
+    let option = format!("--list={}", list.display());
+    let named = |why: &str| format!("unix-socket: {}: {why}", list.display());
+    let assert_named = |why: &str| {
+        let output = refused(&folder.arguments(&[&option]));
+        assert_eq!(output.status.code(), Some(1));
+        assert!(message(&output).starts_with(&named(why)), "{output:?}");
+        assert!(!folder.socket().exists(), "nobody listened");
+    };
+    assert_named("No such file");
+    fs::write(&list, b"\x01\x01\x00k").expect("a list file");
+    assert_named("list C6: a name without data");
+
+    // Of two faulty files the roster is named, as `bill` does.
+    fs::write(folder.roster(), b"\x02\x00\x00").expect("a roster file");
+    let output = refused(&folder.arguments(&[&option]));
+    assert!(message(&output).contains("/roster: roster R2: "));
+}
+
+#[test]
+fn the_keys_of_a_list_are_every_applications() {
+    let folder = Folder::new("with-list");
+    let list = folder.at("list");
+    fs::write(&list, b"\x01\x07\x00shipped\x02\x04\x00data").expect("a list file");
+    let list = list.display().to_string();
+    let program = Program::start(&folder, &["--list", &list]);
+    let mut sent = 0;
+    for name in [NAMES[2], NAMES[7]] {
+        let mut client = Client::connect(&folder.socket(), Some(name));
+        assert_eq!(client.export(b"shipped"), b"data");
+        sent += client.sent();
+    }
+    let output = program.stop("TERM");
+    assert_eq!(output.stdout, bill_of(sent, &[(2, 1), (7, 1)], 0, 0));
 }
 
 // ---- the socket's file

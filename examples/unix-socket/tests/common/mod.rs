@@ -43,6 +43,7 @@ pub fn start_with_patience(test: &str, patience: Duration) -> (Server, PathBuf) 
     let server = Server::start(Settings {
         socket: &path,
         roster: &roster(),
+        list: b"",
         capture: None,
         patience,
         say: |_| {},

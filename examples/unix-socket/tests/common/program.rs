@@ -192,7 +192,15 @@ pub fn refused(arguments: &[impl AsRef<OsStr>]) -> Output {
     Program::run("true", arguments).end()
 }
 
-/// The lines of a bill that `bill` prints of these files.
+/// The list of none, as a file.
+pub const NO_LIST: &str = "/dev/null";
+
+/// The lines of a bill that `bill` prints of these files, and of no list.
 pub fn bill(roster: &Path, capture: &Path) -> String {
-    razidkot_tests::bill::text(razidkot_tests::bill::printed(&[roster, capture]))
+    bill_with_list(roster, capture, Path::new(NO_LIST))
+}
+
+/// The same, and of this list.
+pub fn bill_with_list(roster: &Path, capture: &Path, list: &Path) -> String {
+    razidkot_tests::bill::text(razidkot_tests::bill::printed(&[roster, capture, list]))
 }
