@@ -1,7 +1,7 @@
 #!/usr/bin/env python3
-"""Makes the sample roster and the sample streams, and counts what their bills must say.
+"""Makes the sample roster, list and streams, and counts what their bills must say.
 
-    samples/make.py            writes servers.roster, day.stream and closed.stream beside this file
+    samples/make.py            writes servers.roster, servers.list and the three streams beside this file
     samples/make.py --check    writes nothing; fails if one of them, or a .bill file, differs
 
 Each request below stands with the status that document 01, as document 02 amends it, gives it, told
@@ -20,7 +20,7 @@ from pathlib import Path
 
 HERE = Path(__file__).parent
 
-# ---- document 01, "Operations and their fields"; document 02, "Checking signatures"
+# ---- document 01, "Operations and their fields"; document 02, "Checking signatures" and "Keys we ship"
 
 CORE, KEYSTORE = 0, 1
 PING, LIST_PROVIDERS, LIST_OPCODES = 1, 8, 9
@@ -409,6 +409,46 @@ def oversized():
     ]
 
 
+# ---- keys that every site is handed
+
+
+def shipped_keys():
+    """The list: name and data of each key. The last is an RSA key of bits that Import would not take."""
+    return {
+        "release-2026": public_key("release-2026", 3072),
+        "release-2027": SigningKey("release 2027", 2048).data(),
+        "leaflet": b"no key",
+        "odd": public_key("odd", 1028),
+    }
+
+
+def listed_keys():
+    """Every application has them beside its own; none can take a listed name or drop a listed key."""
+    key = SigningKey("release 2027", 2048)
+    release, other = digest_of(b"release 2027"), digest_of(b"release 2028")
+    signature = key.sign(release)
+    return [
+        export_key("recon-a", "release-2026"),
+        export_key("viewer", "release-2027", session=1),
+        export_key("viewer", "leaflet"),
+        verify("archive", "release-2027", release, signature),
+        verify("archive", "release-2027", other, signature, 1149),
+        verify("archive", "release-2027", release[1:], signature, 1135),
+        verify("archive", "leaflet", release, signature, 1134),
+        verify("archive", "odd", release, b"\x01" * 129, 1134),
+        import_key("recon-a", "release-2027", 2048, 1139),
+        destroy_key("recon-a", "release-2027", 1133),
+        export_key("recon-a", "release-2028", 1140),
+        destroy_key("recon-a", "release-2028", 1140),
+        # A name that nobody ships is the application's own as ever.
+        import_key("recon-a", "release-2028", 2048),
+        export_key("recon-a", "release-2028"),
+        destroy_key("recon-a", "release-2028"),
+        # The list is for those who are named.
+        export_key("viewer", "release-2027", 19, auth_type=0, auth=b""),
+    ]
+
+
 # ---- streams
 
 
@@ -474,8 +514,22 @@ def closed():
     return Stream(sent, bad_start=http[:6], dropped=http[6:] + Request(PING).encode())
 
 
+def shipped():
+    """What is asked of the keys that every site is handed."""
+    return Stream([core(PING), *listed_keys()])
+
+
+def record(tag, value):
+    """Of a roster or a list: tag, length, value."""
+    return bytes([tag]) + struct.pack("<H", len(value)) + value
+
+
 def roster():
-    return b"".join(b"\x01" + struct.pack("<H", len(name)) + name.encode() for name in APPLICATIONS)
+    return b"".join(record(1, name.encode()) for name in APPLICATIONS)
+
+
+def list_file():
+    return b"".join(record(1, name.encode()) + record(2, data) for name, data in shipped_keys().items())
 
 
 # ---- the command
@@ -517,9 +571,9 @@ def is_check_only():
 
 def main():
     check_only = is_check_only()
-    streams = {"day": day(), "closed": closed()}
+    streams = {"day": day(), "closed": closed(), "shipped": shipped()}
     lacking = missing(streams["day"], streams["closed"])
-    files = {"servers.roster": roster()}
+    files = {"servers.roster": roster(), "servers.list": list_file()}
     files |= {f"{name}.stream": stream.encode() for name, stream in streams.items()}
     bills = {
         f"{name}.bill": "".join(line + "\n" for line in stream.bill()).encode()

@@ -10,7 +10,7 @@ use std::str::FromStr;
 /// Options that stand alone, of all commands.
 const FLAGS: [&str; 4] = ["--help", "-h", "--export", "--verify"];
 /// Options that a value follows.
-const VALUED: [&str; 7] = [
+const VALUED: [&str; 8] = [
     "-o",
     "--app",
     "--session",
@@ -18,6 +18,7 @@ const VALUED: [&str; 7] = [
     "--hash",
     "--signature",
     "--roster",
+    "--list",
 ];
 
 /// What is left of the command line.
@@ -72,9 +73,14 @@ impl Arguments {
         Ok(self.word(command, "NAME")?.into_vec())
     }
 
+    /// All words that are left.
+    pub fn rest(&mut self) -> Vec<OsString> {
+        self.words.drain(..).collect()
+    }
+
     /// All words that are left, as names.
     pub fn names(&mut self) -> Vec<Vec<u8>> {
-        self.words.drain(..).map(OsString::into_vec).collect()
+        self.rest().into_iter().map(OsString::into_vec).collect()
     }
 
     /// Is this option there?

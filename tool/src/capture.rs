@@ -2,8 +2,8 @@
 
 use crate::arguments::Arguments;
 use crate::request::Request;
-use crate::{input, roster, Failure};
-use razidkot::{Connection, Counters, Held, Registry, Status};
+use crate::{input, list, roster, Failure};
+use razidkot::{Connection, Counters, Held, List, Registry, Status};
 use razidkot::{LEAST_RESPONSE_BUFFER, LONGEST_CHUNK};
 use std::fs::File;
 use std::io::{self, Write};
@@ -23,9 +23,12 @@ pub fn run(mut arguments: Arguments, out: &mut dyn Write) -> Result<(), Failure>
     let file = PathBuf::from(arguments.word(SHOW, "FILE")?);
     let roster = arguments.path("--roster");
     let roster = roster.ok_or_else(|| Failure::usage(SHOW, "--roster FILE is missing"))?;
+    let list = arguments.path("--list");
     arguments.end(SHOW)?;
 
-    let mut capture = Capture::new(roster::load(&roster)?);
+    let registry = roster::load(&roster)?;
+    let list = list.map_or(Ok(List::new()), |file| list::load(&file))?;
+    let mut capture = Capture::new(registry, list);
     let failed = |error| Failure::at(&file, error);
     let mut stream = File::open(&file).map_err(failed)?;
     let mut chunk = vec![0; LONGEST_CHUNK];
@@ -42,6 +45,7 @@ pub fn run(mut arguments: Arguments, out: &mut dyn Write) -> Result<(), Failure>
 /// The service, and what is needed to show the request that it is at.
 struct Capture {
     registry: Registry,
+    list: List,
     connection: Connection,
     counters: Counters,
     /// The first bytes of that request.
@@ -49,9 +53,10 @@ struct Capture {
 }
 
 impl Capture {
-    fn new(registry: Registry) -> Capture {
+    fn new(registry: Registry, list: List) -> Capture {
         Capture {
             registry,
+            list,
             connection: Connection::open(),
             counters: Counters::default(),
             request: Vec::new(),
@@ -64,9 +69,15 @@ impl Capture {
         let mut rest = chunk;
         while !rest.is_empty() {
             let offset = self.counters.answered;
-            let answer = self
-                .connection
-                .call(&mut self.registry, &mut self.counters, rest, &mut response)
+            let Capture {
+                registry,
+                list,
+                connection,
+                counters,
+                ..
+            } = self;
+            let answer = connection
+                .call(registry, list.bytes(), counters, rest, &mut response)
                 .expect("room, a chunk in bounds, and counters of fewer than 2^62 bytes");
             let (taken, behind) = rest.split_at(answer.taken);
             let room = LONGEST_REQUEST - self.request.len();

@@ -5,10 +5,12 @@ use std::ffi::OsStr;
 use std::io::Write;
 
 const TOP: &str = "\
-razidkot: roster files, a key service's client, and captured streams
+razidkot: roster files, lists of keys, a key service's client, and captured streams
 
   razidkot roster make NAME.. [-o FILE]         write a roster file
   razidkot roster show FILE                     print a roster file's names
+  razidkot list make NAME FILE .. [-o FILE]     write a list of keys that every application has
+  razidkot list show FILE                       print a list's keys
   razidkot ask SOCKET OPERATION ..              ask a key service on a Unix socket
   razidkot capture show FILE --roster FILE      print a captured stream request by request
 
@@ -37,6 +39,39 @@ razidkot roster show FILE
 
 Prints the names of a roster file, a line each, in the file's order: the words that `roster make`
 takes. A file that the service refuses is refused with its R number.
+";
+
+const LIST: &str = "\
+razidkot list make NAME FILE .. [-o FILE]     write a list of keys that every application has
+razidkot list show FILE                       print a list's keys
+";
+
+const LIST_MAKE: &str = "\
+razidkot list make NAME FILE .. [-o FILE]
+
+Writes a list of these keys, each a name and the file of its public key, in this order, to FILE or
+standard output. Every application may export a listed key and verify with it, unless it has a key
+of that name itself. At most 64 keys; names differ and have 1 to 32 bytes from 0x21 to 0x7E, data
+has 1 to 600 bytes; no key at all makes an empty file, the list of none. A list that the service
+would refuse is not written.
+
+  -o FILE     where to write
+
+A key's FILE is one of these; what is listed is the DER of the RSAPublicKey (PKCS#1):
+  PEM, RSA PUBLIC KEY          its content
+  PEM, PUBLIC KEY              the RSAPublicKey in the SubjectPublicKeyInfo
+  DER, an RSAPublicKey         as it is
+  DER, SubjectPublicKeyInfo    the RSAPublicKey in it
+Any other file is listed as it is: it can be exported, and `verify` with it is PsaErrorNotSupported.
+PEM with another label, and DER that begins like a private key, are refused.
+";
+
+const LIST_SHOW: &str = "\
+razidkot list show FILE
+
+Prints the keys of a list, a line each, in the file's order: name, bytes of data, and how many bits
+the modulus has where the data is an RSA public key. A file that the service refuses (C6) is refused
+with the reason.
 ";
 
 const ASK: &str = "\
@@ -101,9 +136,9 @@ a private key, are refused.
 const ASK_EXPORT: &str = "\
 razidkot ask SOCKET export NAME --app NAME [-o FILE] [--session N]
 
-Writes the data of the application's key to FILE or standard output, as it is: of a key that
-`import` took from PEM or DER it is the DER of its RSAPublicKey. FILE is written only if the
-service hands the key out.
+Writes the data of the application's key, or of the key of that name on the service's list, to FILE
+or standard output, as it is: of a key that `import` or `list make` took from PEM or DER it is the
+DER of its RSAPublicKey. FILE is written only if the service hands the key out.
 
   -o FILE     where to write
 ";
@@ -111,14 +146,14 @@ service hands the key out.
 const ASK_DESTROY: &str = "\
 razidkot ask SOCKET destroy NAME --app NAME [--session N]
 
-Drops the application's key.
+Drops the application's key. One that is only on the service's list stays: PsaErrorNotPermitted.
 ";
 
 const ASK_VERIFY: &str = "\
 razidkot ask SOCKET verify NAME --hash HEX|FILE --signature FILE --app NAME [--session N]
 
 Asks the service whether a signature is that of the application's key: RSASSA-PKCS1-v1_5 with
-SHA-256 (RFC 8017). The key was imported with --verify.
+SHA-256 (RFC 8017). The key was imported with --verify, or is on the service's list.
 
   --hash HEX|FILE     the SHA-256 of what was signed: 64 hexadecimal digits, as `sha256sum` prints
                       them, or a file of its 32 bytes, as `openssl dgst -sha256 -binary` writes it
@@ -130,14 +165,15 @@ that may not verify, one that is no RSA public key of its bits (PsaErrorNotSuppo
 ";
 
 const CAPTURE: &str = "\
-razidkot capture show FILE --roster FILE     print a captured stream request by request
+razidkot capture show FILE --roster FILE [--list FILE]
+                                             print a captured stream request by request
 ";
 
 const CAPTURE_SHOW: &str = "\
-razidkot capture show FILE --roster FILE
+razidkot capture show FILE --roster FILE [--list FILE]
 
 Hands the stream in FILE to the compiled service, which starts with the roster's applications and
-no keys, and prints a line for each request:
+no keys but the list's, and prints a line for each request:
 
   offset, length, status (number and name), operation, application
 
@@ -148,14 +184,18 @@ Behind the last request, `held` says what is there of one that is not finished, 
 many bytes came behind a close. Refused requests do not change the program's status.
 
   --roster FILE     the roster file
+  --list FILE       the list of keys that the service had; none if not said
 ";
 
 /// The words of each command, and its help.
-const TEXTS: [(&str, &str); 14] = [
+const TEXTS: [(&str, &str); 17] = [
     ("", TOP),
     ("roster", ROSTER),
     ("roster make", ROSTER_MAKE),
     ("roster show", ROSTER_SHOW),
+    ("list", LIST),
+    ("list make", LIST_MAKE),
+    ("list show", LIST_SHOW),
     ("ask", ASK),
     ("ask ping", ASK_PING),
     ("ask providers", ASK_PROVIDERS),

@@ -1,6 +1,6 @@
-//! The program `razidkot`: roster files made and shown, a key service asked over a Unix socket by
-//! the proved client, and captured streams shown request by request by the proved service. What is
-//! here reads files and the command line, and prints; nothing of it is proved.
+//! The program `razidkot`: roster files and lists of keys made and shown, a key service asked over a
+//! Unix socket by the proved client, and captured streams shown request by request by the proved
+//! service. What is here reads files and the command line, and prints; nothing of it is proved.
 
 mod arguments;
 mod ask;
@@ -10,6 +10,7 @@ mod hash;
 mod help;
 mod input;
 pub mod key;
+mod list;
 mod output;
 mod pem;
 mod request;
@@ -31,6 +32,7 @@ pub fn run(words: impl IntoIterator<Item = OsString>, out: &mut dyn Write) -> Re
     let command = arguments.word("", "a command")?;
     match command.to_str() {
         Some("roster") => roster::run(arguments, out),
+        Some("list") => list::run(arguments, out),
         Some("ask") => ask::run(arguments, out),
         Some("capture") => capture::run(arguments, out),
         _ => Err(Failure::unknown("", "command", &command)),

@@ -98,7 +98,7 @@ fn the_samples_are_shown_as_they_are_billed() {
         let names = razidkot(words!["roster", "show", roster]).text();
         let names: Vec<_> = names.lines().map(|name| name.as_bytes().to_vec()).collect();
         let bill = Sums::of(&shown(&stream, &roster)).bill(&names);
-        assert_eq!(bill, text(printed(&[roster, stream])));
+        assert_eq!(bill, text(printed(&[roster, stream, "/dev/null".into()])));
     }
 }
 

@@ -6,7 +6,7 @@ use common::{ended, program, razidkot, sample};
 use std::fs::File;
 
 /// The words of each command, and how its help begins.
-const COMMANDS: [(&[&str], &str); 16] = [
+const COMMANDS: [(&[&str], &str); 19] = [
     (&[], "razidkot: "),
     (&["roster"], "razidkot roster make NAME.. [-o FILE] "),
     (
@@ -14,6 +14,12 @@ const COMMANDS: [(&[&str], &str); 16] = [
         "razidkot roster make NAME.. [-o FILE]\n",
     ),
     (&["roster", "show"], "razidkot roster show FILE\n"),
+    (&["list"], "razidkot list make NAME FILE .. [-o FILE] "),
+    (
+        &["list", "make"],
+        "razidkot list make NAME FILE .. [-o FILE]\n",
+    ),
+    (&["list", "show"], "razidkot list show FILE\n"),
     (&["ask"], "razidkot ask SOCKET OPERATION .."),
     (&["ask", "keys.socket"], "razidkot ask SOCKET OPERATION .."),
     (&["ask", "keys.socket", "ping"], "razidkot ask SOCKET ping "),
@@ -45,7 +51,7 @@ const COMMANDS: [(&[&str], &str); 16] = [
     (&["capture"], "razidkot capture show FILE --roster FILE "),
     (
         &["capture", "show"],
-        "razidkot capture show FILE --roster FILE\n",
+        "razidkot capture show FILE --roster FILE [--list FILE]\n",
     ),
 ];
 
@@ -66,7 +72,14 @@ fn each_command_has_help() {
 #[test]
 fn the_help_of_all_names_each_command() {
     let text = razidkot(&["--help"]).text();
-    for command in ["roster make", "roster show", "ask", "capture show"] {
+    for command in [
+        "roster make",
+        "roster show",
+        "list make",
+        "list show",
+        "ask",
+        "capture show",
+    ] {
         assert!(text.contains(&format!("razidkot {command} ")), "{command}");
     }
     let text = razidkot(&["ask", "--help"]).text();
@@ -84,7 +97,7 @@ fn the_help_of_all_names_each_command() {
 }
 
 /// A command line, what is said of it, and whose help to read.
-const NOT_UNDERSTOOD: [(&str, &str, &str); 44] = [
+const NOT_UNDERSTOOD: [(&str, &str, &str); 53] = [
     ("", "a command is missing", ""),
     ("keys", "unknown command keys", ""),
     ("keys --help", "unknown command keys", ""),
@@ -103,6 +116,27 @@ const NOT_UNDERSTOOD: [(&str, &str, &str); 44] = [
     ("roster make a -o b -o c", "-o is said twice", ""),
     ("roster make a --quiet", "unknown option --quiet", ""),
     ("roster make a --quiet=1", "unknown option --quiet", ""),
+    ("list", "a command is missing", " list"),
+    ("list drop", "unknown command drop", " list"),
+    ("list make k", "the FILE of NAME k is missing", " list make"),
+    (
+        "list make k f l",
+        "the FILE of NAME l is missing",
+        " list make",
+    ),
+    (
+        "list make k f --roster r",
+        "--roster is no option here",
+        " list make",
+    ),
+    ("list show", "FILE is missing", " list show"),
+    ("list show f g", "g is one word too many", " list show"),
+    ("list show f -o g", "-o is no option here", " list show"),
+    (
+        "roster show f --list g",
+        "--list is no option here",
+        " roster show",
+    ),
     ("ask", "SOCKET is missing", " ask"),
     ("ask s", "an operation is missing", " ask"),
     ("ask s sign", "unknown operation sign", " ask"),
@@ -223,6 +257,8 @@ fn a_full_standard_output_is_said() {
     let lines = [
         words!["roster", "show", roster],
         words!["roster", "make", "a"],
+        words!["list", "show", sample("servers.list")],
+        words!["list", "make", "k", roster],
         words!["capture", "show", stream, "--roster", roster],
         words!["--help"],
     ];
