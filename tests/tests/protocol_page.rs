@@ -8,7 +8,8 @@ use page::drafts::drafts;
 use page::labels::{header_fields, provider_text, Field, Headers};
 use page::play::{play, Setting};
 use page::text::{examples, number, page, repository_file, table, Example};
-use razidkot::{Connection, Counters, Registry, RosterFault, Status, LEAST_RESPONSE_BUFFER};
+use razidkot::{Connection, Counters, Refusal, Registry, RosterFault, Status};
+use razidkot::{LEAST_RESPONSE_BUFFER, LONGEST_LIST, MOST_LISTED_KEYS};
 use razidkot_client::{Opcode, Provider, ReadRefusal, WriteRefusal};
 use razidkot_tests::ask::{request, PING};
 use razidkot_tests::foreign;
@@ -18,7 +19,7 @@ use std::collections::{BTreeMap, BTreeSet};
 use std::fmt::Debug;
 
 /// How many examples the page has. It says so itself, and none may get lost.
-const EXAMPLES: usize = 23;
+const EXAMPLES: usize = 26;
 const ROSTER: &str = "The roster of all examples";
 
 // ---- The examples
@@ -95,6 +96,8 @@ fn every_status_operation_fault_and_refusal_has_an_example() {
             .iter()
             .map(|case| format!("fault R{}", case.number()))
             .collect(),
+        // Of the calls' refusals the list's alone shows in what is on the page.
+        vec![format!("call C{}", Refusal::ListIllFormed.number())],
         names("write", &WriteRefusal::ALL),
         names("read", &ReadRefusal::ALL),
     ];
@@ -503,6 +506,8 @@ fn the_limits_are_the_constants() {
     expect("a hash", HASH_SIZE as u64, HASH_SIZE as u64);
     expect("applications on a roster", 0, razidkot::LINES as u64);
     expect("keys of an application", 0, SLOTS as u64);
+    expect("keys on a list", 0, MOST_LISTED_KEYS as u64);
+    expect("a list's bytes", 0, LONGEST_LIST as u64);
     let [h, c, a] = ["H of a request", "C that is read", "A that is read"].map(|what| limits[what]);
     let request = limits["a request that is read"];
     assert_eq!(request, (6 + h.0 + c.0 + a.0, 6 + h.1 + c.1 + a.1));

@@ -237,7 +237,7 @@ mod tests {
             assert_eq!(list.push(&name, &[number; 600]), Ok(()));
         }
         assert_eq!(list.bytes().len(), LONGEST_LIST);
-        assert_eq!(list.push(b"one more", b"\0"), Err(ListFault::TooManyKeys));
+        assert_eq!(list.push(b"another", b"\0"), Err(ListFault::TooManyKeys));
         assert_eq!(list.keys().count(), MOST_LISTED_KEYS);
         assert_eq!(List::from_bytes(list.bytes()), Ok(list));
     }

@@ -17,10 +17,10 @@ fn label_at(line: &str) -> usize {
 }
 
 impl Group<'_> {
-    /// Whether a changed byte shows: what the client writes and the service answers is compared, and
-    /// a named byte that is changed makes a good signature a bad one.
+    /// Whether a changed byte shows: what the client writes and the service answers is compared, a
+    /// named byte that is changed makes a good signature a bad one, and listed keys are exported.
     fn bytes_count(&self, label: &str) -> bool {
-        let beginnings = ["client writes", "bytes "];
+        let beginnings = ["client writes", "bytes ", "list lent"];
         let begins = beginnings.iter().any(|says| self.says.starts_with(says));
         begins || self.says == "service answers" || self.label_counts(label)
     }

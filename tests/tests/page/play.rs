@@ -4,7 +4,8 @@ use super::labels::{self, Field, Headers};
 use super::text::{line_of, steps, without_names, Example, Line, Step};
 use super::wanted::Wanted;
 use super::Fault;
-use razidkot::{Connection, Counters, Registry, Status, LEAST_RESPONSE_BUFFER, LONGEST_CHUNK};
+use razidkot::{Connection, Counters, List, Registry, Status};
+use razidkot::{LEAST_RESPONSE_BUFFER, LONGEST_CHUNK};
 use razidkot_client::{Output, Reader, Reading, Response};
 use std::collections::{BTreeSet, VecDeque};
 use std::mem;
@@ -20,6 +21,7 @@ pub struct Setting {
 pub struct Play<'a> {
     setting: &'a Setting,
     registry: Registry,
+    list: List,
     connection: Connection,
     counters: Counters,
     /// What is sent and not yet handed over: several requests may share a chunk.
@@ -88,9 +90,11 @@ fn any(fields: &[Field], lines: &[&str]) -> Result<Vec<u8>, Fault> {
 
 impl<'a> Play<'a> {
     /// The longer of two beginnings comes first.
-    const ACTIONS: [(&'static str, Action<'a>); 16] = [
+    const ACTIONS: [(&'static str, Action<'a>); 18] = [
         ("roster loaded", Self::load),
         ("roster refused ", Self::refuse_roster),
+        ("list lent", Self::lend),
+        ("list refused ", Self::refuse_list),
         ("client writes ", Self::write),
         ("client refuses to write ", Self::refuse_to_write),
         ("client awaits ", Self::await_response),
@@ -112,6 +116,7 @@ impl<'a> Play<'a> {
         Ok(Play {
             setting,
             registry,
+            list: List::new(),
             connection: Connection::open(),
             counters: Counters::default(),
             unsent: Vec::new(),
@@ -139,7 +144,7 @@ impl<'a> Play<'a> {
         same(self.awaiting.len(), 0)
     }
 
-    // ---- The roster
+    // ---- The roster and the list
 
     fn load(&mut self, _: &str, lines: &[&str]) -> Done {
         let loaded = Registry::load(&joined(&parsed(lines)?));
@@ -153,6 +158,30 @@ impl<'a> Play<'a> {
             Err(said) => {
                 self.shown.insert(format!("fault R{}", said.number()));
                 same(format!("R{}", said.number()).as_str(), fault)
+            }
+        }
+    }
+
+    fn lend(&mut self, _: &str, lines: &[&str]) -> Done {
+        self.hand_over()?;
+        let lent = List::from_bytes(&joined(&parsed(lines)?));
+        self.list = lent.map_err(|fault| fault.to_string())?;
+        Ok(())
+    }
+
+    /// With an empty chunk, which a call that is taken does nothing with.
+    fn refuse_list(&mut self, code: &str, lines: &[&str]) -> Done {
+        let list = joined(&parsed(lines)?);
+        let (registry, counters) = (&mut self.registry, &mut self.counters);
+        let response = &mut [0xEE; LEAST_RESPONSE_BUFFER];
+        match self
+            .connection
+            .call(registry, &list, counters, b"", response)
+        {
+            Ok(_) => Err("it is taken".to_string()),
+            Err(said) => {
+                self.shown.insert(format!("call C{}", said.number()));
+                same(format!("C{}", said.number()).as_str(), code)
             }
         }
     }
@@ -185,9 +214,9 @@ impl<'a> Play<'a> {
             let mut response = [0xEE; LEAST_RESPONSE_BUFFER];
             let registry = &mut self.registry;
             let counters = &mut self.counters;
-            let answer = self
-                .connection
-                .call(registry, counters, rest, &mut response);
+            let answer =
+                self.connection
+                    .call(registry, self.list.bytes(), counters, rest, &mut response);
             let answer = answer.map_err(|refusal| refusal.to_string())?;
             if answer.written > 0 {
                 let response = response[..answer.written].to_vec();
