@@ -80,7 +80,7 @@ class Answer(ctypes.Structure):
 
 
 class Service:
-    """One connection to a service with this roster and no keys."""
+    """One connection to a service with this roster, no keys and an empty list."""
 
     def __init__(self, path, roster):
         library = ctypes.CDLL(path)
@@ -91,7 +91,7 @@ class Service:
         open_connection.argtypes = SLICE
         open_connection.restype = ctypes.c_uint32
         self._call = library.razidkot_call
-        self._call.argtypes = SLICE * 3 + [ctypes.c_void_p] + SLICE
+        self._call.argtypes = SLICE * 4 + [ctypes.c_void_p] + SLICE
         self._call.restype = Answer
         self._registry = ctypes.create_string_buffer(REGISTRY_SIZE)
         self._connection = ctypes.create_string_buffer(CONNECTION_SIZE)
@@ -104,8 +104,8 @@ class Service:
     def ask(self, request):
         """The header's fields behind the magic, and the body, of the response to one request."""
         response = ctypes.create_string_buffer(RESPONSE_BUFFER)
-        memory = (self._connection, CONNECTION_SIZE, self._registry, REGISTRY_SIZE, self._counters)
-        answer = self._call(request, len(request), *memory, response, RESPONSE_BUFFER)
+        memory = (self._connection, CONNECTION_SIZE, self._registry, REGISTRY_SIZE, None, 0)
+        answer = self._call(request, len(request), *memory, self._counters, response, RESPONSE_BUFFER)
         if (answer.code, answer.taken) != (0, len(request)):
             raise ValueError(f"a call not taken whole: {answer.code}, {answer.taken}")
         written = response.raw[: answer.written]

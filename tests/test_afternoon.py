@@ -17,6 +17,7 @@ NEEDED = [
     "make --silent install ",
     "cargo build ",
     "razidkot roster make ",
+    "razidkot list make ",
     "unix-socket --capture ",
     "until grep -qs listening ",
     "openssl genpkey ",
@@ -27,10 +28,12 @@ NEEDED = [
     "razidkot ask keys.socket verify ",
     "razidkot ask keys.socket destroy ",
     "razidkot ask keys.socket export ",
+    "razidkot ask keys.socket export release-2027 ",
+    "razidkot ask keys.socket destroy release-2027 ",
     "kill ",
     "razidkot-bill ",
 ]
-LEAST_STEPS = 28
+LEAST_STEPS = 36
 MARK = "--- the status is"
 # Minutes, for a machine that has other work; the afternoon takes seconds.
 LONGEST = 240
@@ -150,7 +153,7 @@ class Readme(Afternoon):
 
     def test_the_server_and_the_proved_program_print_one_bill(self):
         printed = dict(steps_of(self.text))
-        bill = printed["razidkot-bill keys.roster keys.stream"]
+        bill = printed["razidkot-bill keys.roster keys.stream keys.list"]
         self.assertTrue(bill[0].startswith("taken "), bill)
         self.assertEqual(printed["kill $! && wait $!"], bill)
 

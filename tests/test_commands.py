@@ -80,23 +80,24 @@ class Prove(Commands):
 class Bill(Commands):
     def setUp(self):
         super().setUp()
-        self.program(self.root / "target/bin/bill", 'echo "taken 1 of $1 and $2"')
+        self.program(self.root / "target/bin/bill", 'echo "taken 1 of $1, $2 and $3"')
 
     def test_the_programs_output_alone(self):
         self.on_path("rt", PROVES)
-        status, out, err = self.run_script("bill", "a roster", "stream")
-        self.assertEqual((status, out), (0, "taken 1 of a roster and stream\n"))
+        status, out, err = self.run_script("bill", "a roster", "stream", "list")
+        self.assertEqual((status, out), (0, "taken 1 of a roster, stream and list\n"))
         self.assertTrue(err.endswith(LINES), err)
 
     def test_a_program_that_is_not_proved_is_not_run(self):
         self.on_path("rt", FAILS)
-        status, out, err = self.run_script("bill", "roster", "stream")
+        status, out, err = self.run_script("bill", "roster", "stream", "list")
         self.assertEqual((status, out), (3, ""))
         self.assertIn("NOT PROVED", err)
 
-    def test_anything_but_two_files_is_bad_usage(self):
+    def test_anything_but_three_files_is_bad_usage(self):
         self.on_path("rt", PROVES)
-        for words in [[], ["roster"], ["roster", "stream", "more"], ["--unproved", "roster"]]:
+        files = ["roster", "stream", "list", "more"]
+        for words in [[], files[:1], files[:2], files, ["--unproved", *files[:2]]]:
             status, out, err = self.run_script("bill", *words)
             self.assertEqual((status, out), (2, ""))
             self.assertTrue(err.startswith("usage: "), err)
@@ -112,7 +113,8 @@ class Unproved(Commands):
             file.parent.mkdir(parents=True, exist_ok=True)
             file.write_text(name)
         (self.root / "roster").write_text("names")
-        self.files = [self.root / "roster", self.root / "no-stream"]
+        (self.root / "shipped").write_text("keys")
+        self.files = [self.root / "roster", self.root / "no-stream", self.root / "shipped"]
         self.on_path("cargo", "echo taken 0")
 
     def said(self, rt=None):
@@ -121,8 +123,9 @@ class Unproved(Commands):
         return self.run_script("bill", "--unproved", *self.files)
 
     def test_the_second_programs_bill_that_the_tried_program_prints_too(self):
-        given = "cat crates/bill/data/roster crates/bill/stdout crates/bill/args; ls crates/bill/data"
-        expected = "namestaken 0\nroster\nstream\nroster"
+        data = "crates/bill/data"
+        given = f"cat {data}/roster {data}/list crates/bill/stdout crates/bill/args; ls {data}"
+        expected = "nameskeystaken 0\nroster\nstream\nlist\nlist\nroster"
         status, out, err = self.said(f'[ "$*" = "try bill" ] && [ "$({given})" = "{expected}" ]')
         self.assertEqual((status, out), (0, "taken 0\n"))
         self.assertIn("NOT PROVED: this is the bill of the second program", err)

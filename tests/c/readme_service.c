@@ -25,11 +25,14 @@ static size_t read_file(const char *name, uint8_t *room, size_t size)
 }
 
 static uint8_t bytes[1 << 18];
+static uint8_t shipped[1 << 16];
 static uint8_t text[RAZIDKOT_LEAST_BILL_BUFFER];
 
 int main(int count, char **words)
 {
-    if (count != 3 || !start(bytes, read_file(words[1], bytes, sizeof bytes))) {
+    size_t length = count == 4 ? read_file(words[1], bytes, sizeof bytes) : 0;
+    size_t shipped_length = count == 4 ? read_file(words[3], shipped, sizeof shipped) : 0;
+    if (count != 4 || !start(bytes, length, shipped, shipped_length)) {
         fprintf(stderr, "not started\n");
         return 1;
     }

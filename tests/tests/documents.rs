@@ -106,9 +106,9 @@ fn every_block_is_of_a_language_that_is_known() {
     }
 }
 
-/// What README's C does, and not only that it compiles: a sample stream is served, its rest held.
+/// What README's C does, and not only that it compiles: sample streams are served, the rest held.
 #[test]
-fn readmes_service_serves_a_sample() {
+fn readmes_service_serves_the_samples() {
     let scratch = Scratch::new("readme-service");
     let program = programs_in("README.md").swap_remove(0);
     scratch.write(
@@ -118,9 +118,20 @@ fn readmes_service_serves_a_sample() {
     let source = scratch.path().join("served.c");
     let program = programs::compile(C, &source, &["abi"], "readme-service");
     let samples = repository().join("samples");
-    let mut served = Command::new(program);
-    served
-        .arg(samples.join("servers.roster"))
-        .arg(samples.join("day.stream"));
-    assert_eq!(printed(&mut served), read(&samples.join("day.bill")));
+    for name in ["day", "shipped"] {
+        let mut served = Command::new(&program);
+        served
+            .arg(samples.join("servers.roster"))
+            .arg(samples.join(format!("{name}.stream")))
+            .arg(samples.join("servers.list"));
+        let expected = read(&samples.join(format!("{name}.bill")));
+        assert_eq!(printed(&mut served), expected);
+    }
+    // A list that is none: a roster is tagged so, and has no data behind its names.
+    let mut served = Command::new(&program);
+    let roster = samples.join("servers.roster");
+    served.args([&roster, &samples.join("day.stream"), &roster]);
+    let output = served.output().expect("a program that can be run");
+    assert!(!output.status.success());
+    assert_eq!(String::from_utf8_lossy(&output.stderr), "not started\n");
 }

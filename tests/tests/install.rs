@@ -101,10 +101,11 @@ fn the_installed_program_prints_the_samples_bills() {
     let scratch = Scratch::new("program");
     install(scratch.path());
     let samples = repository().join("samples");
-    for name in ["day", "closed"] {
+    for name in ["day", "closed", "shipped"] {
         let mut bill = Command::new(scratch.path().join("bin/razidkot-bill"));
         bill.arg(samples.join("servers.roster"))
-            .arg(samples.join(format!("{name}.stream")));
+            .arg(samples.join(format!("{name}.stream")))
+            .arg(samples.join("servers.list"));
         let expected = read(samples.join(format!("{name}.bill")));
         assert_eq!(printed(&mut bill), expected);
     }

@@ -254,10 +254,11 @@ fn two_dashes_end_the_options() {
 #[test]
 fn a_full_standard_output_is_said() {
     let (roster, stream) = (sample("servers.roster"), sample("day.stream"));
+    let list = sample("servers.list");
     let lines = [
         words!["roster", "show", roster],
         words!["roster", "make", "a"],
-        words!["list", "show", sample("servers.list")],
+        words!["list", "show", list],
         words!["list", "make", "k", roster],
         words!["capture", "show", stream, "--roster", roster],
         words!["--help"],
