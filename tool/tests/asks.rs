@@ -33,12 +33,16 @@ struct Service {
 
 impl Service {
     fn start(test: &str) -> Service {
+        Service::start_with_list(test, b"")
+    }
+
+    fn start_with_list(test: &str, list: &[u8]) -> Service {
         let socket = socket_path(test);
         let roster = [record(1, b"scanner"), record(1, b"viewer")].concat();
         let server = Server::start(Settings {
             socket: &socket,
             roster: &roster,
-            list: b"",
+            list,
             capture: None,
             patience: TOO_LONG,
             say: |_| (),
@@ -137,6 +141,34 @@ fn a_keys_life() {
     }
     refused(import, "PsaErrorInsufficientStorage (status 1142)");
     service.stop(8);
+}
+
+/// What the tool lists, the service has for everybody, and nobody can change.
+#[test]
+fn the_keys_of_the_services_list() {
+    let folder = folder("shipped");
+    let key = folder.file("key", series::DATA);
+    let other = folder.file("other", b"other");
+    let list = razidkot(words!["list", "make", "release", key]).printed();
+    let service = Service::start_with_list("shipped", &list);
+    for app in ["scanner", "viewer"] {
+        let exported = service.ask(words!["export", "release", "--app", app]);
+        assert_eq!(exported.printed(), series::DATA);
+    }
+    let app = words!["--app", "scanner"];
+    let refused = |words: &[&OsStr], said| service.assert_refused(&[words, app].concat(), said);
+    let import = words!["import", "release", other, "--bits", "1024", "--export"];
+    refused(import, "PsaErrorAlreadyExists (status 1139)");
+    refused(
+        words!["destroy", "release"],
+        "PsaErrorNotPermitted (status 1133)",
+    );
+    service.assert_refused(words!["export", "release"], "NotAuthenticated (status 19)");
+    let signature = folder.file("signature", series::SIGNATURE);
+    let given = words!["verify", "release", "--hash", ABC, "--signature", signature];
+    let verified = service.ask(&[given, app].concat());
+    assert_eq!(verified.text(), "good signature\n");
+    service.stop(2);
 }
 
 #[test]

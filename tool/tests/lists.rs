@@ -100,7 +100,10 @@ fn a_65th_key_is_not_listed() {
     let folder = folder("full_list");
     let file = folder.file("600", &[7; 600]);
     let names: Vec<_> = (10..75).map(|n| format!("{n}{}", "n".repeat(30))).collect();
-    let keys: Vec<_> = names.iter().map(|name| (&name[..], &file[..])).collect();
+    let keys: Vec<_> = names
+        .iter()
+        .map(|name| (&name[..], file.as_path()))
+        .collect();
     let list = razidkot(&make(&keys[..MOST_LISTED_KEYS], None)).printed();
     assert_eq!(list.len(), LONGEST_LIST);
     assert_eq!(show(&folder.file("list", &list)).lines().count(), 64);
@@ -190,12 +193,13 @@ fn a_faulty_file_is_named_with_its_fault() {
 fn any_file_is_shown_or_refused_as_the_reference_does() {
     let folder = folder("any_list");
     let whole = bytes_of(&[("k", b"d"), ("key-2", &[7; 600]), (&"~".repeat(32), b"e")]);
+    let two: [(&str, &[u8]); 2] = [("k", b"d"), ("l", b"e")];
     let mut outcomes = Outcomes::default();
     for_seeds(300, |random| {
         let list = match random.below(3) {
             0 => whole[..random.below(whole.len() + 1)].to_vec(),
             1 => mutated(random, whole.clone()),
-            _ => bytes_of(&[("k", b"d"), ("l", b"e")][..random.below(3)]),
+            _ => bytes_of(&two[..random.below(3)]),
         };
         let ended = razidkot(words!["list", "show", folder.file("any.list", &list)]);
         let is_good = reference::list_is_well_formed(&list);
