@@ -90,7 +90,7 @@ fn the_samples_list_is_shown() {
     let expected = "release-2026 398 bytes, RSA public key of 3072 bits\n\
                     release-2027 270 bytes, RSA public key of 2048 bits\n\
                     leaflet 6 bytes, no RSA public key\n\
-                    odd 139 bytes, RSA public key of 1028 bits\n";
+                    odd 140 bytes, RSA public key of 1028 bits\n";
     assert_eq!(show(&sample("servers.list")), expected);
 }
 
