@@ -1,33 +1,34 @@
-//! The bill of a roster file and a captured stream.
-//! Document 01, "The bill".
+//! The bill of a roster file, a captured stream and a list of keys.
+//! Document 01, "The bill"; document 02, "Keys we ship".
 
-use crate::call::{call, MAX_CHUNK, MIN_RESPONSE_BUFFER};
+use crate::call::{call, Refusal, MAX_CHUNK, MIN_RESPONSE_BUFFER};
 use crate::connection::unfinished_bytes;
 use crate::counters::Counters;
+use crate::list::list_is_well_formed;
 use crate::registry::{application_name, Line};
 use crate::roster::load_roster;
 use crate::status::Status;
 use crate::{CONNECTION_SIZE, REGISTRY_SIZE};
 use std::io::{self, ErrorKind, Read};
 
-/// The bill of these two files; `None` stands for a file that can't be read, tried first.
-pub fn bill(roster: Option<&[u8]>, stream: Option<&[u8]>) -> Vec<u8> {
+/// The bill of these three files; `None` stands for a file that can't be read, tried first.
+pub fn bill(roster: Option<&[u8]>, stream: Option<&[u8]>, list: Option<&[u8]>) -> Vec<u8> {
     let no_file = || text_of(&["no file".to_string()]);
-    match (roster, stream) {
-        (Some(roster), Some(stream)) => {
-            bill_from_reader(roster, stream).unwrap_or_else(|_| no_file())
+    match (roster, stream, list) {
+        (Some(roster), Some(stream), Some(list)) => {
+            bill_from_reader(roster, stream, list).unwrap_or_else(|_| no_file())
         }
         _ => no_file(),
     }
 }
 
-/// The bill of a roster file and a stream read chunk by chunk; an error is the stream's own.
-pub fn bill_from_reader(roster: &[u8], mut stream: impl Read) -> io::Result<Vec<u8>> {
+/// The bill of a roster file, a stream read chunk by chunk and a list; an error is the stream's own.
+pub fn bill_from_reader(roster: &[u8], mut stream: impl Read, list: &[u8]) -> io::Result<Vec<u8>> {
     let mut registry = vec![0; REGISTRY_SIZE];
-    if let Err(fault) = load_roster(roster, &mut registry) {
-        // An unreadable stream comes before a refused roster, so it is read to its end.
+    if let Some(refused) = refused_start(roster, list, &mut registry) {
+        // An unreadable stream comes before a refused start, so it is read to its end.
         io::copy(&mut stream, &mut io::sink())?;
-        return Ok(text_of(&[format!("roster R{}", fault.number())]));
+        return Ok(text_of(&[refused]));
     }
     let mut connection = vec![0; CONNECTION_SIZE];
     let mut counters = Counters::default();
@@ -37,8 +38,16 @@ pub fn bill_from_reader(roster: &[u8], mut stream: impl Read) -> io::Result<Vec<
         if chunk.is_empty() {
             return Ok(bill_text(&counters, &registry, &connection));
         }
-        take_chunk(chunk, &mut connection, &mut registry, &mut counters);
+        take_chunk(chunk, &mut connection, &mut registry, list, &mut counters);
     }
+}
+
+/// Loads the roster; the only line of the bill where it or, the roster being good, the list is bad.
+fn refused_start(roster: &[u8], list: &[u8], registry: &mut [u8]) -> Option<String> {
+    if let Err(fault) = load_roster(roster, registry) {
+        return Some(format!("roster R{}", fault.number()));
+    }
+    (!list_is_well_formed(list)).then(|| format!("list C{}", Refusal::ListIllFormed.number()))
 }
 
 /// The bill of these counters, on a well-formed registry and connection.
@@ -99,12 +108,13 @@ fn take_chunk(
     mut chunk: &[u8],
     connection: &mut [u8],
     registry: &mut [u8],
+    list: &[u8],
     counters: &mut Counters,
 ) {
     let mut response = [0; MIN_RESPONSE_BUFFER];
     while !chunk.is_empty() {
-        let taken = call(chunk, connection, registry, counters, &mut response)
-            .expect("the memory is well formed and no file has more than 2^62 bytes");
+        let taken = call(chunk, connection, registry, list, counters, &mut response)
+            .expect("memory and list are good and no file has more than 2^62 bytes");
         chunk = &chunk[taken.taken..];
     }
 }

@@ -1,8 +1,9 @@
-//! One call: the five refusals, then bytes taken until one response or to the chunk's end.
-//! Document 01, "When a call is not taken".
+//! One call: the six refusals, then bytes taken until one response or to the chunk's end.
+//! Document 01, "When a call is not taken"; document 02, "Keys we ship", for the sixth.
 
 use crate::connection::{self, State};
 use crate::counters::Counters;
+use crate::list::list_is_well_formed;
 use crate::registry::registry_is_well_formed;
 use crate::service::{self, Answer, Caller, Verdict};
 use crate::wire::{header_length, start_is_good, Header, START_LENGTH};
@@ -13,7 +14,7 @@ pub const MAX_CHUNK: usize = 65_536;
 /// For each counter by itself; a counter of just this is not too high.
 const HIGHEST_COUNTER: u64 = 1 << 62;
 
-/// Why a call is not taken; `number` gives the digit of C1 to C5.
+/// Why a call is not taken; `number` gives the digit of C1 to C6.
 #[derive(Clone, Copy, Debug, PartialEq, Eq)]
 #[repr(u8)]
 pub enum Refusal {
@@ -22,6 +23,7 @@ pub enum Refusal {
     ConnectionIllFormed = 3,
     RegistryIllFormed = 4,
     CounterTooHigh = 5,
+    ListIllFormed = 6,
 }
 
 impl Refusal {
@@ -43,13 +45,15 @@ pub fn call(
     chunk: &[u8],
     connection: &mut [u8],
     registry: &mut [u8],
+    list: &[u8],
     counters: &mut Counters,
     response: &mut [u8],
 ) -> Result<Taken, Refusal> {
-    let state = judge_call(chunk, connection, registry, counters, response)?;
+    let state = judge_call(chunk, connection, registry, list, counters, response)?;
     let mut lent = Lent {
         connection,
         registry,
+        list,
         counters,
         response,
     };
@@ -68,6 +72,7 @@ fn judge_call(
     chunk: &[u8],
     connection: &[u8],
     registry: &[u8],
+    list: &[u8],
     counters: &Counters,
     response: &[u8],
 ) -> Result<State, Refusal> {
@@ -83,6 +88,9 @@ fn judge_call(
     }
     if counters.highest() > HIGHEST_COUNTER {
         return Err(Refusal::CounterTooHigh);
+    }
+    if !list_is_well_formed(list) {
+        return Err(Refusal::ListIllFormed);
     }
     Ok(state)
 }
@@ -123,6 +131,7 @@ fn frame(bytes: &[u8]) -> Frame {
 struct Lent<'a> {
     connection: &'a mut [u8],
     registry: &'a mut [u8],
+    list: &'a [u8],
     counters: &'a mut Counters,
     response: &'a mut [u8],
 }
@@ -138,7 +147,9 @@ impl Lent<'_> {
             Frame::BadStart => self.refuse_start(START_LENGTH),
             Frame::Oversized(header) => self.begin_oversized(&header, chunk),
             Frame::Whole(length) => {
-                let answer = service::answer_whole(&chunk[..length], self.registry, self.response);
+                let request = &chunk[..length];
+                let answer =
+                    service::answer_whole(request, self.registry, self.list, self.response);
                 self.count(length as u64, answer, length)
             }
         }
@@ -186,7 +197,7 @@ impl Lent<'_> {
 
     fn answer_held(&mut self, length: usize, taken: usize) -> Taken {
         let request = connection::held_bytes(self.connection, length);
-        let answer = service::answer_whole(request, self.registry, self.response);
+        let answer = service::answer_whole(request, self.registry, self.list, self.response);
         connection::reset(self.connection);
         self.count(length as u64, answer, taken)
     }

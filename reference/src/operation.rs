@@ -1,10 +1,11 @@
 //! The seven operations: what each reads from its body, does and writes.
 //! Document 01, "Operations and their fields"; document 02, "Unlisted fields" (a field that is not
-//! listed, or has another wire type, is skipped) and "Checking signatures".
+//! listed, or has another wire type, is skipped), "Checking signatures" and "Keys we ship".
 
+use crate::list::find_listed_key;
 use crate::opcode::{CoreOpcode, KeystoreOpcode, Provider};
 use crate::protobuf::{fields, low_32_bits, skip_fields, Unreadable, Value, Writer};
-use crate::registry::{self, key_name_is_legal, Key, Line, Slot, LONGEST_DATA};
+use crate::registry::{self, bits_are_legal, key_name_is_legal, Key, Line, Slot, LONGEST_DATA};
 use crate::rsa::{self, Outcome, HASH_LENGTH};
 use crate::status::Status;
 use crate::wire::RESPONSE_HEADER_LENGTH;
@@ -53,23 +54,55 @@ pub fn perform_keystore(
     line: Line,
     body: &[u8],
     registry: &mut [u8],
+    list: &[u8],
     out: &mut [u8],
 ) -> Result<usize, Status> {
     match opcode {
-        KeystoreOpcode::Import => import(registry, line, &read_key_input(body)?),
-        KeystoreOpcode::Destroy => destroy(registry, line, read_name(body)?),
-        KeystoreOpcode::Export => export(registry, line, read_name(body)?, out),
-        KeystoreOpcode::Verify => verify(registry, line, &read_verify_input(body)?),
+        KeystoreOpcode::Import => import(registry, list, line, &read_key_input(body)?),
+        KeystoreOpcode::Destroy => destroy(registry, list, line, read_name(body)?),
+        KeystoreOpcode::Export => {
+            let source = find_key(registry, list, line, read_name(body)?)?;
+            export(&source, out)
+        }
+        KeystoreOpcode::Verify => {
+            let input = read_verify_input(body)?;
+            let source = find_key(registry, list, line, input.name)?;
+            verify(&source, &input)
+        }
     }
 }
 
-/// Bounds of name, data and bits, then a held name, then a full line.
-fn import(registry: &mut [u8], line: Line, key: &Key) -> Result<usize, Status> {
+/// Who holds a key.
+enum Source<'a> {
+    Own(Slot, Key<'a>),
+    /// Its data: it allows both uses, and its bits are its modulus's.
+    Listed(&'a [u8]),
+}
+
+/// Among the application's own first, then in the list; a bad name is refused before either.
+fn find_key<'a>(
+    registry: &'a [u8],
+    list: &'a [u8],
+    line: Line,
+    name: &[u8],
+) -> Result<Source<'a>, Status> {
+    if !key_name_is_legal(name) {
+        return Err(Status::PsaErrorInvalidArgument);
+    }
+    if let Some(slot) = registry::find_key(registry, line, name) {
+        return Ok(Source::Own(slot, registry::read_key(registry, line, slot)));
+    }
+    let data = find_listed_key(list, name).ok_or(Status::PsaErrorDoesNotExist)?;
+    Ok(Source::Listed(data))
+}
+
+/// Bounds of name, data and bits, then a name that is held or listed, then a full line.
+fn import(registry: &mut [u8], list: &[u8], line: Line, key: &Key) -> Result<usize, Status> {
     if !key.is_allowed() {
         return Err(Status::PsaErrorInvalidArgument);
     }
     // A held name may lie behind a free slot, so it is looked for in the whole line first.
-    if registry::find_key(registry, line, key.name).is_some() {
+    if find_key(registry, list, line, key.name).is_ok() {
         return Err(Status::PsaErrorAlreadyExists);
     }
     let slot =
@@ -78,45 +111,45 @@ fn import(registry: &mut [u8], line: Line, key: &Key) -> Result<usize, Status> {
     Ok(0)
 }
 
-fn destroy(registry: &mut [u8], line: Line, name: &[u8]) -> Result<usize, Status> {
-    let slot = find_named_key(registry, line, name)?;
+/// A listed key stays, unless the application holds its own of that name: then its own goes.
+fn destroy(registry: &mut [u8], list: &[u8], line: Line, name: &[u8]) -> Result<usize, Status> {
+    let Source::Own(slot, _) = find_key(registry, list, line, name)? else {
+        return Err(Status::PsaErrorNotPermitted);
+    };
     registry::free_slot(registry, line, slot);
     Ok(0)
 }
 
-fn export(registry: &[u8], line: Line, name: &[u8], out: &mut [u8]) -> Result<usize, Status> {
-    let slot = find_named_key(registry, line, name)?;
-    let key = registry::read_key(registry, line, slot);
-    if !key.export_allowed {
-        return Err(Status::PsaErrorNotPermitted);
-    }
+fn export(source: &Source, out: &mut [u8]) -> Result<usize, Status> {
+    let data = match source {
+        Source::Own(_, key) if !key.export_allowed => return Err(Status::PsaErrorNotPermitted),
+        Source::Own(_, key) => key.data,
+        Source::Listed(data) => data,
+    };
     let mut writer = Writer::new(out);
-    writer.write_bytes(1, key.data);
+    writer.write_bytes(1, data);
     Ok(writer.written())
 }
 
 /// The key's permission, then the hash's length, then key and signature by RFC 8017.
-fn verify(registry: &[u8], line: Line, input: &VerifyInput) -> Result<usize, Status> {
-    let slot = find_named_key(registry, line, input.name)?;
-    let key = registry::read_key(registry, line, slot);
-    if !key.verify_allowed {
-        return Err(Status::PsaErrorNotPermitted);
-    }
+fn verify(source: &Source, input: &VerifyInput) -> Result<usize, Status> {
+    let (data, bits) = match source {
+        Source::Own(_, key) if !key.verify_allowed => return Err(Status::PsaErrorNotPermitted),
+        Source::Own(_, key) => (key.data, key.bits),
+        Source::Listed(data) => (*data, rsa::modulus_bits(data)),
+    };
     if input.hash.len() != HASH_LENGTH {
         return Err(Status::PsaErrorInvalidArgument);
     }
-    match rsa::verify(key.data, key.bits, input.hash, input.signature).outcome {
+    // Those of an own key always are.
+    if !bits_are_legal(bits) {
+        return Err(Status::PsaErrorNotSupported);
+    }
+    match rsa::verify(data, bits, input.hash, input.signature).outcome {
         Outcome::Valid => Ok(0),
         Outcome::InvalidSignature => Err(Status::PsaErrorInvalidSignature),
         Outcome::InvalidKey => Err(Status::PsaErrorNotSupported),
     }
-}
-
-fn find_named_key(registry: &[u8], line: Line, name: &[u8]) -> Result<Slot, Status> {
-    if !key_name_is_legal(name) {
-        return Err(Status::PsaErrorInvalidArgument);
-    }
-    registry::find_key(registry, line, name).ok_or(Status::PsaErrorDoesNotExist)
 }
 
 fn read_provider(body: &[u8]) -> Result<u32, Unreadable> {

@@ -1,6 +1,7 @@
 //! Reading a roster file into registry memory.
 //! Document 01, "Roster, registry, connection, tally", the first paragraph.
 
+use crate::records::{split_record, Record};
 use crate::registry::{application_name_is_legal, write_fresh, LINES, REGISTRY_SIZE};
 
 const APPLICATION_NAME_TAG: u8 = 1;
@@ -45,19 +46,6 @@ fn read_names(file: &[u8]) -> Result<Vec<&[u8]>, RosterFault> {
         rest = behind;
     }
     Ok(names)
-}
-
-struct Record<'a> {
-    tag: u8,
-    value: &'a [u8],
-}
-
-/// The first record and the bytes behind it, unless the record is cut.
-fn split_record(file: &[u8]) -> Option<(Record<'_>, &[u8])> {
-    let (&[tag, low, high], rest) = file.split_first_chunk()?;
-    let length = u16::from_le_bytes([low, high]);
-    let (value, behind) = rest.split_at_checked(length.into())?;
-    Some((Record { tag, value }, behind))
 }
 
 /// R2 to R5, in this order: a ninth name that repeats an earlier one is R4.

@@ -4,6 +4,7 @@
 mod key;
 mod modular;
 
+pub use key::modulus_bits;
 use key::PublicKey;
 use modular::{from_octets, is_below, to_octets, Modulus};
 

@@ -1,5 +1,6 @@
 //! The rules fed the start registry and the uncut stream, and nothing that `call` keeps.
-//! Document 01, "A whole stream under the rules"; the four cases stand in the paper's order.
+//! Document 01, "A whole stream under the rules"; the four cases stand in the paper's order. Document
+//! 02, "Keys we ship", has the list as one more fixed input.
 
 use crate::connection;
 use crate::counters::Counters;
@@ -50,8 +51,14 @@ enum Next {
     Request(Header),
 }
 
-/// Runs the rules on a well-formed registry and a stream that begins on a fresh connection.
+/// `run_with_list` with the empty list.
 pub fn run(registry: &[u8], stream: &[u8]) -> Outcome {
+    run_with_list(registry, &[], stream)
+}
+
+/// Runs the rules on a well-formed registry, a good list and a stream that begins on a fresh
+/// connection.
+pub fn run_with_list(registry: &[u8], list: &[u8], stream: &[u8]) -> Outcome {
     let mut outcome = begin(registry, stream.len() as u64);
     let mut unread = stream;
     loop {
@@ -66,7 +73,7 @@ pub fn run(registry: &[u8], stream: &[u8]) -> Outcome {
             }
             Next::Request(header) => {
                 let (request, behind) = unread.split_at(header.request_length() as usize);
-                answer(&mut outcome, &header, request);
+                answer(&mut outcome, list, &header, request);
                 unread = behind;
             }
         }
@@ -121,12 +128,12 @@ fn close(outcome: &mut Outcome, dropped: u64) {
     join(outcome, START_LENGTH as u64, answer, &response);
 }
 
-fn answer(outcome: &mut Outcome, header: &Header, request: &[u8]) {
+fn answer(outcome: &mut Outcome, list: &[u8], header: &Header, request: &[u8]) {
     let mut response = [0; LONGEST_RESPONSE];
     let answer = if header.is_oversized() {
         answer_oversized(header, &mut response)
     } else {
-        answer_whole(request, &mut outcome.registry, &mut response)
+        answer_whole(request, &mut outcome.registry, list, &mut response)
     };
     join(outcome, request.len() as u64, answer, &response);
 }

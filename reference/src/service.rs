@@ -47,10 +47,15 @@ pub fn answer_oversized(header: &Header, response: &mut [u8]) -> Answer {
 }
 
 /// Test 3: a whole request, judged where it lies; only a served one changes the registry.
-pub fn answer_whole(request: &[u8], registry: &mut [u8], response: &mut [u8]) -> Answer {
+pub fn answer_whole(
+    request: &[u8],
+    registry: &mut [u8],
+    list: &[u8],
+    response: &mut [u8],
+) -> Answer {
     let header = Header::read(request);
     let body_out = &mut response[RESPONSE_HEADER_LENGTH..];
-    match judge(&header, &request[header.length..], registry, body_out) {
+    match judge(&header, &request[header.length..], registry, list, body_out) {
         Ok((caller, body_length)) => {
             write_response_header(response, header.echo(), Status::Success, body_length);
             Answer {
@@ -75,6 +80,7 @@ fn judge(
     header: &Header,
     payload: &[u8],
     registry: &mut [u8],
+    list: &[u8],
     body_out: &mut [u8],
 ) -> Result<(Caller, usize), Status> {
     let opcode = judge_header(header)?;
@@ -84,7 +90,7 @@ fn judge(
         (Opcode::Core(opcode), _) => perform_core(opcode, body, body_out)?,
         (Opcode::Keystore(_), Caller::Unauthenticated) => return Err(Status::NotAuthenticated),
         (Opcode::Keystore(opcode), Caller::Application(line)) => {
-            perform_keystore(opcode, line, body, registry, body_out)?
+            perform_keystore(opcode, line, body, registry, list, body_out)?
         }
     };
     Ok((caller, body_length))

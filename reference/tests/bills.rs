@@ -1,5 +1,5 @@
 //! The bill by the library and by the executable.
-//! Document 01, "The bill".
+//! Document 01, "The bill"; document 02, "Keys we ship".
 
 mod common;
 
@@ -33,13 +33,18 @@ fn run_bill(arguments: &[&Path]) -> String {
     String::from_utf8(output.stdout).expect("a bill is text")
 }
 
-/// Checks the library and the executable.
+/// Checks the library and the executable, with the empty list.
 fn expect_bill(name: &str, roster: &[u8], stream: &[u8], expected: &str) {
-    let text = bill(Some(roster), Some(stream));
+    expect_bill_with_list(name, roster, stream, &[], expected);
+}
+
+fn expect_bill_with_list(name: &str, roster: &[u8], stream: &[u8], list: &[u8], expected: &str) {
+    let text = bill(Some(roster), Some(stream), Some(list));
     assert_eq!(String::from_utf8(text).unwrap(), expected);
     let roster = file(&format!("{name}.roster"), roster);
     let stream = file(&format!("{name}.stream"), stream);
-    assert_eq!(run_bill(&[&roster, &stream]), expected);
+    let list = file(&format!("{name}.list"), list);
+    assert_eq!(run_bill(&[&roster, &stream, &list]), expected);
 }
 
 #[test]
@@ -139,40 +144,73 @@ fn a_refused_roster_prints_one_line() {
 }
 
 #[test]
-fn either_file_unreadable_prints_no_file() {
-    let roster = file("unreadable.roster", &[]);
-    let stream = file("unreadable.stream", &PING_REQUEST);
-    let directory = Path::new(env!("CARGO_TARGET_TMPDIR"));
-    let missing = missing_file();
-    for arguments in [
-        [&roster, &missing],
-        [&missing, &stream],
-        [&missing, &missing],
-        [&roster, &directory.to_path_buf()],
-        [&directory.to_path_buf(), &stream],
-    ] {
-        assert_eq!(run_bill(&arguments.map(PathBuf::as_path)), "no file\n");
+fn a_stream_is_billed_with_the_keys_of_the_list() {
+    let requests = [
+        export(b"shipped").sent_by(b"b"),
+        destroy(b"shipped").sent_by(b"b"),
+        import(&key(b"shipped")).sent_by(b"b"),
+        export(b"other").sent_by(b"b"),
+    ];
+    let stream: Vec<u8> = requests.iter().flat_map(Request::bytes).collect();
+    let list = lists::pair(b"shipped", b"data");
+    let expected = format!(
+        "taken {}\nline 0 b 1\nopen 0\nrefused 1133 1\nrefused 1139 1\nrefused 1140 1\n\
+         dropped 0\nheld 0\n",
+        stream.len()
+    );
+    expect_bill_with_list("with_list", &ROSTER_OF_B, &stream, &list, &expected);
+}
+
+#[test]
+fn a_bad_list_prints_one_line() {
+    let bad = lists::bad_lists();
+    for (title, list) in &bad {
+        let text = bill(Some(&ROSTER_OF_B), Some(&PING_REQUEST), Some(list));
+        assert_eq!(text, b"list C6\n", "{title}");
     }
-    assert_eq!(bill(None, Some(&PING_REQUEST)), b"no file\n");
-    assert_eq!(bill(Some(&[]), None), b"no file\n");
-    assert_eq!(bill(None, None), b"no file\n");
+    let (_, list) = &bad[0];
+    for (name, stream) in [("ping", &PING_REQUEST[..]), ("nothing", &[])] {
+        let name = format!("bad_list_{name}");
+        expect_bill_with_list(&name, &ROSTER_OF_B, stream, list, "list C6\n");
+    }
+}
+
+#[test]
+fn a_refused_roster_comes_before_a_bad_list() {
+    expect_bill_with_list("roster_first", &[1, 1], &[], &[1], "roster R1\n");
+}
+
+/// Each file in turn, a folder or one that is not there; the others good or refused.
+#[test]
+fn any_file_unreadable_prints_no_file() {
+    let directory = Path::new(env!("CARGO_TARGET_TMPDIR")).to_path_buf();
+    let good = [&[][..], &PING_REQUEST, &[]];
+    let bad = [&roster_of(&[b""])[..], &[0xFF; 6], &[1]];
+    for (kind, files) in [("good", good), ("bad", bad)] {
+        let paths: [PathBuf; 3] =
+            std::array::from_fn(|place| file(&format!("unreadable_{kind}_{place}"), files[place]));
+        for place in 0..3 {
+            for unreadable in [&directory, &missing_file()] {
+                let mut arguments = paths.clone();
+                arguments[place] = unreadable.clone();
+                let arguments = arguments.each_ref().map(PathBuf::as_path);
+                assert_eq!(run_bill(&arguments), "no file\n");
+            }
+            let mut files = files.map(Some);
+            files[place] = None;
+            assert_eq!(bill(files[0], files[1], files[2]), b"no file\n");
+        }
+    }
+    assert_eq!(bill(None, None, None), b"no file\n");
 }
 
 #[test]
 fn a_missing_argument_prints_no_file() {
     let roster = file("missing_argument.roster", &[]);
+    let stream = file("missing_argument.stream", &PING_REQUEST);
+    assert_eq!(run_bill(&[&roster, &stream]), "no file\n");
     assert_eq!(run_bill(&[&roster]), "no file\n");
     assert_eq!(run_bill(&[]), "no file\n");
-}
-
-#[test]
-fn an_unreadable_file_comes_before_a_refused_roster() {
-    let bad_roster = roster_of(&[b""]);
-    assert_eq!(bill(Some(&bad_roster), None), b"no file\n");
-    let roster = file("unreadable_first.roster", &bad_roster);
-    let directory = Path::new(env!("CARGO_TARGET_TMPDIR"));
-    assert_eq!(run_bill(&[&roster, &missing_file()]), "no file\n");
-    assert_eq!(run_bill(&[&roster, directory]), "no file\n");
 }
 
 /// A stream that fails after its first bytes.
@@ -192,7 +230,10 @@ impl std::io::Read for FailsMidway {
 #[test]
 fn a_read_that_fails_midway_is_an_unreadable_file() {
     for roster in [roster_of(&[b"b"]), roster_of(&[b""])] {
-        assert!(reference::bill_from_reader(&roster, FailsMidway(false)).is_err());
+        for list in [&[][..], &[1]] {
+            let text = reference::bill_from_reader(&roster, FailsMidway(false), list);
+            assert!(text.is_err());
+        }
     }
 }
 

@@ -1,19 +1,22 @@
-//! Any cut against the uncut rules, on generated rosters and streams.
-//! Document 01, "A whole stream under the rules".
+//! Any cut against the uncut rules, on generated rosters, lists and streams.
+//! Document 01, "A whole stream under the rules"; document 02, "Keys we ship".
 
 mod common;
 
-use common::generate::{names, requests, Random};
+use common::generate::{list, names, requests, Random};
+use common::listed::{self, Asked};
 use common::*;
 use reference::rules::{self, ConnectionState, Outcome};
 use reference::{registry_is_well_formed, Refusal, Status, Taken, MAX_CHUNK};
 use std::collections::BTreeSet;
 use std::fmt::Debug;
 
-/// A roster, a stream, and how it is cut.
+/// A roster, what was sent before there was a list, the list, a stream, and how it is cut.
 #[derive(Clone)]
 struct Case {
     names: Vec<Vec<u8>>,
+    earlier: Vec<Vec<u8>>,
+    list: Vec<u8>,
     requests: Vec<Vec<u8>>,
     /// How long the chunks are, over and over.
     sizes: Vec<usize>,
@@ -25,6 +28,8 @@ impl Case {
     fn generate(seed: u64, most_requests: usize) -> Case {
         let random = &mut Random::new(seed);
         let names = names(random);
+        let earlier = requests(random, &names, 16);
+        let list = list(random);
         let requests = requests(random, &names, most_requests);
         // A long stream is not cut into more than some hundreds, for the time it takes.
         let shortest = requests.concat().len() / 100;
@@ -33,6 +38,8 @@ impl Case {
         sizes.push(longest);
         Case {
             names,
+            earlier,
+            list,
             requests,
             sizes,
             rests_alone: random.once_in(2),
@@ -41,7 +48,11 @@ impl Case {
 
     fn service(&self) -> Service {
         let names: Vec<_> = self.names.iter().map(Vec::as_slice).collect();
-        Service::with_roster(&names)
+        let service = Service::with_roster(&names).with_list(&self.list);
+        Service {
+            registry: rules::run(&service.registry, &self.earlier.concat()).registry,
+            ..service
+        }
     }
 
     /// Cases that are a step shorter.
@@ -51,12 +62,23 @@ impl Case {
             case.requests.remove(place);
             case
         });
+        let without_earlier = (0..self.earlier.len()).map(|place| {
+            let mut case = self.clone();
+            case.earlier.remove(place);
+            case
+        });
+        let without_list = (!self.list.is_empty()).then(|| Case {
+            list: Vec::new(),
+            ..self.clone()
+        });
         let with_one_size = self.sizes.iter().map(|&size| Case {
             sizes: vec![size],
             ..self.clone()
         });
         let sizes_can_shrink = self.sizes.len() > 1;
         without_request
+            .chain(without_earlier)
+            .chain(without_list)
             .chain(with_one_size.filter(|case| sizes_can_shrink && case.sizes[0] > 0))
             .collect()
     }
@@ -118,7 +140,8 @@ fn hand_over(
 /// Hands the stream over as the case says, and compares the end with the rules.
 fn check(case: &Case) -> Result<Outcome, String> {
     let stream = case.requests.concat();
-    let expected = rules::run(&case.service().registry, &stream);
+    let registry = case.service().registry;
+    let expected = rules::run_with_list(&registry, &case.list, &stream);
     let mut responses = Vec::new();
     let service = hand_over(case, &stream, |service, chunk, _| {
         let taken = service.call(chunk).map_err(|code| format!("{code:?}"))?;
@@ -140,7 +163,7 @@ fn check_every_call(case: &Case) -> Result<Outcome, String> {
     let stream = case.requests.concat();
     let registry = case.service().registry;
     let prefixes: Vec<_> = (0..=stream.len())
-        .map(|length| rules::run(&registry, &stream[..length]))
+        .map(|length| rules::run_with_list(&registry, &case.list, &stream[..length]))
         .collect();
     hand_over(case, &stream, |service, chunk, at| {
         check_refused_call(service, chunk)?;
@@ -199,9 +222,12 @@ fn run_case(seed: u64, case: Case, check: Check) -> Outcome {
         Err(_) => {
             let case = shrink(case, check);
             panic!(
-                "seed {seed}: {}\nnames {:02X?}\nrequests {:02X?}\nsizes {:?}, rests alone {}",
+                "seed {seed}: {}\nnames {:02X?}\nearlier {:02X?}\nlist {:02X?}\n\
+                 requests {:02X?}\nsizes {:?}, rests alone {}",
                 check(&case).expect_err("shrinking keeps the failure"),
                 case.names,
+                case.earlier,
+                case.list,
                 case.requests,
                 case.sizes,
                 case.rests_alone,
@@ -266,6 +292,37 @@ fn any_cut_of_a_stream_comes_to_what_the_rules_give_uncut() {
     reached.assert_all();
 }
 
+/// The names in the slots of an application; none where there is no such application.
+fn own_names(registry: &[u8], application: &[u8]) -> Vec<Vec<u8>> {
+    let name_at = |at: usize| registry[at + 1..][..usize::from(registry[at])].to_vec();
+    let line = (0..8).find(|&line| name_at(line_at(line)) == application);
+    line.map_or(Vec::new(), |line| {
+        (0..4).map(|slot| name_at(slot_at(line, slot))).collect()
+    })
+}
+
+/// On the cases of the test before this one, request by request.
+#[test]
+fn own_and_listed_keys_come_to_every_outcome() {
+    let mut reached = BTreeSet::new();
+    for seed in 1..=3_000 {
+        let case = Case::generate(seed, 16);
+        let mut service = case.service();
+        for request in &case.requests {
+            let own = |asked: &Asked| own_names(&service.registry, asked.application);
+            let asked = Asked::read(request).map(|asked| (own(&asked), asked));
+            let responses = service.send(request);
+            if let (Some((own, asked)), [response]) = (asked, &responses[..]) {
+                let status = Response::read(response).status;
+                reached.insert(asked.outcome(&own, &case.list, status));
+            }
+        }
+    }
+    for outcome in listed::expected() {
+        assert!(reached.contains(&outcome), "{outcome}: {reached:#?}");
+    }
+}
+
 #[test]
 fn every_call_on_a_short_stream_is_the_rules_on_the_stream_so_far() {
     let mut checked = 0;
@@ -294,6 +351,8 @@ fn every_single_cut_of_one_stream_comes_to_what_the_rules_give() {
     for first in 1..length {
         let case = Case {
             names: vec![FIRST.to_vec()],
+            earlier: Vec::new(),
+            list: lists::pair(b"b", b"listed"),
             requests: requests.clone(),
             sizes: vec![first, length],
             rests_alone: true,

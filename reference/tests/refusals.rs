@@ -1,5 +1,6 @@
 //! Every refused call with nothing changed, their order, and every ill-formed memory.
-//! Document 01, "When a call is not taken" and "Roster, registry, connection, tally".
+//! Document 01, "When a call is not taken" and "Roster, registry, connection, tally"; document 02, "Keys
+//! we ship", whose bad lists listed_keys.rs has.
 
 mod common;
 
@@ -10,15 +11,16 @@ use reference::{
 };
 
 #[test]
-fn refusals_are_numbered_from_1_to_5() {
+fn refusals_are_numbered_from_1_to_6() {
     let refusals = [
         Refusal::ResponseBufferTooSmall,
         Refusal::ChunkTooLong,
         Refusal::ConnectionIllFormed,
         Refusal::RegistryIllFormed,
         Refusal::CounterTooHigh,
+        Refusal::ListIllFormed,
     ];
-    assert_eq!(refusals.map(Refusal::number), [1, 2, 3, 4, 5]);
+    assert_eq!(refusals.map(Refusal::number), [1, 2, 3, 4, 5, 6]);
 }
 
 #[test]
@@ -72,8 +74,12 @@ fn every_counter_at_2_to_the_62_is_taken() {
 
 // The order: each service has the fault of its name and every later one.
 
+fn with_bad_list() -> Service {
+    Service::new().with_list(&lists::record(1, b"a"))
+}
+
 fn with_high_counter() -> Service {
-    let mut service = Service::new();
+    let mut service = with_bad_list();
     service.counters.dropped = u64::MAX;
     service
 }
@@ -114,10 +120,27 @@ fn c4_comes_before_c5() {
 }
 
 #[test]
+fn c5_comes_before_c6() {
+    with_high_counter().expect_refusal(&PING_REQUEST, Refusal::CounterTooHigh);
+}
+
+#[test]
+fn a_bad_list_is_c6_whatever_the_connection_and_the_chunk() {
+    for connection in [open_holding(&PING_REQUEST[..9]), closed()] {
+        let mut service = with_bad_list();
+        service.connection = connection;
+        for chunk in [&PING_REQUEST[..], &[0xFF; 6], &[]] {
+            service.expect_refusal(chunk, Refusal::ListIllFormed);
+        }
+    }
+}
+
+#[test]
 fn an_empty_chunk_is_refused_like_any_other() {
     with_ill_formed_connection().expect_refusal(&[], Refusal::ConnectionIllFormed);
     with_ill_formed_registry().expect_refusal(&[], Refusal::RegistryIllFormed);
     with_high_counter().expect_refusal(&[], Refusal::CounterTooHigh);
+    with_bad_list().expect_refusal(&[], Refusal::ListIllFormed);
 }
 
 // C3.

@@ -18,7 +18,7 @@ fn read(name: &str) -> Vec<u8> {
 fn expect_bill(name: &str) {
     let roster = read("servers.roster");
     let stream = read(&format!("{name}.stream"));
-    let text = bill(Some(&roster), Some(&stream));
+    let text = bill(Some(&roster), Some(&stream), Some(&[]));
     let expected = read(&format!("{name}.bill"));
     assert_eq!(
         String::from_utf8(text).unwrap(),

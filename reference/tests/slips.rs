@@ -153,7 +153,7 @@ fn the_bill_shows_refused_requests_and_dropped_bytes() {
     let stream = [&refused.bytes()[..], &[0xFF; 9]].concat();
     let expected = "taken 38\nline 0 b 0\nopen 0\nrefused 9 1\nrefused 17 1\ndropped 3\nheld 0\n";
     assert_eq!(
-        bill(Some(&roster_of(&[b"b"])), Some(&stream)),
+        bill(Some(&roster_of(&[b"b"])), Some(&stream), Some(&[])),
         expected.as_bytes()
     );
 }

@@ -110,7 +110,7 @@ fn the_import_body_imports_key_a() {
 fn the_bill_of_an_empty_roster_a_ping_and_six_bytes_ff() {
     let stream = [&PING_REQUEST[..], &[0xFF; 6]].concat();
     let expected = b"taken 34\nopen 1\nrefused 17 1\ndropped 0\nheld 0\n";
-    assert_eq!(bill(Some(&[]), Some(&stream)), expected);
+    assert_eq!(bill(Some(&[]), Some(&stream), Some(&[])), expected);
 }
 
 #[test]

@@ -26,6 +26,11 @@ impl PublicKey<'_> {
     }
 }
 
+/// How many bits the modulus of an RSAPublicKey has; 0 for other data.
+pub fn modulus_bits(data: &[u8]) -> u32 {
+    read_rsa_public_key(data).map_or(0, |(modulus, _)| bit_length(modulus) as u32)
+}
+
 /// The magnitudes of modulus and exponent: SEQUENCE { modulus INTEGER, publicExponent INTEGER }.
 fn read_rsa_public_key(data: &[u8]) -> Option<(&[u8], &[u8])> {
     let (sequence, behind) = read_element(data, SEQUENCE)?;

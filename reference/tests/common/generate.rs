@@ -1,6 +1,7 @@
-//! Rosters and streams of good and damaged requests from a seed, the same on every run.
+//! Rosters, lists and streams of good and damaged requests from a seed, the same on every run.
 //! Document 01, "A whole stream under the rules", is what they are meant to reach all of.
 
+use super::lists::{list_of, pairs, rsa_public_key, LONGEST_DATA, MOST_PAIRS};
 use super::vectors::blocks;
 use super::*;
 use std::sync::OnceLock;
@@ -45,6 +46,36 @@ pub fn names(random: &mut Random) -> Vec<Vec<u8>> {
     let length = random.pick(&[1, 3, 64]);
     let name = |line: u8| vec![b'A' + line; length];
     (0..count).map(name).collect()
+}
+
+/// A good list: none, some or all of the names that requests have, and now and then as many more as it
+/// may hold.
+pub fn list(random: &mut Random) -> Vec<u8> {
+    let often = random.pick(&[0, 1, 2, 2]);
+    let mut names: Vec<_> = b"abcdef".iter().map(|&letter| vec![letter]).collect();
+    names.push(vec![b'k'; 32]);
+    names.retain(|_| often > 0 && random.once_in(often));
+    let mut keys: Vec<_> = names
+        .into_iter()
+        .map(|name| (name, listed_data(random)))
+        .collect();
+    if often > 0 && random.once_in(10) {
+        keys.extend(pairs(MOST_PAIRS - keys.len()));
+    }
+    shuffle(random, &mut keys);
+    list_of(&keys)
+}
+
+/// A key that a signature may be of, one of bits that Import has or has not, or any data.
+fn listed_data(random: &mut Random) -> Vec<u8> {
+    match random.below(6) {
+        0..3 => signed()[random.below(2)].data.clone(),
+        3 => rsa_public_key(random.pick(&[1_016, 1_024, 1_028, 4_096, 4_104])),
+        _ => {
+            let length = random.pick(&[1, 2, 138, LONGEST_DATA]);
+            random.bytes(length)
+        }
+    }
 }
 
 /// Up to `most` requests; a stream of them may be cut at its end.

@@ -1,12 +1,16 @@
 //! Builders of requests, bodies, rosters and lent memory, and a service to hand them to.
 //! Document 01, "Bytes on the wire", "Operations and their fields" and the layout in docs/; document
-//! 02, "Checking signatures".
+//! 02, "Checking signatures" and "Keys we ship".
 
 // Every test crate compiles this file and uses some of it.
 #![allow(dead_code)]
 
 pub mod client;
 pub mod generate;
+#[path = "../../../tests/src/listed.rs"]
+pub mod listed;
+#[path = "../../../tests/src/lists.rs"]
+pub mod lists;
 #[path = "../../../tests/src/vectors.rs"]
 pub mod vectors;
 
@@ -355,12 +359,13 @@ impl Response {
 pub struct Service {
     pub connection: Vec<u8>,
     pub registry: Vec<u8>,
+    pub list: Vec<u8>,
     pub counters: Counters,
     pub response: Vec<u8>,
 }
 
 impl Service {
-    /// A roster of `FIRST` and `SECOND`, no keys and a fresh connection.
+    /// A roster of `FIRST` and `SECOND`, no keys, the empty list and a fresh connection.
     pub fn new() -> Service {
         Service::with_roster(&[FIRST, SECOND])
     }
@@ -371,6 +376,7 @@ impl Service {
         Service {
             connection: vec![0; CONNECTION_SIZE],
             registry,
+            list: Vec::new(),
             counters: Counters::default(),
             response: vec![0x55; MIN_RESPONSE_BUFFER],
         }
@@ -385,11 +391,20 @@ impl Service {
         service
     }
 
+    /// The same service with this list from now on.
+    pub fn with_list(self, list: &[u8]) -> Service {
+        Service {
+            list: list.to_vec(),
+            ..self
+        }
+    }
+
     pub fn call(&mut self, chunk: &[u8]) -> Result<Taken, Refusal> {
         call(
             chunk,
             &mut self.connection,
             &mut self.registry,
+            &self.list,
             &mut self.counters,
             &mut self.response,
         )
