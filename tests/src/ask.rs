@@ -29,6 +29,7 @@ pub const AUTHENTICATION_ERROR: u16 = 11;
 pub const NOT_PERMITTED: u16 = 1133;
 pub const NOT_SUPPORTED: u16 = 1134;
 pub const INVALID_ARGUMENT: u16 = 1135;
+pub const ALREADY_EXISTS: u16 = 1139;
 pub const DOES_NOT_EXIST: u16 = 1140;
 pub const INVALID_SIGNATURE: u16 = 1149;
 

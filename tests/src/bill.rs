@@ -1,4 +1,4 @@
-//! The proved program `bill ROSTER STREAM`, run on files of a test.
+//! The proved program `bill ROSTER STREAM LIST`, run on files of a test.
 
 use crate::ask::{record, request, PING};
 use std::ffi::OsStr;
@@ -82,14 +82,23 @@ impl Folder {
     }
 
     /// What the program prints of files with these bytes.
-    pub fn printed(&self, roster: &[u8], stream: &[u8]) -> Vec<u8> {
-        printed(&[self.file("roster", roster), self.file("stream", stream)])
+    pub fn printed(&self, roster: &[u8], stream: &[u8], list: &[u8]) -> Vec<u8> {
+        printed(&[
+            self.file("roster", roster),
+            self.file("stream", stream),
+            self.file("list", list),
+        ])
+    }
+
+    /// `bill_with_list` with the empty list.
+    pub fn bill(&self, roster: &[u8], stream: &[u8]) -> String {
+        self.bill_with_list(roster, stream, &[])
     }
 
     /// The bill, printed as the reference has it.
-    pub fn bill(&self, roster: &[u8], stream: &[u8]) -> String {
-        let expected = text(reference::bill(Some(roster), Some(stream)));
-        assert_eq!(text(self.printed(roster, stream)), expected);
+    pub fn bill_with_list(&self, roster: &[u8], stream: &[u8], list: &[u8]) -> String {
+        let expected = text(reference::bill(Some(roster), Some(stream), Some(list)));
+        assert_eq!(text(self.printed(roster, stream, list)), expected);
         expected
     }
 }

@@ -5,7 +5,9 @@ use crate::ask::{request, PING};
 use crate::connections;
 use crate::generate::{registry, Damage, Filling, Random};
 use crate::lent::{counter_mut, Lent, COUNTERS};
+use crate::lists::{list_of, pairs_in};
 use crate::requests::{applications, requests};
+use crate::shipped;
 use razidkot::{Counters, CONNECTION_SIZE, HIGHEST_COUNTER, LONGEST_CHUNK};
 use reference::rules;
 
@@ -17,6 +19,7 @@ const MOST_CALLS: usize = 120;
 pub struct Case {
     pub connection: Vec<u8>,
     pub registry: Vec<u8>,
+    pub list: Vec<u8>,
     pub counters: Counters,
     pub requests: Vec<Vec<u8>>,
     /// How long the chunks are, over and over.
@@ -34,7 +37,7 @@ pub struct FaultyCall {
     pub faults: Vec<Fault>,
 }
 
-/// What a call is made with, C1 to C5 most often; some damage leaves memory well formed.
+/// What a call is made with, C1 to C6 most often; some damage leaves memory or list well formed.
 #[derive(Clone, Copy, Debug)]
 pub enum Fault {
     ResponseLength(usize),
@@ -46,6 +49,8 @@ pub enum Fault {
         place: usize,
         value: u64,
     },
+    /// The damage that this seed gives.
+    List(u64),
 }
 
 impl Case {
@@ -59,11 +64,13 @@ impl Case {
             Filling::Full,
         ]);
         let registry = registry(random, filling);
+        let list = shipped::some_list(random, shipped::own_names(&registry));
         let requests = requests(random, &applications(&registry), MOST_REQUESTS);
         let sizes = sizes(random, requests.concat().len());
         let case = Case {
             connection: vec![0; CONNECTION_SIZE],
             registry,
+            list,
             counters: counters(random),
             requests,
             sizes,
@@ -83,7 +90,7 @@ impl Case {
         let first = &mut self.requests[0];
         let cut = random.pick(&[1, 5, 6, 7, 27, 28, 70, first.len() / 2, first.len()]);
         let sent: Vec<u8> = first.drain(..cut.min(first.len())).collect();
-        let outcome = rules::run(&self.registry, &sent);
+        let outcome = rules::run_with_list(&self.registry, &self.list, &sent);
         self.connection = outcome.connection.to_memory();
         self.registry = outcome.registry;
         self
@@ -93,6 +100,7 @@ impl Case {
         Lent::new(
             self.connection.clone(),
             self.registry.clone(),
+            self.list.clone(),
             self.counters.clone(),
         )
     }
@@ -109,6 +117,15 @@ impl Case {
             case.faults.remove(place);
             case
         });
+        let keys = pairs_in(&self.list);
+        let without_key = (0..keys.len()).map(|place| {
+            let mut keys = keys.clone();
+            keys.remove(place);
+            Case {
+                list: list_of(&keys),
+                ..self.clone()
+            }
+        });
         // Empty chunks alone would never come to the end.
         let can_be_alone = |&size: &usize| size > 0 && self.sizes.len() > 1;
         let with_one_size = self.sizes.iter().copied().filter(can_be_alone);
@@ -118,6 +135,7 @@ impl Case {
         });
         without_request
             .chain(without_fault)
+            .chain(without_key)
             .chain(with_one_size)
             .collect()
     }
@@ -158,9 +176,10 @@ fn faulty_call(random: &mut Random) -> FaultyCall {
             place: random.below(COUNTERS),
             value: random.pick(&[1 << 62, (1 << 62) + 1, 1 << 63, u64::MAX]),
         },
+        Fault::List(random.word()),
     ];
     random.shuffle(&mut faults);
-    faults.truncate(random.pick(&[1, 1, 2, 3, 5]));
+    faults.truncate(random.pick(&[1, 1, 2, 3, 6]));
     FaultyCall {
         number: random.below(MOST_CALLS / 4),
         faults,
@@ -182,6 +201,7 @@ impl Fault {
             }
             Fault::Registry(damage) => damage.apply(&mut lent.registry),
             Fault::Counter { place, value } => *counter_mut(&mut lent.counters, place) = value,
+            Fault::List(seed) => shipped::damage(&mut Random::new(seed), &mut lent.list),
         }
     }
 }

@@ -8,6 +8,8 @@ use crate::client_program::{Program, Said, WAITING};
 use crate::client_states::STATE_SIZE;
 use crate::generate::{name, Random};
 use crate::lent::Lent;
+use crate::oracle::key_name_is_legal;
+use crate::shipped::some_list;
 use crate::signatures::Signed;
 use razidkot::{Counters, CONNECTION_SIZE, LEAST_RESPONSE_BUFFER, LONGEST_CHUNK, REGISTRY_SIZE};
 use razidkot_client::raw::Request;
@@ -52,6 +54,7 @@ pub enum Damage {
 #[derive(Clone, Debug)]
 pub struct Conversation {
     pub names: Vec<Vec<u8>>,
+    pub list: Vec<u8>,
     pub asked: Vec<Asked>,
     pub damage: Damage,
     /// The seed of the cuts.
@@ -82,9 +85,12 @@ impl Conversation {
             .collect();
         let few = random.pick(&[1, 2, 8]);
         let count = 1 + random.below(40);
-        let asked = (0..count)
+        let asked: Vec<_> = (0..count)
             .map(|_| some_asked(random, &names, few))
             .collect();
+        let key_names = asked.iter().map(|asked| asked.name.clone());
+        let key_names = key_names.filter(|name| key_name_is_legal(name)).collect();
+        let list = some_list(random, key_names);
         let changed = Changed::generate(random);
         let damage = match random.below(8) {
             0 => Damage::Start {
@@ -97,6 +103,7 @@ impl Conversation {
         };
         Conversation {
             names,
+            list,
             asked,
             damage,
             cuts: random.word() >> 1,
@@ -111,6 +118,7 @@ impl Conversation {
         let mut lent = Lent::new(
             vec![0; CONNECTION_SIZE],
             registry_of(service, &self.names),
+            self.list.clone(),
             Counters::default(),
         );
         let responses = answer(service, &mut lent, &self.sent(&requests), random);

@@ -116,6 +116,8 @@ fn show(seed: u64, case: &Case) -> String {
         "chunks of {:?}, rests alone {}",
         case.sizes, case.rests_alone
     ));
+    let list = &case.list[..case.list.len().min(80)];
+    lines.push(format!("list of {} bytes {list:02X?}", case.list.len()));
     lines.push(format!("connection {:02X?}", &case.connection[..40]));
     lines.push(format!("{:?}", case.counters));
     lines.push(format!("{:?}", case.faults));

@@ -6,20 +6,22 @@ use razidkot::Counters;
 /// Bytes of the response memory that are never lent, to see that nothing is written there.
 const GUARD: usize = 64;
 
-/// All that a call may change.
+/// All that a call may change, and the list that it may not.
 #[derive(Clone, PartialEq, Eq)]
 pub struct Lent {
     pub connection: Vec<u8>,
     pub registry: Vec<u8>,
+    pub list: Vec<u8>,
     pub counters: Counters,
     response: Vec<u8>,
 }
 
 impl Lent {
-    pub fn new(connection: Vec<u8>, registry: Vec<u8>, counters: Counters) -> Lent {
+    pub fn new(connection: Vec<u8>, registry: Vec<u8>, list: Vec<u8>, counters: Counters) -> Lent {
         Lent {
             connection,
             registry,
+            list,
             counters,
             response: Vec::new(),
         }
@@ -41,6 +43,7 @@ impl Lent {
             chunk,
             &mut self.connection,
             &mut self.registry,
+            &self.list,
             &mut self.counters,
             &mut self.response[..length],
         )
@@ -53,6 +56,7 @@ impl Lent {
             chunk,
             &mut self.connection,
             &mut self.registry,
+            &self.list,
             &mut counters,
             &mut self.response[..length],
         );
@@ -76,6 +80,7 @@ impl Lent {
         let memories = [
             ("connection", &self.connection, &other.connection),
             ("registry", &self.registry, &other.registry),
+            ("list", &self.list, &other.list),
             ("response buffer", &self.response, &other.response),
         ];
         for (name, memory, other) in memories {

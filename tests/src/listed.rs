@@ -71,6 +71,9 @@ fn outcome(opcode: u16, holder: &str, status: u16, more: &str) -> String {
     format!("{operation} of {holder}: {status}{more}")
 }
 
+/// Opcode, holder, and the statuses with what is said beside them.
+type Row<'a> = (u16, &'a str, &'a [(u16, &'a str)]);
+
 /// Every outcome that a long enough run has.
 pub fn expected() -> Vec<String> {
     let room: &[(u16, &str)] = &[(1135, ""), (1139, "")];
@@ -85,7 +88,7 @@ pub fn expected() -> Vec<String> {
         (1135, ""),
         (1149, ""),
     ];
-    let rows: [(u16, &str, &[(u16, &str)]); 16] = [
+    let rows: [Row; 16] = [
         (IMPORT, "nobody's", &new),
         (IMPORT, "own", &held),
         (IMPORT, "listed", &held),

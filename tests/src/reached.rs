@@ -4,7 +4,10 @@
 use crate::ask::*;
 use crate::layout::{slot_bytes, Place, EXPORT_ALLOWED_AT, VERIFY_ALLOWED_AT};
 use crate::lent::Lent;
+use crate::listed::{self, Asked};
+use crate::lists::{pairs_in, MOST_PAIRS};
 use crate::run::Outcomes;
+use crate::shipped::slot_names;
 use razidkot::raw::Answer;
 use razidkot::{Status, HIGHEST_COUNTER, LEAST_RESPONSE_BUFFER, LONGEST_CHUNK, LONGEST_RESPONSE};
 
@@ -30,7 +33,12 @@ impl Reached {
             _ => self.outcomes.count(kind),
         }
         if answer.written > 0 {
-            self.count_response(kind, &after.response()[..answer.written]);
+            let response = &after.response()[..answer.written];
+            self.count_response(kind, response);
+            if kind == KINDS[0] {
+                self.count_key(before, &chunk[..answer.taken], response);
+            }
+            self.outcomes.count(list_reached(&before.list));
         }
         self.count_served(before, after);
         if after.registry != before.registry {
@@ -63,6 +71,16 @@ impl Reached {
         }
     }
 
+    /// What came of a request that lay whole in its chunk, by who held the key that it named.
+    fn count_key(&mut self, before: &Lent, request: &[u8], response: &[u8]) {
+        if let Some(asked) = Asked::read(request) {
+            let own = slot_names(&before.registry, asked.application);
+            let status = u16::from_le_bytes([response[24], response[25]]);
+            self.outcomes
+                .count(asked.outcome(&own, &before.list, status));
+        }
+    }
+
     fn count_served(&mut self, before: &Lent, after: &Lent) {
         let served = before.counters.served.iter().zip(&after.counters.served);
         for (line, _) in served
@@ -90,6 +108,8 @@ impl Reached {
     /// A test that never reaches an outcome could not fail on it.
     pub fn assert_all(&self, least: u64) {
         self.outcomes.assert_often(&expected(), least);
+        // Many more cases, so that there are fewer of each.
+        self.outcomes.assert_often(&listed::expected(), least / 5);
     }
 }
 
@@ -118,6 +138,16 @@ fn opcode_reached(opcode: u16) -> String {
 
 fn verify_reached(status: u16) -> String {
     format!("verify with status {status}")
+}
+
+/// Of a good list.
+fn list_reached(list: &[u8]) -> String {
+    match pairs_in(list).len() {
+        0 => "no pairs".to_string(),
+        1 => "a pair".to_string(),
+        MOST_PAIRS => "64 pairs".to_string(),
+        _ => "some pairs".to_string(),
+    }
 }
 
 fn slot_reached(slot: &[u8]) -> String {
@@ -151,6 +181,7 @@ fn applying(lent: &Lent, chunk: &[u8]) -> impl Iterator<Item = u32> {
         !reference::connection_is_well_formed(&lent.connection),
         !reference::registry_is_well_formed(&lent.registry),
         highest > Some(HIGHEST_COUNTER),
+        !reference::list_is_well_formed(&lent.list),
     ];
     (1..)
         .zip(applies)
@@ -162,9 +193,9 @@ fn expected() -> Vec<String> {
     let statuses = std::iter::once(Status::Success).chain(Status::REFUSED);
     let statuses = statuses
         .flat_map(|status| [true, false].map(|whole| status_reached(status.number(), whole)));
-    let codes = (1..=5).map(|code| format!("C{code}"));
-    let pairs = (1..=5)
-        .flat_map(|code| (code + 1..=5).map(move |later| format!("C{code} before C{later}")));
+    let codes = (1..=6).map(|code| format!("C{code}"));
+    let pairs = (1..=6)
+        .flat_map(|code| (code + 1..=6).map(move |later| format!("C{code} before C{later}")));
     let kinds = KINDS
         .into_iter()
         .flat_map(|kind| [kind.to_string(), format!("{kind}, empty chunk")]);
@@ -183,6 +214,7 @@ fn expected() -> Vec<String> {
     let verify = verify.map(verify_reached);
     let lines = (0..8).map(|line| format!("served line {line}"));
     let others = ["served unauthenticated", "slot freed", "longest response"].map(str::to_string);
+    let lists = ["no pairs", "a pair", "some pairs", "64 pairs"].map(str::to_string);
     statuses
         .chain(codes)
         .chain(pairs)
@@ -192,5 +224,6 @@ fn expected() -> Vec<String> {
         .chain(verify)
         .chain(lines)
         .chain(others)
+        .chain(lists)
         .collect()
 }

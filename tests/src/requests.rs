@@ -29,6 +29,12 @@ pub struct Application {
     keys: Vec<Vec<u8>>,
 }
 
+impl Application {
+    pub fn name(&self) -> &[u8] {
+        &self.name
+    }
+}
+
 /// The applications of a well-formed registry; of an empty one a single one that it doesn't have.
 pub fn applications(registry: &[u8]) -> Vec<Application> {
     let keys = |line| {
@@ -156,7 +162,13 @@ fn body(random: &mut Random, opcode: u16, application: &Application) -> Vec<u8> 
                 name: key_name(random, application),
                 ..key(random, 0)
             };
-            import_body(&with_signed_data(random, key))
+            let mut key = with_signed_data(random, key);
+            match random.below(10) {
+                0 => key.data.resize(random.pick(&[0, 601]), 0xDA),
+                1 => key.bits = random.pick(&[0, 1_016, 1_028, 4_104]),
+                _ => {}
+            }
+            import_body(&key)
         }
         VERIFY => {
             let name = key_name(random, application);

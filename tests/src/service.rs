@@ -1,5 +1,5 @@
 //! A caller of the compiled service through the types of the bindings, held to the uncut rules of
-//! the reference: document 01, "A whole stream under the rules".
+//! the reference: document 01, "A whole stream under the rules"; document 02, "Keys we ship".
 
 use crate::ask::{record, registry_of};
 use crate::lent::to_reference;
@@ -23,7 +23,7 @@ impl Service {
     }
 
     /// Hands the stream over in chunks of these sizes, over and over; gives the responses.
-    fn send(&mut self, stream: &[u8], sizes: &[usize]) -> Vec<Vec<u8>> {
+    fn send(&mut self, list: &[u8], stream: &[u8], sizes: &[usize]) -> Vec<Vec<u8>> {
         let mut buffer = [0x55; LEAST_RESPONSE_BUFFER];
         let mut sizes = sizes.iter().copied().cycle();
         let mut responses = Vec::new();
@@ -36,7 +36,7 @@ impl Service {
                 counters,
             } = self;
             let answer = connection
-                .call(registry, counters, &rest[..size], &mut buffer)
+                .call(registry, list, counters, &rest[..size], &mut buffer)
                 .expect("a call that is taken");
             if answer.written > 0 {
                 responses.push(buffer[..answer.written].to_vec());
@@ -47,12 +47,23 @@ impl Service {
     }
 }
 
-/// The responses to a stream that begins on a fresh connection with a registry of these names and
-/// no keys; all that they and the calls come to is what the rules give for the uncut stream.
+/// `responses_with_list` with the empty list.
 pub fn responses(names: &[Vec<u8>], stream: &[u8], sizes: &[usize]) -> Vec<Vec<u8>> {
+    responses_with_list(names, &[], stream, sizes)
+}
+
+/// The responses to a stream that begins on a fresh connection with a registry of these names and
+/// no keys, the list being good; all that they and the calls come to is what the rules give for the
+/// uncut stream.
+pub fn responses_with_list(
+    names: &[Vec<u8>],
+    list: &[u8],
+    stream: &[u8],
+    sizes: &[usize],
+) -> Vec<Vec<u8>> {
     let mut service = Service::new(names);
-    let responses = service.send(stream, sizes);
-    let expected = rules::run(&registry_of(names), stream);
+    let responses = service.send(list, stream, sizes);
+    let expected = rules::run_with_list(&registry_of(names), list, stream);
     assert_eq!(responses, expected.responses);
     assert!(service.registry.memory() == expected.registry, "registry");
     let connection = expected.connection.to_memory();

@@ -1,13 +1,19 @@
-//! The proved program `bill ROSTER STREAM` against the reference's bill: document 01, "The bill".
+//! The proved program `bill ROSTER STREAM LIST` against the reference's bill: document 01, "The bill";
+//! document 02, "Keys we ship".
 
 use razidkot::LONGEST_CHUNK;
-use razidkot_tests::ask::{registry_of, request, PING};
+use razidkot_tests::ask::{
+    import_body, name_body, registry_of, request, DESTROY, EXPORT, IMPORT, PING,
+};
 use razidkot_tests::bill::{letters, ping, printed, printed_from_pipe, roster_of, text, Folder};
-use razidkot_tests::generate::{mutated, name, some_roster, Random};
+use razidkot_tests::generate::{key, mutated, name, some_roster, Random};
+use razidkot_tests::layout::Key;
+use razidkot_tests::lists::{list_of, longest_list, pair, pairs};
 use razidkot_tests::requests::{applications, requests, with_lengths};
 use razidkot_tests::run::{for_seeds, shortest, Outcomes};
+use razidkot_tests::shipped::{self, some_list};
 use reference::{bill, Status, REGISTRY_SIZE};
-use std::path::Path;
+use std::path::{Path, PathBuf};
 
 fn folder(test: &str) -> Folder {
     Folder::new(env!("CARGO_TARGET_TMPDIR"), test)
@@ -23,14 +29,22 @@ fn the_samples_have_the_bills_beside_them() {
         let stream = samples.join(format!("{name}.stream"));
         let expected =
             std::fs::read(samples.join(format!("{name}.bill"))).expect("a sample's bill");
-        assert_eq!(text(printed(&[roster.clone(), stream])), text(expected));
+        let list = folder("samples").file("list", b"");
+        let printed = printed(&[roster.clone(), stream, list]);
+        assert_eq!(text(printed), text(expected));
     }
 }
 
-// ---- generated pairs of files
+// ---- generated files
 
-/// A roster file, good more often than not, and what the applications of it may send.
-fn some_pair(random: &mut Random) -> (Vec<u8>, Vec<Vec<u8>>) {
+/// A roster and a list, each good more often than not, and what the applications may send.
+struct Files {
+    roster: Vec<u8>,
+    list: Vec<u8>,
+    requests: Vec<Vec<u8>>,
+}
+
+fn some_files(random: &mut Random) -> Files {
     let roster = match random.below(5) {
         0 => some_roster(random),
         1 => {
@@ -43,7 +57,19 @@ fn some_pair(random: &mut Random) -> (Vec<u8>, Vec<Vec<u8>>) {
     if reference::load_roster(&roster, &mut registry).is_err() {
         registry = registry_of(&[]);
     }
-    (roster, requests(random, &applications(&registry), 30))
+    // With fewer names listed, lines come to be full.
+    let mut list = match random.below(3) {
+        0 => some_list(random, Vec::new()),
+        _ => list_of(&pairs(random.below(3))),
+    };
+    if random.once_in(6) {
+        shipped::damage(random, &mut list);
+    }
+    Files {
+        roster,
+        list,
+        requests: requests(random, &applications(&registry), 45),
+    }
 }
 
 fn good_roster(random: &mut Random) -> Vec<u8> {
@@ -57,27 +83,33 @@ fn good_roster(random: &mut Random) -> Vec<u8> {
     roster_of(&names)
 }
 
-/// Compares on this pair; a failing one is shown with the fewest requests that still fail.
-fn assert_same_bill(folder: &Folder, roster: &[u8], requests: &[Vec<u8>]) {
+/// Compares on these files; failing ones are shown with the fewest requests that still fail.
+fn assert_same_bill(folder: &Folder, files: &Files) {
+    let (roster, list) = (&files.roster, &files.list);
+    let expected = |stream: &[u8]| bill(Some(roster), Some(stream), Some(list));
     let differs = |requests: &[Vec<u8>]| {
         let stream = requests.concat();
-        folder.printed(roster, &stream) != bill(Some(roster), Some(&stream))
+        folder.printed(roster, &stream, list) != expected(&stream)
     };
-    if differs(requests) {
-        let stream = shortest(requests, differs).concat();
-        let printed = String::from_utf8_lossy(&folder.printed(roster, &stream)).into_owned();
-        let expected = text(bill(Some(roster), Some(&stream)));
-        panic!("printed\n{printed}expected\n{expected}roster {roster:02X?}\nstream {stream:02X?}");
+    if differs(&files.requests) {
+        let stream = shortest(&files.requests, differs).concat();
+        let printed = folder.printed(roster, &stream, list);
+        let printed = String::from_utf8_lossy(&printed).into_owned();
+        let expected = text(expected(&stream));
+        panic!(
+            "printed\n{printed}expected\n{expected}roster {roster:02X?}\nstream {stream:02X?}\n\
+             list {list:02X?}"
+        );
     }
 }
 
-/// Counts a refused roster by its line, and a bill by those of its lines that vary.
+/// Counts a refused roster or list by its line, and a bill by those of its lines that vary.
 fn count_lines(outcomes: &mut Outcomes, bill: &str) {
     for line in bill.lines() {
         let words: Vec<_> = line.split(' ').collect();
         match words[..] {
             ["taken", _] => outcomes.count("good"),
-            ["roster", _] => outcomes.count(line),
+            ["roster" | "list", _] => outcomes.count(line),
             ["refused", status, _] => outcomes.count(format!("refused {status}")),
             ["line", number, _, served] if served != "0" => {
                 outcomes.count(format!("line {number}"))
@@ -89,16 +121,17 @@ fn count_lines(outcomes: &mut Outcomes, bill: &str) {
 }
 
 #[test]
-fn generated_pairs_of_files_are_billed_alike() {
+fn generated_files_are_billed_alike() {
     let folder = folder("generated");
     let mut outcomes = Outcomes::default();
     for_seeds(600, |random| {
-        let (roster, requests) = some_pair(random);
-        assert_same_bill(&folder, &roster, &requests);
-        let bill = text(bill(Some(&roster), Some(&requests.concat())));
-        count_lines(&mut outcomes, &bill);
+        let files = some_files(random);
+        assert_same_bill(&folder, &files);
+        let stream = files.requests.concat();
+        let bill = bill(Some(&files.roster), Some(&stream), Some(&files.list));
+        count_lines(&mut outcomes, &text(bill));
     });
-    outcomes.assert_often(&["good", "open", "dropped", "held"], 20);
+    outcomes.assert_often(&["good", "open", "dropped", "held", "list C6"], 20);
     outcomes.assert_often(
         &(1..=5)
             .map(|fault| format!("roster R{fault}"))
@@ -116,7 +149,7 @@ fn generated_pairs_of_files_are_billed_alike() {
 }
 
 #[test]
-fn any_bytes_as_either_file_are_billed_alike() {
+fn any_bytes_as_files_are_billed_alike() {
     let folder = folder("any");
     for_seeds(100, |random| {
         let lengths = [random.below(12), random.below(200)];
@@ -124,7 +157,10 @@ fn any_bytes_as_either_file_are_billed_alike() {
             .map(|_| random.pick(b"\x01\x01\x00\x00a\x02"))
             .collect();
         let stream = random.bytes(lengths[1]);
-        folder.bill(&roster, &stream);
+        let list: Vec<u8> = (0..random.below(12))
+            .map(|_| random.pick(b"\x01\x01\x00\x00a\x02"))
+            .collect();
+        folder.bill_with_list(&roster, &stream, &list);
     });
 }
 
@@ -141,17 +177,50 @@ fn the_worked_examples_are_billed_as_document_01_has_them() {
     assert_eq!(folder.bill(b"", &stream), expected);
 }
 
-/// Two files that are good rosters, and any bytes are a stream: each order has a bill of its own.
+/// Two files that are good rosters and one that is a good list, and any bytes are a stream: each order
+/// has a bill of its own.
 #[test]
-fn the_first_argument_is_the_roster_and_the_second_the_stream() {
+fn the_arguments_are_roster_stream_and_list_in_this_order() {
     let folder = folder("order-of-arguments");
-    let [one, two] = [roster_of(&letters(1)), roster_of(&letters(3))];
-    let files = [folder.file("one", &one), folder.file("two", &two)];
-    let straight = bill(Some(&one), Some(&two));
-    let swapped = bill(Some(&two), Some(&one));
-    assert_ne!(straight, swapped);
-    assert_eq!(text(printed(&[&files[0], &files[1]])), text(straight));
-    assert_eq!(text(printed(&[&files[1], &files[0]])), text(swapped));
+    let bytes = [
+        roster_of(&letters(1)),
+        roster_of(&letters(3)),
+        pair(b"k", b"data"),
+    ];
+    let names = ["one", "two", "three"];
+    let files: [_; 3] = std::array::from_fn(|place| folder.file(names[place], &bytes[place]));
+    let orders = [
+        [0, 1, 2],
+        [1, 0, 2],
+        [0, 2, 1],
+        [1, 2, 0],
+        [2, 0, 1],
+        [2, 1, 0],
+    ];
+    let bills = orders.map(|order| {
+        let [roster, stream, list] = order.map(|place| Some(&bytes[place][..]));
+        let expected = text(bill(roster, stream, list));
+        assert_eq!(text(printed(&order.map(|place| &files[place]))), expected);
+        expected
+    });
+    assert_ne!(bills[0], bills[1]);
+    assert_eq!(bills[2..4], ["list C6\n"; 2]);
+    assert_eq!(bills[4..6], ["roster R2\n"; 2]);
+}
+
+#[test]
+fn a_stream_is_billed_with_the_keys_of_the_list() {
+    let folder = folder("listed");
+    let requests = [EXPORT, DESTROY].map(|opcode| request(opcode, Some(b"b"), &name_body(b"k")));
+    let import = import_body(&Key {
+        name: b"k".to_vec(),
+        ..key(&mut Random::new(1), 0)
+    });
+    let stream = [requests.concat(), request(IMPORT, Some(b"b"), &import)].concat();
+    let bill_with = |list: &[u8]| folder.bill_with_list(b"\x01\x01\x00b", &stream, list);
+    let refused = "\nline 0 b 1\nopen 0\nrefused 1133 1\nrefused 1139 1\ndropped";
+    assert!(bill_with(&pair(b"k", b"data")).contains(refused));
+    assert!(bill_with(&longest_list()).contains("\nline 0 b 1\nopen 0\nrefused 1140 2\ndropped"));
 }
 
 #[test]
@@ -224,18 +293,15 @@ fn a_file_that_comes_a_few_bytes_at_a_time_is_read_to_its_end() {
     let folder = folder("pipe");
     let roster = roster_of(&letters(8));
     let stream = request(PING, Some(b"a"), &[]).repeat(200);
-    let expected = text(bill(Some(&roster), Some(&stream)));
-    let files = [
-        folder.file("roster", &roster),
-        folder.file("stream", &stream),
-    ];
-    let pipe = Path::new("/dev/stdin");
-    assert_eq!(
-        text(printed_from_pipe(&[pipe, &files[1]], &roster)),
-        expected
-    );
-    assert_eq!(
-        text(printed_from_pipe(&[&files[0], pipe], &stream)),
-        expected
-    );
+    let list = list_of(&pairs(5));
+    let expected = text(bill(Some(&roster), Some(&stream), Some(&list)));
+    let bytes = [&roster, &stream, &list];
+    let names = ["roster", "stream", "list"];
+    let files: [_; 3] = std::array::from_fn(|place| folder.file(names[place], bytes[place]));
+    for place in 0..3 {
+        let mut arguments = files.each_ref().map(PathBuf::as_path);
+        arguments[place] = Path::new("/dev/stdin");
+        let printed = printed_from_pipe(&arguments, bytes[place]);
+        assert_eq!(text(printed), expected, "{}", names[place]);
+    }
 }

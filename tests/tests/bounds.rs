@@ -168,7 +168,7 @@ fn a_buffer_of_1_024_bytes_is_enough_and_one_of_1_023_is_not() {
     let mut registry = Registry::load(b"").expect("a roster of none");
     let (mut connection, mut counters) = (Connection::open(), Counters::default());
     let mut call =
-        |buffer: &mut [u8]| connection.call(&mut registry, &mut counters, &ping(), buffer);
+        |buffer: &mut [u8]| connection.call(&mut registry, b"", &mut counters, &ping(), buffer);
     assert_eq!(call(&mut [0; 1_023]), Err(Refusal::ResponseBufferTooSmall));
     assert_eq!(call(&mut [0; 1_024]).map(|answer| answer.written), Ok(28));
 }

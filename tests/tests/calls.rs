@@ -1,5 +1,5 @@
-//! The compiled call against the reference's, on generated memory and streams: what it says, every
-//! byte of buffer, connection and registry, and every counter.
+//! The compiled call against the reference's, on generated memory, lists and streams: what it says,
+//! every byte of buffer, connection, registry and list, and every counter.
 
 use razidkot::{Connection, Counters, Registry, CONNECTION_SIZE, LONGEST_CHUNK};
 use razidkot_tests::ask::{record, registry_of};
@@ -11,6 +11,7 @@ use razidkot_tests::reached::Reached;
 use razidkot_tests::requests::{applications, requests};
 use razidkot_tests::run::for_seeds;
 use razidkot_tests::service;
+use razidkot_tests::shipped::some_list;
 
 const CALLS: u64 = 2_000_000;
 /// How often each outcome is to be reached.
@@ -42,7 +43,8 @@ fn any_cut_of_a_stream_comes_to_what_the_rules_give_uncut() {
         let longest = random.pick(&[3, 40, 1_000, LONGEST_CHUNK]);
         let longest = longest.max(stream.len() / 200);
         let sizes: Vec<_> = (0..9).map(|_| 1 + random.below(longest)).collect();
-        service::responses(&names, &stream, &sizes);
+        let list = some_list(random, Vec::new());
+        service::responses_with_list(&names, &list, &stream, &sizes);
     });
 }
 

@@ -383,7 +383,7 @@ fn served(bytes: &[u8]) -> Vec<u8> {
     let (mut rest, mut joined) = (bytes, Vec::new());
     while !rest.is_empty() {
         let mut response = [0; LEAST_RESPONSE_BUFFER];
-        let answer = connection.call(&mut registry, &mut counters, rest, &mut response);
+        let answer = connection.call(&mut registry, b"", &mut counters, rest, &mut response);
         let answer = answer.expect("a call that is taken");
         joined.extend_from_slice(&response[..answer.written]);
         rest = &rest[answer.taken..];

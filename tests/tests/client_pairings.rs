@@ -106,7 +106,11 @@ fn what_comes_of_a_conversation_is_what_the_rules_give_uncut() {
         if conversation.damage == Damage::None {
             let outcome = conversation.run(Program::Proved, Program::Proved);
             let stream = outcome.requests.concat();
-            let expected = rules::run(&registry_of(&conversation.names), &stream);
+            let expected = rules::run_with_list(
+                &registry_of(&conversation.names),
+                &conversation.list,
+                &stream,
+            );
             assert_eq!(outcome.responses, expected.responses);
             assert!(outcome.registry == expected.registry, "registry");
             assert_eq!(to_reference(&outcome.counters), expected.counters);

@@ -383,7 +383,7 @@ fn statuses(registry: &mut Registry, bytes: &[u8]) -> Vec<u64> {
     let (mut rest, mut statuses) = (bytes, Vec::new());
     while !rest.is_empty() {
         let mut response = [0; LEAST_RESPONSE_BUFFER];
-        let answer = connection.call(registry, &mut counters, rest, &mut response);
+        let answer = connection.call(registry, b"", &mut counters, rest, &mut response);
         let answer = answer.expect("a call that is taken");
         if answer.written > 0 {
             statuses.push(u16::from_le_bytes([response[24], response[25]]).into());

@@ -130,7 +130,7 @@ fn any_stream_is_shown_as_the_reference_has_it() {
         statuses.iter().for_each(|status| outcomes.count(status));
         outcomes.count(format!("held {}", sums.held > 0));
         outcomes.count(format!("dropped {}", sums.dropped > 0));
-        let bill = text(reference::bill(Some(&roster), Some(&stream)));
+        let bill = text(reference::bill(Some(&roster), Some(&stream), Some(&[])));
         assert_eq!(sums.bill(&names), bill);
     });
     outcomes.assert_often(&["held true", "held false"], 10);

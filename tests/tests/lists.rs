@@ -1,0 +1,410 @@
+//! The list of shipped keys through the compiled call and the reference's: every kind of bad list, each
+//! cut of a good one, and own keys of a listed name. Document 02, "Keys we ship".
+
+use razidkot::raw::Answer;
+use razidkot::{Counters, CONNECTION_SIZE};
+use razidkot_tests::ask::*;
+use razidkot_tests::generate::{registry, Filling};
+use razidkot_tests::layout::Key;
+use razidkot_tests::lent::Lent;
+use razidkot_tests::lists::*;
+use razidkot_tests::run::{for_seeds, Outcomes};
+use razidkot_tests::service;
+use razidkot_tests::shipped::{damage, own_names, some_list};
+use razidkot_tests::signatures::{verify_body, Signed};
+use reference::rules;
+
+const APPLICATION: &[u8] = b"scanner";
+const OTHER: &[u8] = b"archive";
+const LIST_ILL_FORMED: u32 = 6;
+
+fn lent(registry: &[u8], list: &[u8]) -> Lent {
+    Lent::new(
+        vec![0; CONNECTION_SIZE],
+        registry.to_vec(),
+        list.to_vec(),
+        Counters::default(),
+    )
+}
+
+/// One call of each on this memory; what they say and leave is the same.
+fn call(lent: &mut Lent, chunk: &[u8]) -> Answer {
+    let mut reference = lent.clone();
+    lent.renew_response(1_024, 0x55);
+    reference.renew_response(1_024, 0x55);
+    let expected = reference.call_reference(chunk);
+    assert_eq!(lent.call_proved(chunk), expected);
+    assert_eq!(lent.difference(&reference), None);
+    expected
+}
+
+fn ping() -> Vec<u8> {
+    request(PING, None, &[])
+}
+
+/// Whether a Ping with this list is taken; a refused call says C6 and changes nothing.
+fn is_taken(registry: &[u8], list: &[u8]) -> bool {
+    let mut lent = lent(registry, list);
+    lent.renew_response(1_024, 0x55);
+    let before = lent.clone();
+    let answer = call(&mut lent, &ping());
+    if answer.code == 0 {
+        assert_eq!((answer.taken, answer.written), (28, 28));
+        return true;
+    }
+    let refused = Answer {
+        code: LIST_ILL_FORMED,
+        taken: 0,
+        written: 0,
+    };
+    assert_eq!(answer, refused);
+    assert!(lent == before, "a refused call changes nothing");
+    false
+}
+
+// ---- good and bad lists
+
+#[test]
+fn a_list_has_0_to_64_pairs() {
+    let registry = registry_of(&[]);
+    for count in 0..=64 {
+        assert!(is_taken(&registry, &list_of(&pairs(count))), "{count}");
+    }
+    for count in 65..70 {
+        assert!(!is_taken(&registry, &list_of(&pairs(count))), "{count}");
+    }
+    assert!(is_taken(&registry, &longest_list()));
+}
+
+#[test]
+fn every_kind_of_bad_list_is_c6() {
+    let registry = registry_of(&[APPLICATION.to_vec()]);
+    let bad = bad_lists();
+    assert!(bad.len() > 200);
+    for (title, list) in bad {
+        assert!(!is_taken(&registry, &list), "{title}");
+    }
+}
+
+#[test]
+fn a_good_list_cut_anywhere_but_behind_a_pair_is_c6() {
+    let registry = registry_of(&[]);
+    let all_lengths = list_of(&pairs(33));
+    for list in [list_of(&pairs(1)), all_lengths, longest_list()] {
+        let ends = ends_of_pairs(&list);
+        for cut in 0..=list.len() {
+            let is_good = ends.contains(&cut);
+            assert_eq!(is_taken(&registry, &list[..cut]), is_good, "{cut}");
+        }
+    }
+}
+
+#[test]
+fn each_byte_of_a_name_and_each_length_is_judged_alike() {
+    let registry = registry_of(&[]);
+    for byte in 0..=255 {
+        for name in [&[byte][..], &[b'n', byte], &[byte; 32]] {
+            let is_good = (0x21..=0x7E).contains(&byte);
+            assert_eq!(is_taken(&registry, &pair(name, b"d")), is_good, "{name:?}");
+        }
+    }
+    for length in 0..=70 {
+        let list = pair(&vec![b'n'; length], b"d");
+        let is_good = (1..=32).contains(&length);
+        assert_eq!(is_taken(&registry, &list), is_good, "{length}");
+    }
+    for length in (0..=5).chain(250..=260).chain(590..=610) {
+        let list = pair(b"n", &vec![0; length]);
+        let is_good = (1..=600).contains(&length);
+        assert_eq!(is_taken(&registry, &list), is_good, "{length}");
+    }
+}
+
+/// Every pair of places, in names of one length that differ in one byte.
+#[test]
+fn a_name_that_repeats_any_other_is_c6() {
+    let registry = registry_of(&[]);
+    for differ_at in [0, 7, 8, 31] {
+        let name = |number: u8| {
+            let mut name = vec![b'n'; 32];
+            name[differ_at] = b'!' + number;
+            name
+        };
+        let keys: Vec<_> = (0..64).map(|number| (name(number), vec![7])).collect();
+        assert!(is_taken(&registry, &list_of(&keys)));
+        for second in 1..64 {
+            for first in [0, 1, second / 2, second - 1] {
+                if first < second {
+                    let mut repeated = keys.clone();
+                    repeated[second].0.clone_from(&keys[first].0);
+                    let list = list_of(&repeated);
+                    assert!(!is_taken(&registry, &list), "{first} {second}");
+                }
+            }
+        }
+    }
+}
+
+#[test]
+fn generated_and_damaged_lists_are_judged_alike() {
+    let mut outcomes = Outcomes::default();
+    for_seeds(20_000, |random| {
+        let mut list = some_list(random, Vec::new());
+        if !random.once_in(4) {
+            damage(random, &mut list);
+        }
+        let taken = is_taken(&registry_of(&[]), &list);
+        assert_eq!(taken, reference::list_is_well_formed(&list));
+        outcomes.count(taken);
+    });
+    outcomes.assert_often(&[true, false], 2_000);
+}
+
+#[test]
+fn any_bytes_are_judged_alike() {
+    for_seeds(20_000, |random| {
+        let length = random.below(24);
+        let list: Vec<u8> = (0..length)
+            .map(|_| random.pick(b"\x01\x02\x01\x02\x00\x00\x00\x01abc"))
+            .collect();
+        is_taken(&registry_of(&[]), &list);
+    });
+}
+
+/// Judged on every call: on a connection that holds, skips or is closed, and for an empty chunk.
+#[test]
+fn a_bad_list_is_c6_whatever_the_connection() {
+    let registry = registry_of(&[APPLICATION.to_vec()]);
+    let oversized = razidkot_tests::requests::with_lengths(&ping(), 5_000, 0);
+    for sent in [&[][..], &ping()[..9], &oversized[..400], &[0xFF; 6]] {
+        let connection = rules::run(&registry, sent).connection.to_memory();
+        for chunk in [&[][..], &ping(), &[0xFF; 6]] {
+            let mut lent = lent(&registry, &[1]);
+            lent.connection.clone_from(&connection);
+            assert_eq!(call(&mut lent, chunk).code, LIST_ILL_FORMED);
+            lent.list.clear();
+            assert_eq!(call(&mut lent, chunk).code, 0);
+        }
+    }
+}
+
+// ---- own and listed keys
+
+/// A registry from before the list: the first application holds this key, the other none.
+fn registry_with(own: Option<&Key>) -> Vec<u8> {
+    let registry = registry_of(&[APPLICATION.to_vec(), OTHER.to_vec()]);
+    match own {
+        Some(key) => {
+            let import = request(IMPORT, Some(APPLICATION), &import_body(key));
+            rules::run(&registry, &import).registry
+        }
+        None => registry,
+    }
+}
+
+/// Status and body of what both answer to one request.
+fn asked(lent: &mut Lent, opcode: u16, application: &[u8], body: &[u8]) -> (u16, Vec<u8>) {
+    let request = request(opcode, Some(application), body);
+    let answer = call(lent, &request);
+    assert_eq!((answer.code, answer.taken), (0, request.len()));
+    let response = &lent.response()[..answer.written];
+    let status = u16::from_le_bytes([response[24], response[25]]);
+    (status, response[26..].to_vec())
+}
+
+/// Key `k` with these uses.
+fn own_key(signed: &Signed, export_allowed: bool, verify_allowed: bool) -> Key {
+    Key {
+        export_allowed,
+        verify_allowed,
+        ..signed.key(b"k")
+    }
+}
+
+const USES: [(bool, bool); 4] = [(false, false), (false, true), (true, false), (true, true)];
+
+/// `k` among others.
+fn list_with(data: &[u8]) -> Vec<u8> {
+    [list_of(&pairs(9)), pair(b"k", data), pair(b"kk", b"other")].concat()
+}
+
+fn status_of(allowed: bool) -> u16 {
+    match allowed {
+        true => SUCCESS,
+        false => NOT_PERMITTED,
+    }
+}
+
+#[test]
+fn an_own_key_comes_before_a_listed_one_whatever_it_allows() {
+    let (first, second) = (&Signed::good()[0], &Signed::good()[1]);
+    for (export_allowed, verify_allowed) in USES {
+        let registry = registry_with(Some(&own_key(first, export_allowed, verify_allowed)));
+        let lent = &mut lent(&registry, &list_with(&second.data));
+        let name = &name_body(b"k");
+
+        let (status, body) = asked(lent, EXPORT, APPLICATION, name);
+        assert_eq!(status, status_of(export_allowed));
+        if export_allowed {
+            assert_eq!(body, razidkot_tests::oracle::bytes_field(1, &first.data));
+        }
+        let (status, _) = asked(lent, VERIFY, APPLICATION, &first.body(b"k"));
+        assert_eq!(status, status_of(verify_allowed));
+        let (status, _) = asked(lent, VERIFY, APPLICATION, &second.body(b"k"));
+        let wrong = if verify_allowed {
+            INVALID_SIGNATURE
+        } else {
+            NOT_PERMITTED
+        };
+        assert_eq!(status, wrong);
+
+        // The other application has the listed one.
+        let (status, body) = asked(lent, EXPORT, OTHER, name);
+        assert_eq!((status, body), (SUCCESS, bytes_of(&second.data)));
+        let (status, _) = asked(lent, VERIFY, OTHER, &second.body(b"k"));
+        assert_eq!(status, SUCCESS);
+        let (status, _) = asked(lent, VERIFY, OTHER, &first.body(b"k"));
+        assert_eq!(status, INVALID_SIGNATURE);
+    }
+}
+
+fn bytes_of(data: &[u8]) -> Vec<u8> {
+    razidkot_tests::oracle::bytes_field(1, data)
+}
+
+#[test]
+fn import_and_destroy_under_a_listed_name() {
+    let signed = &Signed::good()[0];
+    for (export_allowed, verify_allowed) in USES {
+        let own = own_key(signed, export_allowed, verify_allowed);
+        let lent = &mut lent(&registry_with(Some(&own)), &list_with(b"listed"));
+        let (import, name) = (&import_body(&own), &name_body(b"k"));
+        for application in [APPLICATION, OTHER] {
+            let (status, _) = asked(lent, IMPORT, application, import);
+            assert_eq!(status, ALREADY_EXISTS);
+        }
+        let steps = [
+            (DESTROY, OTHER, NOT_PERMITTED),
+            (DESTROY, APPLICATION, SUCCESS),
+            (DESTROY, APPLICATION, NOT_PERMITTED),
+            (EXPORT, APPLICATION, SUCCESS),
+        ];
+        for (opcode, application, expected) in steps {
+            let (status, _) = asked(lent, opcode, application, name);
+            assert_eq!(status, expected);
+        }
+        let (status, _) = asked(lent, IMPORT, APPLICATION, import);
+        assert_eq!(status, ALREADY_EXISTS);
+        assert!(lent.registry == registry_with(None), "all slots are free");
+    }
+}
+
+#[test]
+fn every_key_of_a_full_list_is_exported_as_it_lies() {
+    for list in [list_of(&pairs(64)), longest_list()] {
+        let lent = &mut lent(&registry_with(None), &list);
+        for (name, data) in pairs_in(&list) {
+            let (status, body) = asked(lent, EXPORT, APPLICATION, &name_body(&name));
+            assert_eq!((status, body), (SUCCESS, bytes_of(&data)));
+            // Near it there is none.
+            let longer = [&name[..name.len().min(31)], b"~"].concat();
+            let (status, _) = asked(lent, EXPORT, APPLICATION, &name_body(&longer));
+            assert_eq!(status, DOES_NOT_EXIST);
+        }
+    }
+}
+
+#[test]
+fn on_generated_registries_own_and_listed_keys_are_asked_for_alike() {
+    for_seeds(300, |random| {
+        let registry = registry(random, Filling::Some);
+        let list = some_list(random, own_names(&registry));
+        let names: Vec<_> = pairs_in(&list).into_iter().map(|(name, _)| name).collect();
+        let lent = &mut lent(&registry, &list);
+        for application in razidkot_tests::requests::applications(&registry) {
+            for name in names.iter().take(12) {
+                let signed = Signed::of_name(name);
+                asked(lent, EXPORT, application.name(), &name_body(name));
+                asked(lent, VERIFY, application.name(), &signed.body(name));
+                let import = import_body(&signed.key(name));
+                let (status, _) = asked(lent, IMPORT, application.name(), &import);
+                assert!([ALREADY_EXISTS, AUTHENTICATION_ERROR].contains(&status));
+                asked(lent, DESTROY, application.name(), &name_body(name));
+            }
+        }
+    });
+}
+
+// ---- signatures of listed keys
+
+/// The status that the compiled service answers to each one's signature, its key listed.
+fn listed_statuses(all: &[Signed]) -> Vec<u16> {
+    all.iter()
+        .map(|signed| {
+            let list = list_with(&signed.data);
+            let stream = request(VERIFY, Some(APPLICATION), &signed.body(b"k"));
+            let names = [APPLICATION.to_vec()];
+            let responses = service::responses_with_list(&names, &list, &stream, &[4_096]);
+            u16::from_le_bytes([responses[0][24], responses[0][25]])
+        })
+        .collect()
+}
+
+#[test]
+fn signatures_of_listed_keys_are_good_or_bad_as_those_of_own_ones() {
+    let good = listed_statuses(Signed::good());
+    assert_eq!(good, vec![SUCCESS; Signed::good().len()]);
+    let bad = listed_statuses(Signed::bad());
+    assert_eq!(bad, vec![INVALID_SIGNATURE; Signed::bad().len()]);
+}
+
+/// A listed key has its modulus's bits: what other stored bits alone made bad is good.
+#[test]
+fn listed_data_that_is_no_rsa_public_key_is_not_supported() {
+    let all = Signed::unsupported();
+    let mut outcomes = Outcomes::default();
+    for (signed, status) in all.iter().zip(listed_statuses(all)) {
+        let is_key = signed.title.ends_with("stored");
+        let is_other_key = signed.title == "2048-65537: modulus of eight bits less";
+        let expected = match (is_key, is_other_key) {
+            (true, _) => SUCCESS,
+            (_, true) => INVALID_SIGNATURE,
+            _ => NOT_SUPPORTED,
+        };
+        assert_eq!(status, expected, "{}", signed.title);
+        outcomes.count(status);
+    }
+    outcomes.assert_often(&[SUCCESS, INVALID_SIGNATURE, NOT_SUPPORTED], 1);
+}
+
+#[test]
+fn a_listed_modulus_has_1024_to_4096_bits_in_multiples_of_8() {
+    for bits in (1_000..1_050).chain(2_040..2_060).chain(4_080..4_130) {
+        let is_supported = (1_024..=4_096).contains(&bits) && bits % 8 == 0;
+        let lent = &mut lent(&registry_with(None), &list_with(&rsa_public_key(bits)));
+        let body = verify_body(b"k", &[0; 32], &vec![0; bits.div_ceil(8)]);
+        let (status, _) = asked(lent, VERIFY, APPLICATION, &body);
+        let expected = if is_supported {
+            INVALID_SIGNATURE
+        } else {
+            NOT_SUPPORTED
+        };
+        assert_eq!(status, expected, "{bits}");
+    }
+}
+
+/// Name, then who holds it, then the hash, then the data, then the signature.
+#[test]
+fn the_order_of_a_listed_keys_statuses() {
+    let lent = &mut lent(&registry_with(None), &list_with(b"no key"));
+    let rows = [
+        (&b"a b"[..], 31, INVALID_ARGUMENT),
+        (b"nobody", 31, DOES_NOT_EXIST),
+        (b"k", 31, INVALID_ARGUMENT),
+        (b"k", 32, NOT_SUPPORTED),
+    ];
+    for (name, length, expected) in rows {
+        let body = verify_body(name, &vec![0; length], b"");
+        assert_eq!(asked(lent, VERIFY, APPLICATION, &body).0, expected);
+    }
+}
