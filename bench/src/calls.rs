@@ -1,5 +1,5 @@
 //! Requests in chunks of 4,096 bytes through the compiled call and through the reference's. Both judge
-//! all five refusals on every call.
+//! all six refusals on every call.
 
 use crate::registries::Registry;
 use crate::rows::{digest, Row, Turn, EACH_TURN};
@@ -41,27 +41,32 @@ pub fn exports(registry: Registry) -> Row {
 
 /// So many Pings, by the compiled call alone.
 pub fn make_pings(registry: Registry, count: usize) {
-    let mut service = Proved::new(&registry.bytes());
+    let mut service = Proved::new(&registry.bytes(), &[]);
     send(&mut service, &stream(&[request(PING, None, &[])], count));
     assert_eq!(service.served(), count as u64, "all requests are served");
 }
 
 fn row(operations: &str, registry: Registry, requests: &[Vec<u8>]) -> Row {
     let name = format!("{operations}, {}", registry.title);
-    row_of(name, &registry.bytes(), requests, EACH_TURN)
+    row_of(name, (&registry.bytes(), &[]), requests, EACH_TURN)
 }
 
-/// These requests in turn, on this registry, of which each is served.
-pub fn row_of(name: String, registry: &[u8], requests: &[Vec<u8>], each_turn: usize) -> Row {
+/// These requests in turn, on this registry and this list, of which each is served.
+pub fn row_of(
+    name: String,
+    (registry, list): (&[u8], &[u8]),
+    requests: &[Vec<u8>],
+    each_turn: usize,
+) -> Row {
     let stream: Rc<[u8]> = stream(requests, each_turn / STREAMS).into();
     let turns = (Rc::clone(&stream), each_turn);
     Row {
         name,
-        digest: digest(&[registry, &stream]),
+        digest: digest(&[registry, list, &stream]),
         each_turn,
         programs: vec![
-            ("proved", turn(Proved::new(registry), turns.clone())),
-            ("reference", turn(Reference::new(registry), turns)),
+            ("proved", turn(Proved::new(registry, list), turns.clone())),
+            ("reference", turn(Reference::new(registry, list), turns)),
         ],
     }
 }
@@ -105,15 +110,17 @@ trait Service {
 struct Proved {
     connection: Vec<u8>,
     registry: Vec<u8>,
+    list: Vec<u8>,
     counters: Counters,
     response: Vec<u8>,
 }
 
 impl Proved {
-    fn new(registry: &[u8]) -> Proved {
+    fn new(registry: &[u8], list: &[u8]) -> Proved {
         Proved {
             connection: vec![0; CONNECTION_SIZE],
             registry: registry.to_vec(),
+            list: list.to_vec(),
             counters: Counters::default(),
             response: vec![0; MIN_RESPONSE_BUFFER],
         }
@@ -126,6 +133,7 @@ impl Service for Proved {
             chunk,
             &mut self.connection,
             &mut self.registry,
+            &self.list,
             &mut self.counters,
             &mut self.response,
         );
@@ -141,15 +149,17 @@ impl Service for Proved {
 struct Reference {
     connection: Vec<u8>,
     registry: Vec<u8>,
+    list: Vec<u8>,
     counters: reference::Counters,
     response: Vec<u8>,
 }
 
 impl Reference {
-    fn new(registry: &[u8]) -> Reference {
+    fn new(registry: &[u8], list: &[u8]) -> Reference {
         Reference {
             connection: vec![0; CONNECTION_SIZE],
             registry: registry.to_vec(),
+            list: list.to_vec(),
             counters: reference::Counters::default(),
             response: vec![0; MIN_RESPONSE_BUFFER],
         }
@@ -162,6 +172,7 @@ impl Service for Reference {
             chunk,
             &mut self.connection,
             &mut self.registry,
+            &self.list,
             &mut self.counters,
             &mut self.response,
         );

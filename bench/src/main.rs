@@ -5,6 +5,7 @@ mod calls;
 mod check;
 #[cfg(feature = "client")]
 mod client;
+mod lists;
 #[cfg(all(openssl, feature = "signatures"))]
 #[allow(unsafe_code)]
 mod openssl;

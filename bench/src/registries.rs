@@ -37,12 +37,13 @@ const fn alike(title: &'static str, applications: usize, keys: usize) -> Registr
 
 pub const FULL: Registry = unlike("full", LINES, SLOTS);
 pub const ONE_KEY: Registry = unlike("one key a line", LINES, 1);
+pub const ONE_NAME: Registry = unlike("1 name", 1, 0);
 pub const ALL: [Registry; 6] = [
     FULL,
     ONE_KEY,
     unlike("8 names", 8, 0),
     unlike("4 names", 4, 0),
-    unlike("1 name", 1, 0),
+    ONE_NAME,
     unlike("empty roster", 0, 0),
 ];
 pub const ALIKE: [Registry; 2] = [

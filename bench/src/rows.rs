@@ -1,7 +1,7 @@
 //! What is timed: rows of operations, each for several programs that do the same.
 
 use crate::registries::{ALIKE, ALL, FULL, ONE_KEY};
-use crate::{calls, check, searches};
+use crate::{calls, check, lists, searches};
 use std::time::Duration;
 
 /// The operations of most rows' turns. Programs take turns, so that a slow moment of the machine is not one
@@ -30,6 +30,7 @@ pub fn all() -> Vec<Row> {
     checks
         .chain(searches::rows())
         .chain(calls)
+        .chain(lists::rows())
         .chain(client())
         .chain(signatures())
         .collect()

@@ -110,5 +110,5 @@ fn requests(signed: &'static Signed, each_turn: usize) -> Row {
     assert_eq!(outcome.counters.served[0], 2);
     let verify = ask(VERIFY, &signed.body(&name));
     let name = format!("verify requests, {}", title(signed));
-    calls::row_of(name, &outcome.registry, &[verify], each_turn)
+    calls::row_of(name, (&outcome.registry, &[]), &[verify], each_turn)
 }
