@@ -1,12 +1,12 @@
 -- Laws of decisions: for each way an operation can end, what the rules make of it, from the facts that the code has there.
-use mathlib.Core.Path.{_≡_, refl, sym, _∙_, subst}
-use mathlib.Core.Bool.{true, false, false≢true, and-true}
+use mathlib.Core.Path.{_≡_, refl, sym, ap, _∙_, subst}
+use mathlib.Core.Bool.{true, false, and-true}
 use mathlib.Core.Option.{none, some}
 use mathlib.Core.List.{List, []}
 use Prim.Native.Nat.{ℕ, _≤_, _<_}
 use native.Mathlib.Omega.{arith}
 use borrow.Author.Tests.{eq-eqb, ne-eqb, lt-ltb, le-ltb, lt-leb, le-leb}
-use lib.ListN.{length, getD}
+use lib.ListN.{length}
 use Rattle.wire.proofs.ListLaws.{length-part}
 use Rattle.protobuf.specs.code.Body.{bodyOf}
 use Rattle.protobuf.specs.code.Message.{allAbsent}
@@ -17,28 +17,35 @@ use Rattle.protobuf.proofs.StepLaws.{ValuesIn as AllIn}
 use Rattle.protobuf.proofs.BodyLaws.{BodyIn, body-in}
 use Rattle.keys.specs.Names.{legalName, keyNameMost}
 use Rattle.keys.specs.Key.{Key, dataMost, legalData, legalBits, importBits}
-use Rattle.registry.specs.Slots.{Entry, free, held, nameOf}
-use Rattle.registry.specs.Registry.{slotCount, slotNamed, unchanged, fill, clear}
-use Rattle.registry.specs.code.Check.{bytesIn, bitsIn, exportIn, verifyIn}
+use Rattle.registry.specs.Slots.{Entry}
+use Rattle.registry.specs.Registry.{slotCount, slotsOf, slotNamed, unchanged, fill, clear}
+use Rattle.registry.specs.declared.Line.{Line}
 use Rattle.registry.specs.declared.Slot.{Slot}
 use Rattle.registry.specs.declared.Found.the-variants.{At, Nothing as Missing}
-use Rattle.keys.proofs.NameLaws.{legal-some, legal-short}
+use Rattle.keys.proofs.NameLaws.{legal-short}
 use Rattle.keys.proofs.KeyLaws.{legal-data, legal-bits}
 use Rattle.registry.proofs.SlotLaws.{Legal}
-use Rattle.registry.proofs.RegistryLaws.{found-name}
+use Rattle.shipped.specs.Shipped.{ListedKey, keysIn}
+use Rattle.shipped.specs.declared.Span.{Span}
+use Rattle.lookup.specs.Lookup.{Source, own, listed, keyOf as keyFound, keyNamed}
+use Rattle.lookup.specs.code.Places.{listedAt, keyAt, KeyAt}
+use Rattle.lookup.specs.declared.Place.{Place}
+use Rattle.lookup.specs.declared.Place.the-variants.{Own, Listed, Nothing as Nowhere}
+use Rattle.lookup.proofs.LookupLaws.{Alike}
 use Rattle.rsa.specs.Signature.{verification}
 use Rattle.messages.specs.Protobuf.{protobuf}
 use Rattle.messages.specs.Operations.{Operation, operationOf, nothing}
 use Rattle.messages.specs.Operations as message
-use Rattle.judgement.specs.Operations.{Result, success, refuse, importable, performImport, performDestroy, exportOf, performExport, hashSize, checked, verifyWith, performVerify, performListOpcodes, perform, operated}
+use Rattle.judgement.specs.Operations.{Result, success, refuse, importable, performImport, destroyOf, performDestroy, exportOf, performExport, hashSize, checked, verifyWith, performVerify, performListOpcodes, perform, operated}
 use Rattle.judgement.specs.code.Placed.{readBody, keyOf, placedOperation}
 use Rattle.judgement.specs.code.Decided.{outputIn, changeOf, resultIn, refusedWith, verifier, ValuesIn, KeyParts, SafeOutput, Decided}
 use Rattle.judgement.specs.declared.Status.{Status}
-use Rattle.judgement.specs.declared.Status.the-variants.{Success, ProviderDoesNotExist, DeserializingBodyFailed, PsaErrorNotPermitted, PsaErrorInvalidArgument, PsaErrorAlreadyExists, PsaErrorDoesNotExist, PsaErrorInsufficientStorage}
+use Rattle.judgement.specs.declared.Status.the-variants.{Success, ProviderDoesNotExist, DeserializingBodyFailed, PsaErrorNotPermitted, PsaErrorInvalidArgument, PsaErrorNotSupported, PsaErrorAlreadyExists, PsaErrorDoesNotExist, PsaErrorInsufficientStorage}
 use Rattle.judgement.specs.declared.Output.{Output}
 use Rattle.judgement.specs.declared.Output.the-variants.{Nothing, Opcodes, Data}
 use Rattle.judgement.specs.declared.Edit.the-variants.{Stays, Fills, Clears}
 use Rattle.judgement.specs.declared.Decision.{Decision}
+use Rattle.judgement.proofs.SourceLaws.{bytes-at, at-own, at-listed, source, at-source, at-alike}
 use Rattle.judgement.proofs.PlacedLaws.{operation-placed}
 use Rattle.judgement.proofs.JudgementLaws.{importable-legal}
 
@@ -48,23 +55,23 @@ use Rattle.judgement.proofs.JudgementLaws.{importable-legal}
 abbrev pub servedWith : Output → Decision
 servedWith output = record { status = Success; output = output; edit = Stays; values = allAbsent }
 
-module _ (slots : List Entry) (body : List ℕ) {x : Result} where
-  pub refusal : (status : Status) → x ≡ refuse status → Decided slots body x (refusedWith status)
+module _ (slots : List Entry) (list body : List ℕ) {x : Result} where
+  pub refusal : (status : Status) → x ≡ refuse status → Decided slots list body x (refusedWith status)
   unfolding refuse resultIn outputIn changeOf
   refusal status e = record { result = sym e; output = tt; edit = tt }
 
-  pub listing : (output : Output) → SafeOutput output → x ≡ success (outputIn slots output) unchanged
-      → Decided slots body x (servedWith output)
+  pub listing : (output : Output) → SafeOutput list output → x ≡ success (outputIn slots list output) unchanged
+      → Decided slots list body x (servedWith output)
   unfolding success resultIn changeOf
   listing output safe e = record { result = sym e; output = safe; edit = tt }
 
-module _ (slots : List Entry) (body : List ℕ) {x : Result} (v : Values) (slot : Slot) (below : slot .0 < slotCount) where
+module _ (slots : List Entry) (list body : List ℕ) {x : Result} (v : Values) (slot : Slot) (below : slot .0 < slotCount) where
   pub filling : KeyParts (length body) v → x ≡ success nothing (fill slot (keyOf body v))
-      → Decided slots body x (record { status = Success; output = Nothing; edit = Fills slot; values = v })
+      → Decided slots list body x (record { status = Success; output = Nothing; edit = Fills slot; values = v })
   unfolding success resultIn outputIn changeOf
   filling parts e = record { result = sym e; output = tt; edit = (below, parts) }
 
-  pub clearing : x ≡ success nothing (clear slot) → Decided slots body x (record { status = Success; output = Nothing; edit = Clears slot; values = v })
+  pub clearing : x ≡ success nothing (clear slot) → Decided slots list body x (record { status = Success; output = Nothing; edit = Clears slot; values = v })
   unfolding success resultIn outputIn changeOf
   clearing e = record { result = sym e; output = tt; edit = below }
 
@@ -75,16 +82,16 @@ values-in k body v e =
     let inside : AllIn (length body) v = subst (BodyIn (length body)) e (body-in k body) in
     record { name = inside .in1; bytes = inside .in2; signature = inside .in3 }
 
-module _ (slots : List Entry) (body : List ℕ) (opcode : ℕ) (fields : Schema) (f : Values → Operation)
+module _ (slots : List Entry) (list body : List ℕ) (opcode : ℕ) (fields : Schema) (f : Values → Operation)
     (reads : placedOperation opcode body ≡ readBody fields body f) where
   pub unreadable : (at : ℕ) → bodyOf fields body ≡ Unreadable at
-      → Decided slots body (operated opcode body slots) (refusedWith DeserializingBodyFailed)
+      → Decided slots list body (operated opcode body slots (keysIn list)) (refusedWith DeserializingBodyFailed)
   unfolding operated readBody
   unreadable at e =
       let asks-none : operationOf protobuf opcode body ≡ none = operation-placed opcode body ∙ reads ∙ (let r : readBody fields body f ≡ none = rw (e, readBody) in r) in
-      refusal slots body DeserializingBodyFailed (rw (asks-none, operated))
+      refusal slots list body DeserializingBodyFailed (rw (asks-none, operated))
 
-  pub readable : (v : Values) → bodyOf fields body ≡ Message v → operated opcode body slots ≡ perform (f v) slots
+  pub readable : (v : Values) → bodyOf fields body ≡ Message v → operated opcode body slots (keysIn list) ≡ perform (f v) slots (keysIn list)
   unfolding operated readBody
   readable v e =
       let asks : operationOf protobuf opcode body ≡ some (f v) = operation-placed opcode body ∙ reads ∙ (let r : readBody fields body f ≡ some (f v) = rw (e, readBody) in r) in
@@ -96,10 +103,10 @@ pub opcodes-refused : (provider : ℕ) → 1 < provider → performListOpcodes p
 unfolding performListOpcodes
 opcodes-refused provider h = rw (lt-ltb 1 provider h)
 
-pub opcodes-listed : (slots : List Entry) (provider : ℕ) → provider ≤ 1
-    → performListOpcodes provider ≡ success (outputIn slots (Opcodes provider)) unchanged
+pub opcodes-listed : (slots : List Entry) (list : List ℕ) (provider : ℕ) → provider ≤ 1
+    → performListOpcodes provider ≡ success (outputIn slots list (Opcodes provider)) unchanged
 unfolding performListOpcodes outputIn
-opcodes-listed slots provider h = rw (le-ltb 1 provider h)
+opcodes-listed slots list provider h = rw (le-ltb 1 provider h)
 
 -- ---- Import
 
@@ -122,22 +129,22 @@ module _ (key : Key) where
     unfolding importable legalData importBits
     bits-left l h = rw (n, le-leb 1 (length (key .bytes)) l, le-leb (length (key .bytes)) dataMost h) (and-true _)
 
-module _ (slots : List Entry) (key : Key) where
-  pub bad-key : importable key ≡ false → performImport key slots ≡ refuse PsaErrorInvalidArgument
+module _ (slots : List Entry) (keys : List ListedKey) (key : Key) where
+  pub bad-key : importable key ≡ false → performImport key slots keys ≡ refuse PsaErrorInvalidArgument
   unfolding performImport
   bad-key t = rw t
 
   module _ (t : importable key ≡ true) where
-    pub name-held : (slot : Slot) → slotNamed (key .name) slots ≡ At slot → performImport key slots ≡ refuse PsaErrorAlreadyExists
+    pub name-taken : (source : Source) → keyNamed (key .name) slots keys ≡ some source → performImport key slots keys ≡ refuse PsaErrorAlreadyExists
     unfolding performImport
-    name-held slot e = rw (t, e)
+    name-taken source e = rw (t, e)
 
-    module _ (new : slotNamed (key .name) slots ≡ Missing) where
-      pub no-slot : slotNamed [] slots ≡ Missing → performImport key slots ≡ refuse PsaErrorInsufficientStorage
+    module _ (new : keyNamed (key .name) slots keys ≡ none) where
+      pub no-slot : slotNamed [] slots ≡ Missing → performImport key slots keys ≡ refuse PsaErrorInsufficientStorage
       unfolding performImport
       no-slot e = rw (t, new, e)
 
-      pub imported : (slot : Slot) → slotNamed [] slots ≡ At slot → performImport key slots ≡ success nothing (fill slot key)
+      pub imported : (slot : Slot) → slotNamed [] slots ≡ At slot → performImport key slots keys ≡ success nothing (fill slot key)
       unfolding performImport
       imported slot e = rw (t, new, e)
 
@@ -154,95 +161,129 @@ key-parts body v inside t =
       bits = legal-bits _ (legal .bits);
     }
 
--- ---- Destroy and Export
+-- ---- Destroy, Export and Verify
 
-may-export : (entry : Entry) → exportIn entry ≡ true → exportOf entry ≡ success (message.exported (bytesIn entry)) unchanged
-unfolding exportIn exportOf bytesIn
-may-export free a = absurd (false≢true a)
-may-export (held key) a = rw a
+module _ (slots : List Entry) (keys : List ListedKey) (name : List ℕ) where
+  module _ (t : legalName keyNameMost name ≡ false) where
+    pub bad-destroyed : performDestroy name slots keys ≡ refuse PsaErrorInvalidArgument
+    unfolding performDestroy
+    bad-destroyed = rw t
 
-may-not-export : (entry : Entry) → 1 ≤ length (nameOf entry) → exportIn entry ≡ false → exportOf entry ≡ refuse PsaErrorNotPermitted
-unfolding exportIn exportOf
-may-not-export free h a = absurd (let z : ⊥ = omega arith in z)
-may-not-export (held key) h a = rw a
+    pub bad-exported : performExport name slots keys ≡ refuse PsaErrorInvalidArgument
+    unfolding performExport
+    bad-exported = rw t
 
-module _ (slots : List Entry) (name : List ℕ) where
-  pub bad-destroyed : legalName keyNameMost name ≡ false → performDestroy name slots ≡ refuse PsaErrorInvalidArgument
-  unfolding performDestroy
-  bad-destroyed t = rw t
-
-  pub bad-exported : legalName keyNameMost name ≡ false → performExport name slots ≡ refuse PsaErrorInvalidArgument
-  unfolding performExport
-  bad-exported t = rw t
+    pub bad-verified : (hash signature : List ℕ) → performVerify name hash signature slots keys ≡ refuse PsaErrorInvalidArgument
+    unfolding performVerify
+    bad-verified hash signature = rw t
 
   module _ (t : legalName keyNameMost name ≡ true) where
-    pub none-destroyed : slotNamed name slots ≡ Missing → performDestroy name slots ≡ refuse PsaErrorDoesNotExist
-    unfolding performDestroy
-    none-destroyed e = rw (t, e)
-
-    pub none-exported : slotNamed name slots ≡ Missing → performExport name slots ≡ refuse PsaErrorDoesNotExist
-    unfolding performExport
-    none-exported e = rw (t, e)
-
-    module _ (slot : Slot) (e : slotNamed name slots ≡ At slot) where
-      pub destroyed : performDestroy name slots ≡ success nothing (clear slot)
+    module _ (e : keyNamed name slots keys ≡ none) where
+      pub none-destroyed : performDestroy name slots keys ≡ refuse PsaErrorDoesNotExist
       unfolding performDestroy
-      destroyed = rw (t, e)
+      none-destroyed = rw (t, e)
 
-      abbrev entry : Entry
-      entry = getD slots (slot .0) free
+      pub none-exported : performExport name slots keys ≡ refuse PsaErrorDoesNotExist
+      unfolding performExport
+      none-exported = rw (t, e)
 
-      exports : performExport name slots ≡ exportOf entry
+      pub none-verified : (hash signature : List ℕ) → performVerify name hash signature slots keys ≡ refuse PsaErrorDoesNotExist
+      unfolding performVerify
+      none-verified hash signature = rw (t, e)
+
+    module _ (source : Source) (e : keyNamed name slots keys ≡ some source) where
+      pub destroys : performDestroy name slots keys ≡ destroyOf source
+      unfolding performDestroy
+      destroys = rw (t, e)
+
+      pub exports : performExport name slots keys ≡ exportOf (keyFound source)
       unfolding performExport
       exports = rw (t, e)
 
-      pub exported : exportIn entry ≡ true → performExport name slots ≡ success (outputIn slots (Data slot)) unchanged
-      unfolding outputIn
-      exported a = exports ∙ may-export entry a
+      pub verifies : (hash signature : List ℕ) → performVerify name hash signature slots keys ≡ verifyWith hash signature (keyFound source)
+      unfolding performVerify
+      verifies hash signature = rw (t, e)
 
-      -- the slot holds a key, since its name is not empty
-      pub not-exported : exportIn entry ≡ false → performExport name slots ≡ refuse PsaErrorNotPermitted
-      not-exported a = exports ∙ may-not-export entry (rw (found-name name slots slot e) (legal-some keyNameMost name t)) a
+may-export : (key : Key) → key .exportAllowed ≡ true → exportOf key ≡ success (message.exported (key .bytes)) unchanged
+unfolding exportOf
+may-export key a = rw a
 
--- ---- Verify
+may-not-export : (key : Key) → key .exportAllowed ≡ false → exportOf key ≡ refuse PsaErrorNotPermitted
+unfolding exportOf
+may-not-export key a = rw a
 
-module _ (hash signature : List ℕ) where
-  module _ (key : Key) where
-    pub not-verifying : key .verifyAllowed ≡ false → verifyWith hash signature (held key) ≡ refuse PsaErrorNotPermitted
+-- Verify looks at no more of a key
+by-verifier : (hash signature : List ℕ) (key : Key)
+    → verifyWith hash signature key ≡ verifyWith hash signature (verifier (key .verifyAllowed) (key .bytes) (key .bits))
+unfolding verifyWith
+by-verifier hash signature key = refl
+
+-- of the key that was found at a place by a legal name
+module _ (registry list : List ℕ) (line : Line) (name : List ℕ) (place : Place) (at : KeyAt registry list line name place)
+    (t : legalName keyNameMost name ≡ true) where
+  abbrev slots : List Entry
+  slots = slotsOf registry line
+
+  abbrev keys : List ListedKey
+  keys = keysIn list
+
+  pub own-destroyed : (slot : Slot) → place ≡ Own slot → performDestroy name slots keys ≡ success nothing (clear slot)
+  unfolding destroyOf
+  own-destroyed slot e =
+      let (key, q) = at-own registry list line name place at slot e t in
+      destroys slots keys name t (own slot key) q
+
+  pub listed-destroyed : (span : Span) → place ≡ Listed span → performDestroy name slots keys ≡ refuse PsaErrorNotPermitted
+  unfolding destroyOf
+  listed-destroyed span e = destroys slots keys name t (listed (listedAt name list span)) (at-listed registry list line name place at span e)
+
+  module _ (n : place ≡ Nowhere → ⊥) where
+    abbrev k : Key
+    k = keyAt registry list line place
+
+    abbrev found : Source
+    found = source registry list line name place at n t
+
+    alike : Alike k (keyFound found)
+    alike = at-alike registry list line name place at n t
+
+    exported-by : performExport name slots keys ≡ exportOf (keyFound found)
+    exported-by = exports slots keys name t found (at-source registry list line name place at n t)
+
+    pub exported : k .exportAllowed ≡ true → performExport name slots keys ≡ success (outputIn slots list (Data place)) unchanged
+    unfolding outputIn
+    exported a =
+        exported-by
+        ∙ may-export (keyFound found) (sym (alike .exportAllowed) ∙ a)
+        ∙ ap (λ (bytes : List ℕ). success (message.exported bytes) unchanged) (sym (alike .bytes) ∙ bytes-at registry list line place)
+
+    pub not-exported : k .exportAllowed ≡ false → performExport name slots keys ≡ refuse PsaErrorNotPermitted
+    not-exported a = exported-by ∙ may-not-export (keyFound found) (sym (alike .exportAllowed) ∙ a)
+
+    pub verified-by : (hash signature : List ℕ)
+        → performVerify name hash signature slots keys ≡ verifyWith hash signature (verifier (k .verifyAllowed) (k .bytes) (k .bits))
+    verified-by hash signature =
+        verifies slots keys name t found (at-source registry list line name place at n t) hash signature
+        ∙ by-verifier hash signature (keyFound found)
+        ∙ rw (← alike .verifyAllowed, ← alike .bytes, ← alike .bits) refl
+
+-- ---- Verify, with the key
+
+module _ (hash signature : List ℕ) (key : Key) where
+  pub not-verifying : key .verifyAllowed ≡ false → verifyWith hash signature key ≡ refuse PsaErrorNotPermitted
+  unfolding verifyWith
+  not-verifying a = rw a
+
+  module _ (a : key .verifyAllowed ≡ true) where
+    pub bad-hash : (length hash ≡ hashSize → ⊥) → verifyWith hash signature key ≡ refuse PsaErrorInvalidArgument
     unfolding verifyWith
-    not-verifying a = rw a
+    bad-hash h = rw (a, ne-eqb (length hash) hashSize h)
 
-    module _ (a : key .verifyAllowed ≡ true) where
-      pub bad-hash : (length hash ≡ hashSize → ⊥) → verifyWith hash signature (held key) ≡ refuse PsaErrorInvalidArgument
+    module _ (h : length hash ≡ hashSize) where
+      pub bad-bits : importBits (key .bits) ≡ false → verifyWith hash signature key ≡ refuse PsaErrorNotSupported
       unfolding verifyWith
-      bad-hash h = rw (a, ne-eqb (length hash) hashSize h)
+      bad-bits b = rw (a, eq-eqb (length hash) hashSize h, b)
 
-      pub verifying : length hash ≡ hashSize → verifyWith hash signature (held key) ≡ checked (verification (key .bytes) (key .bits) hash signature .outcome)
+      pub verifying : importBits (key .bits) ≡ true → verifyWith hash signature key ≡ checked (verification (key .bytes) (key .bits) hash signature .outcome)
       unfolding verifyWith
-      verifying h = rw (a, eq-eqb (length hash) hashSize h)
-
-  by-verifier : (entry : Entry) → 1 ≤ length (nameOf entry)
-      → verifyWith hash signature entry ≡ verifyWith hash signature (verifier (verifyIn entry) (bytesIn entry) (bitsIn entry))
-  unfolding verifyWith verifyIn bytesIn bitsIn
-  by-verifier free h = absurd (let z : ⊥ = omega arith in z)
-  by-verifier (held key) h = refl
-
-  module _ (slots : List Entry) (name : List ℕ) where
-    pub bad-verified : legalName keyNameMost name ≡ false → performVerify name hash signature slots ≡ refuse PsaErrorInvalidArgument
-    unfolding performVerify
-    bad-verified t = rw t
-
-    module _ (t : legalName keyNameMost name ≡ true) where
-      pub none-verified : slotNamed name slots ≡ Missing → performVerify name hash signature slots ≡ refuse PsaErrorDoesNotExist
-      unfolding performVerify
-      none-verified e = rw (t, e)
-
-      -- the slot holds a key, since its name is not empty
-      pub verified-by : (slot : Slot) → slotNamed name slots ≡ At slot
-          → (let entry = getD slots (slot .0) free in
-          performVerify name hash signature slots ≡ verifyWith hash signature (verifier (verifyIn entry) (bytesIn entry) (bitsIn entry)))
-      unfolding performVerify
-      verified-by slot e =
-          let entry : Entry = getD slots (slot .0) free in
-          let there : performVerify name hash signature slots ≡ verifyWith hash signature entry = rw (t, e) in
-          there ∙ by-verifier entry (rw (found-name name slots slot e) (legal-some keyNameMost name t))
+      verifying b = rw (a, eq-eqb (length hash) hashSize h, b)

@@ -50,7 +50,7 @@ result-allowed list r q = by-result list r q (λ x. Allowed (askersSlots r (appl
   listed = λ output h. stays;
   imported = λ slot key v n e. fills (importable-legal key v) n e;
   destroyed = λ slot name e. clears name e;
-  exported = λ slot key e. stays;
+  exported = λ source name e. stays;
 })
 
 -- of the registry r, and what it becomes
@@ -89,7 +89,7 @@ result-kept list r q = by-result list r q KeptUnlessServed (record {
   listed = λ output h n. refl;
   imported = λ slot key v n e h. absurd (h refl);
   destroyed = λ slot name e h. absurd (h refl);
-  exported = λ slot key e h. refl;
+  exported = λ source name e h. refl;
 })
 
 -- a request that is judged at its last byte

@@ -1,5 +1,6 @@
 pub mod PlacedLaws
 pub mod OutputLaws
+pub mod SourceLaws
 pub mod Results
 pub mod JudgementLaws
 pub mod NamesLaws

@@ -1,5 +1,5 @@
 -- Every response has at most 629 bytes, where the registry is well formed.
-use mathlib.Core.Path.{_≡_, refl, ap, subst}
+use mathlib.Core.Path.{_≡_, refl, ap}
 use mathlib.Core.Bool.{true}
 use mathlib.Core.Option.{Option, none, some}
 use mathlib.Core.List.{List, [], _∷_, _++_}
@@ -25,11 +25,13 @@ use Rattle.registry.specs.WellFormed.{wellFormedRegistry}
 use Rattle.registry.specs.declared.Line.{Line}
 use Rattle.registry.proofs.SlotLaws.{ShortEntry}
 use Rattle.registry.proofs.WellFormedLaws.{slots-short}
+use Rattle.lookup.specs.Lookup.{keyOf}
 use Rattle.judgement.specs.Status.{statusNumber}
 use Rattle.judgement.specs.Operations.{success, refuse}
 use Rattle.judgement.specs.Counts.{Counts}
 use Rattle.judgement.specs.Judgement.{applicationOf, askersSlots, resultOf, verdictOf, refusedEarly, judgement}
 use Rattle.judgement.specs.declared.Status.{Status}
+use Rattle.judgement.proofs.SourceLaws.{source-short}
 use Rattle.judgement.proofs.Results.{by-result}
 use Rattle.judgement.proofs.JudgementLaws.{asks, judge-good}
 
@@ -84,7 +86,8 @@ output-short list r w q = by-result list r q (λ x. length (outputBytes protobuf
   listed = λ output h. omega arith;
   imported = λ slot key v n e. omega (arith, ap length nothing-bytes);
   destroyed = λ slot name e. omega (arith, ap length nothing-bytes);
-  exported = λ slot key e. omega (arith, ap length (exported-bytes (key .bytes)), bytes-short (key .bytes) (subst ShortEntry e (slots-of-asker r w q (slot .0))));
+  exported = λ source name e.
+      omega (arith, ap length (exported-bytes (keyOf source .bytes)), bytes-short (keyOf source .bytes) (source-short name (askersSlots r (applicationOf r q)) list (slots-of-asker r w q) source e));
 })
 
 -- ---- one response

@@ -16,6 +16,7 @@ use Rattle.stream.specs.Rules.{Verdict, Judgement}
 use Rattle.registry.specs.Slots.{Entry}
 use Rattle.registry.specs.Registry.{applicationNamed, slotsOf, changed}
 use Rattle.registry.specs.declared.Line.{Line}
+use Rattle.shipped.specs.Shipped.{keysIn}
 use Rattle.judgement.specs.Status.{statusNumber}
 use Rattle.messages.specs.Opcodes.{coreOpcodes, keystoreOpcodes, opcodesOf}
 use Rattle.judgement.specs.Operations.{Result, refuse, operated}
@@ -65,7 +66,7 @@ askersSlots registry (some line) = slotsOf registry line
 unfoldable pub resultOf : (list registry : List ℕ) → Request → Result
 resultOf list registry q = elim (firstOf (refusals registry q)) [
   | some status ↦ refuse status
-  | none ↦ operated (q .opcode) (q .body) (askersSlots registry (applicationOf registry q))
+  | none ↦ operated (q .opcode) (q .body) (askersSlots registry (applicationOf registry q)) (keysIn list)
 ]
 
 -- ---- the judgement: a response, the registry and the counts after a request; the list of keys that we ship is a fixed input

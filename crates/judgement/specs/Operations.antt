@@ -1,9 +1,10 @@
--- "Operations and their fields": what each operation does with the slots of the application that asks, and what it answers.
+-- "Operations and their fields": what each operation does with the slots of the application that asks and with the keys that
+-- we ship, and what it answers.
 use Prim.Native.Nat.{ℕ}
 use mathlib.Core.Bool.{Bool, not}
 use mathlib.Core.Option.{none, some}
 use mathlib.Core.List.{List, [], _∷_}
-use lib.ListN.{length, getD}
+use lib.ListN.{length}
 use lib.Dec.{ltb, eqb}
 use Rattle.wire.specs.Choice.{if_then_else_}
 use Rattle.wire.specs.Lists.{every}
@@ -12,9 +13,11 @@ use Rattle.keys.specs.Key.{Key, legalData, importBits}
 use Rattle.messages.specs.Protobuf.{protobuf}
 use Rattle.messages.specs.Opcodes.{opcodesOf}
 use Rattle.messages.specs.Operations.{Operation, ping, listProviders, listOpcodes, importKey, destroyKey, exportPublicKey, verifySignature, operationOf, Output, nothing, version, providers, opcodes, exported}
-use Rattle.registry.specs.Slots.{Entry, free, held}
+use Rattle.registry.specs.Slots.{Entry}
 use Rattle.registry.specs.Registry.{slotNamed, Change, unchanged, fill, clear}
 use Rattle.registry.specs.declared.Found.the-variants.{At, Nothing}
+use Rattle.shipped.specs.Shipped.{ListedKey}
+use Rattle.lookup.specs.Lookup.{Source, own, listed, keyOf, keyNamed}
 use Rattle.rsa.specs.Signature.{verification}
 use Rattle.rsa.specs.declared.verify.Outcome.{Outcome}
 use Rattle.rsa.specs.declared.verify.Outcome.the-variants.{ValidSignature, InvalidSignature, InvalidKey}
@@ -41,39 +44,43 @@ performListOpcodes provider =
 unfoldable pub importable : Key → Bool
 importable key = every (legalName keyNameMost (key .name) ∷ legalData (key .bytes) ∷ importBits (key .bits) ∷ [])
 
--- out of bounds 1135, name held 1139, all slots in use 1142; the lowest-numbered free slot, which has the empty name, is filled
-unfoldable pub performImport : Key → (slots : List Entry) → Result
-performImport key slots =
+-- out of bounds 1135, a name that is held or listed 1139, all slots in use 1142; the lowest-numbered free slot, which has the
+-- empty name, is filled
+unfoldable pub performImport : Key → (slots : List Entry) (keys : List ListedKey) → Result
+performImport key slots keys =
     if not (importable key) then refuse PsaErrorInvalidArgument
-    else elim (slotNamed (key .name) slots) [
-      | At slot ↦ refuse PsaErrorAlreadyExists
-      | Nothing ↦ elim (slotNamed [] slots) [
+    else elim (keyNamed (key .name) slots keys) [
+      | some source ↦ refuse PsaErrorAlreadyExists
+      | none ↦ elim (slotNamed [] slots) [
         | Nothing ↦ refuse PsaErrorInsufficientStorage
         | At slot ↦ success nothing (fill slot key)
       ]
     ]
 
--- bad name 1135, none such 1140
-unfoldable pub performDestroy : (name : List ℕ) (slots : List Entry) → Result
-performDestroy name slots =
+-- an own key becomes free; one that we ship stays
+unfoldable pub destroyOf : Source → Result
+destroyOf (own slot key) = success nothing (clear slot)
+destroyOf (listed key) = refuse PsaErrorNotPermitted
+
+-- bad name 1135, none such 1140, a listed one 1133
+unfoldable pub performDestroy : (name : List ℕ) (slots : List Entry) (keys : List ListedKey) → Result
+performDestroy name slots keys =
     if not (legalName keyNameMost name) then refuse PsaErrorInvalidArgument
-    else elim (slotNamed name slots) [
-      | Nothing ↦ refuse PsaErrorDoesNotExist
-      | At slot ↦ success nothing (clear slot)
+    else elim (keyNamed name slots keys) [
+      | none ↦ refuse PsaErrorDoesNotExist
+      | some source ↦ destroyOf source
     ]
 
-unfoldable pub exportOf : Entry → Result
-exportOf free = refuse PsaErrorDoesNotExist
-exportOf (held key) =
-    if key .exportAllowed then success (exported (key .bytes)) unchanged else refuse PsaErrorNotPermitted
+unfoldable pub exportOf : Key → Result
+exportOf key = if key .exportAllowed then success (exported (key .bytes)) unchanged else refuse PsaErrorNotPermitted
 
 -- 1135, 1140, then 1133 if export isn't allowed
-unfoldable pub performExport : (name : List ℕ) (slots : List Entry) → Result
-performExport name slots =
+unfoldable pub performExport : (name : List ℕ) (slots : List Entry) (keys : List ListedKey) → Result
+performExport name slots keys =
     if not (legalName keyNameMost name) then refuse PsaErrorInvalidArgument
-    else elim (slotNamed name slots) [
-      | Nothing ↦ refuse PsaErrorDoesNotExist
-      | At slot ↦ exportOf (getD slots (slot .0) free)
+    else elim (keyNamed name slots keys) [
+      | none ↦ refuse PsaErrorDoesNotExist
+      | some source ↦ exportOf (keyOf source)
     ]
 
 abbrev pub hashSize : ℕ
@@ -85,34 +92,35 @@ checked ValidSignature = success nothing unchanged
 checked InvalidKey = refuse PsaErrorNotSupported
 checked InvalidSignature = refuse PsaErrorInvalidSignature
 
-unfoldable pub verifyWith : (hash signature : List ℕ) → Entry → Result
-verifyWith hash signature free = refuse PsaErrorDoesNotExist
-verifyWith hash signature (held key) =
+-- 1133 if verify isn't allowed, 1135 for a hash not of 32 bytes, 1134 for bits that Import would not take, then the check's
+unfoldable pub verifyWith : (hash signature : List ℕ) → Key → Result
+verifyWith hash signature key =
     if not (key .verifyAllowed) then refuse PsaErrorNotPermitted
     else if not (eqb (length hash) hashSize) then refuse PsaErrorInvalidArgument
+    else if not (importBits (key .bits)) then refuse PsaErrorNotSupported
     else checked (verification (key .bytes) (key .bits) hash signature .outcome)
 
--- 1135, 1140, then 1133 if verify isn't allowed, 1135 for a hash not of 32 bytes, 1134, 1149
-unfoldable pub performVerify : (name hash signature : List ℕ) (slots : List Entry) → Result
-performVerify name hash signature slots =
+-- 1135, 1140, then by the key
+unfoldable pub performVerify : (name hash signature : List ℕ) (slots : List Entry) (keys : List ListedKey) → Result
+performVerify name hash signature slots keys =
     if not (legalName keyNameMost name) then refuse PsaErrorInvalidArgument
-    else elim (slotNamed name slots) [
-      | Nothing ↦ refuse PsaErrorDoesNotExist
-      | At slot ↦ verifyWith hash signature (getD slots (slot .0) free)
+    else elim (keyNamed name slots keys) [
+      | none ↦ refuse PsaErrorDoesNotExist
+      | some source ↦ verifyWith hash signature (keyOf source)
     ]
 
-unfoldable pub perform : Operation → (slots : List Entry) → Result
-perform ping slots = success (version 1 0) unchanged  -- the wire protocol's version
-perform listProviders slots = success (providers (0 ∷ 1 ∷ [])) unchanged
-perform (listOpcodes provider) slots = performListOpcodes provider
-perform (importKey key) slots = performImport key slots
-perform (destroyKey name) slots = performDestroy name slots
-perform (exportPublicKey name) slots = performExport name slots
-perform (verifySignature name hash signature) slots = performVerify name hash signature slots
+unfoldable pub perform : Operation → (slots : List Entry) (keys : List ListedKey) → Result
+perform ping slots keys = success (version 1 0) unchanged  -- the wire protocol's version
+perform listProviders slots keys = success (providers (0 ∷ 1 ∷ [])) unchanged
+perform (listOpcodes provider) slots keys = performListOpcodes provider
+perform (importKey key) slots keys = performImport key slots keys
+perform (destroyKey name) slots keys = performDestroy name slots keys
+perform (exportPublicKey name) slots keys = performExport name slots keys
+perform (verifySignature name hash signature) slots keys = performVerify name hash signature slots keys
 
 -- body not readable: 7; then the operation's own
-unfoldable pub operated : (opcode : ℕ) (body : List ℕ) (slots : List Entry) → Result
-operated opcode body slots = elim (operationOf protobuf opcode body) [
+unfoldable pub operated : (opcode : ℕ) (body : List ℕ) (slots : List Entry) (keys : List ListedKey) → Result
+operated opcode body slots keys = elim (operationOf protobuf opcode body) [
   | none ↦ refuse DeserializingBodyFailed
-  | some operation ↦ perform operation slots
+  | some operation ↦ perform operation slots keys
 ]

@@ -1,5 +1,6 @@
 // How one request is judged: the order of tests, and what the seven operations come to ("Order of judgement on one request",
 // "Operations and their fields").
+use lookup::Place;
 use protobuf::message::Values;
 use registry::Line;
 use registry::Slot;
@@ -60,7 +61,7 @@ pub enum Output {
     Version,
     Providers,
     Opcodes(u32),
-    Data(Slot),
+    Data(Place),
 }
 
 // What becomes of the asker's slots.

@@ -8,6 +8,9 @@ use keys::DATA_MOST;
 use keys::KEY_NAME_MOST;
 use keys::bits::are_legal_bits;
 use keys::names::is_legal;
+use lookup::Place;
+use lookup::find::find_key;
+use lookup::key::is_exportable;
 use messages::opcodes::LIST_PROVIDERS;
 use messages::opcodes::PING;
 use messages::opcodes::PSA_ASYMMETRIC_VERIFY;
@@ -22,7 +25,6 @@ use protobuf::message::all_absent;
 use registry::Found;
 use registry::Line;
 use registry::find::find_slot;
-use registry::key::is_exportable;
 ghost use mathlib.Core.Bool.{true};
 ghost use mathlib.Core.List.{List};
 ghost use mathlib.Core.Path.{_≡_};
@@ -31,6 +33,7 @@ ghost use lib.ListN.{length};
 ghost use Rattle.protobuf.specs.code.Message as message;
 ghost use Rattle.registry.specs.Registry.{lineCount, registrySize, slotsOf};
 ghost use Rattle.registry.specs.WellFormed.{wellFormedRegistry};
+ghost use Rattle.shipped.specs.Shipped.{keysIn, wellFormedList};
 ghost use Rattle.judgement.specs.Operations.{operated, performImport, performDestroy, performExport, importable};
 ghost use Rattle.judgement.specs.code.Placed.{noFields, opcodesFields, importFields, nameFields, keyOf};
 ghost use Rattle.judgement.specs.code.Decided.{refusedWith, Decided, DecidedAnywhere, ValuesIn, oneOfCore, oneOfKeystore};
@@ -178,9 +181,9 @@ fn is_importable(body: &[u8], v: Values) -> bool
 }
 
 // Import, of the fields in its body.
-fn import(registry: &[u8], line: Line, body: &[u8], v: Values) -> Decision
-    requires { ⌜ (length (now registry) ≡ registrySize) × (line .0 < lineCount) × ValuesIn (length (now body)) v ⌝ }
-    ensures { λ r. ⌜ Decided (slotsOf (now (registry .entry)) line) (now (body .entry)) (performImport (keyOf (now (body .entry)) v) (slotsOf (now (registry .entry)) line)) r ⌝ }
+fn import(registry: &[u8], list: &[u8], line: Line, body: &[u8], v: Values) -> Decision
+    requires { ⌜ (length (now registry) ≡ registrySize) × (line .0 < lineCount) × (wellFormedList (now list) ≡ true) × ValuesIn (length (now body)) v ⌝ }
+    ensures { λ r. ⌜ Decided (slotsOf (now (registry .entry)) line) (now (list .entry)) (now (body .entry)) (performImport (keyOf (now (body .entry)) v) (slotsOf (now (registry .entry)) line) (keysIn (now (list .entry)))) r ⌝ }
 {
     if !is_importable(body, v) {
         return refused(Status::PsaErrorInvalidArgument);
@@ -188,8 +191,8 @@ fn import(registry: &[u8], line: Line, body: &[u8], v: Values) -> Decision
     let name = v.f1;
     let start = name.start;
     let end = start + name.len;
-    let same = find_slot(registry, line, &body[start..end]);
-    let Found::Nothing = same else {
+    let same = find_key(registry, list, line, &body[start..end]);
+    let Place::Nothing = same else {
         return refused(Status::PsaErrorAlreadyExists);
     };
     // The empty name: a free slot.
@@ -206,55 +209,63 @@ fn import(registry: &[u8], line: Line, body: &[u8], v: Values) -> Decision
 }
 
 // Destroy, of a name in its body.
-fn destroy(registry: &[u8], line: Line, name: &[u8]) -> Decision
-    requires { ⌜ (length (now registry) ≡ registrySize) × (line .0 < lineCount) ⌝ }
-    ensures { λ r. ⌜ ((body : List ℕ) → Decided (slotsOf (now (registry .entry)) line) body (performDestroy (now (name .entry)) (slotsOf (now (registry .entry)) line)) r) ⌝ }
+fn destroy(registry: &[u8], list: &[u8], line: Line, name: &[u8]) -> Decision
+    requires { ⌜ (length (now registry) ≡ registrySize) × (line .0 < lineCount) × (wellFormedList (now list) ≡ true) ⌝ }
+    ensures { λ r. ⌜ ((body : List ℕ) → Decided (slotsOf (now (registry .entry)) line) (now (list .entry)) body (performDestroy (now (name .entry)) (slotsOf (now (registry .entry)) line) (keysIn (now (list .entry)))) r) ⌝ }
 {
     if !is_legal(name, KEY_NAME_MOST) {
         return refused(Status::PsaErrorInvalidArgument);
     }
-    match find_slot(registry, line, name) {
-        Found::At(slot) => Decision {
+    match find_key(registry, list, line, name) {
+        Place::Own(slot) => Decision {
             status: Status::Success,
             output: Output::Nothing,
             edit: Edit::Clears(slot),
             values: all_absent(),
         },
-        Found::Nothing => refused(Status::PsaErrorDoesNotExist),
+        Place::Listed(_) => refused(Status::PsaErrorNotPermitted),
+        Place::Nothing => refused(Status::PsaErrorDoesNotExist),
     }
 }
 
 // Export, of a name in its body.
-fn export(registry: &[u8], line: Line, name: &[u8]) -> Decision
-    requires { ⌜ (wellFormedRegistry (now registry) ≡ true) × (line .0 < lineCount) ⌝ }
-    ensures { λ r. ⌜ ((body : List ℕ) → Decided (slotsOf (now (registry .entry)) line) body (performExport (now (name .entry)) (slotsOf (now (registry .entry)) line)) r) ⌝ }
+fn export(registry: &[u8], list: &[u8], line: Line, name: &[u8]) -> Decision
+    requires { ⌜ (wellFormedRegistry (now registry) ≡ true) × (line .0 < lineCount) × (wellFormedList (now list) ≡ true) ⌝ }
+    ensures { λ r. ⌜ ((body : List ℕ) → Decided (slotsOf (now (registry .entry)) line) (now (list .entry)) body (performExport (now (name .entry)) (slotsOf (now (registry .entry)) line) (keysIn (now (list .entry)))) r) ⌝ }
 {
     if !is_legal(name, KEY_NAME_MOST) {
         return refused(Status::PsaErrorInvalidArgument);
     }
-    let found = find_slot(registry, line, name);
-    let Found::At(slot) = found else {
+    let place = find_key(registry, list, line, name);
+    if let Place::Nothing = place {
         return refused(Status::PsaErrorDoesNotExist);
-    };
-    if !is_exportable(registry, line, slot) {
+    }
+    // An own key that may not be exported is not looked for in the list.
+    if !is_exportable(registry, list, line, place) {
         return refused(Status::PsaErrorNotPermitted);
     }
-    listed(Output::Data(slot))
+    listed(Output::Data(place))
 }
 
 // The keystore operations, for the application of a line.
-pub fn perform_keystore(opcode: u16, body: &[u8], registry: &[u8], line: Line) -> Decision
-    requires { ⌜ oneOfKeystore opcode × (wellFormedRegistry (now registry) ≡ true) × (line .0 < lineCount) ⌝ }
-    ensures { λ r. ⌜ Decided (slotsOf (now (registry .entry)) line) (now (body .entry)) (operated opcode (now (body .entry)) (slotsOf (now (registry .entry)) line)) r ⌝ }
+pub fn perform_keystore<'a>(
+    opcode: u16,
+    body: &[u8],
+    registry: &'a [u8],
+    list: &'a [u8],
+    line: Line,
+) -> Decision
+    requires { ⌜ oneOfKeystore opcode × (wellFormedRegistry (now registry) ≡ true) × (line .0 < lineCount) × (wellFormedList (now list) ≡ true) ⌝ }
+    ensures { λ r. ⌜ Decided (slotsOf (now (registry .entry)) line) (now (list .entry)) (now (body .entry)) (operated opcode (now (body .entry)) (slotsOf (now (registry .entry)) line) (keysIn (now (list .entry)))) r ⌝ }
 {
     if opcode == PSA_IMPORT_KEY {
         return match read_body(body, import_fields()) {
-            Body::Message(v) => import(registry, line, body, v),
+            Body::Message(v) => import(registry, list, line, body, v),
             Body::Unreadable(_) => refused(Status::DeserializingBodyFailed),
         };
     }
     if opcode == PSA_ASYMMETRIC_VERIFY {
-        return perform_verify(body, registry, line);
+        return perform_verify(body, registry, list, line);
     }
     match read_body(body, name_fields()) {
         Body::Message(v) => {
@@ -262,9 +273,9 @@ pub fn perform_keystore(opcode: u16, body: &[u8], registry: &[u8], line: Line) -
             let start = name.start;
             let end = start + name.len;
             if opcode == PSA_DESTROY_KEY {
-                return destroy(registry, line, &body[start..end]);
+                return destroy(registry, list, line, &body[start..end]);
             }
-            export(registry, line, &body[start..end])
+            export(registry, list, line, &body[start..end])
         }
         Body::Unreadable(_) => refused(Status::DeserializingBodyFailed),
     }

@@ -5,17 +5,18 @@ use crate::Status;
 use crate::operations::listed;
 use crate::operations::refused;
 use keys::KEY_NAME_MOST;
+use keys::bits::are_legal_bits;
 use keys::names::is_legal;
+use lookup::Place;
+use lookup::find::find_key;
+use lookup::key::is_verifiable;
+use lookup::key::key_bits;
+use lookup::key::key_bytes;
 use protobuf::body::Body;
 use protobuf::body::read_body;
 use protobuf::message::Kind;
 use protobuf::message::Schema;
-use registry::Found;
 use registry::Line;
-use registry::find::find_slot;
-use registry::key::is_verifiable;
-use registry::key::key_bits;
-use registry::key::key_data;
 use rsa::verify::Outcome;
 ghost use mathlib.Core.Bool.{true};
 ghost use mathlib.Core.List.{List};
@@ -24,6 +25,7 @@ ghost use Prim.Native.Nat.{ℕ, _<_};
 ghost use Rattle.registry.specs.Slots.{Entry};
 ghost use Rattle.registry.specs.Registry.{lineCount, slotsOf};
 ghost use Rattle.registry.specs.WellFormed.{wellFormedRegistry};
+ghost use Rattle.shipped.specs.Shipped.{keysIn, wellFormedList};
 ghost use Rattle.judgement.specs.Operations.{checked, verifyWith, performVerify, operated};
 ghost use Rattle.judgement.specs.code.Placed.{verifyFields};
 ghost use Rattle.judgement.specs.code.Decided.{Decided, verifier};
@@ -45,7 +47,7 @@ pub fn verify_fields() -> Schema
 
 // What a signature that was checked comes to.
 fn judge_outcome(outcome: Outcome) -> Decision
-    ensures { λ r. ⌜ ((slots : List Entry) (body : List ℕ) → Decided slots body (checked outcome) r) ⌝ }
+    ensures { λ r. ⌜ ((slots : List Entry) (list body : List ℕ) → Decided slots list body (checked outcome) r) ⌝ }
 {
     match outcome {
         Outcome::ValidSignature => listed(Output::Nothing),
@@ -62,7 +64,7 @@ pub fn verify_with(
     hash: &[u8],
     signature: &[u8],
 ) -> Decision
-    ensures { λ r. ⌜ ((slots : List Entry) (body : List ℕ) → Decided slots body (verifyWith (now (hash .entry)) (now (signature .entry)) (verifier allowed (now (key .entry)) bits)) r) ⌝ }
+    ensures { λ r. ⌜ ((slots : List Entry) (list body : List ℕ) → Decided slots list body (verifyWith (now (hash .entry)) (now (signature .entry)) (verifier allowed (now (key .entry)) bits)) r) ⌝ }
 {
     if !allowed {
         return refused(Status::PsaErrorNotPermitted);
@@ -70,33 +72,44 @@ pub fn verify_with(
     if hash.len() != HASH_SIZE {
         return refused(Status::PsaErrorInvalidArgument);
     }
+    // Import's own rule.
+    if !are_legal_bits(bits) {
+        return refused(Status::PsaErrorNotSupported);
+    }
     let verification = rsa::verify::verify(key, bits, hash, signature);
     let outcome = verification.outcome;
     judge_outcome(outcome)
 }
 
 // Verify, of a name, a hash and a signature in its body.
-fn verify(registry: &[u8], line: Line, name: &[u8], hash: &[u8], signature: &[u8]) -> Decision
-    requires { ⌜ (wellFormedRegistry (now registry) ≡ true) × (line .0 < lineCount) ⌝ }
-    ensures { λ r. ⌜ ((body : List ℕ) → Decided (slotsOf (now (registry .entry)) line) body (performVerify (now (name .entry)) (now (hash .entry)) (now (signature .entry)) (slotsOf (now (registry .entry)) line)) r) ⌝ }
+fn verify<'a>(
+    registry: &'a [u8],
+    list: &'a [u8],
+    line: Line,
+    name: &[u8],
+    hash: &[u8],
+    signature: &[u8],
+) -> Decision
+    requires { ⌜ (wellFormedRegistry (now registry) ≡ true) × (line .0 < lineCount) × (wellFormedList (now list) ≡ true) ⌝ }
+    ensures { λ r. ⌜ ((body : List ℕ) → Decided (slotsOf (now (registry .entry)) line) (now (list .entry)) body (performVerify (now (name .entry)) (now (hash .entry)) (now (signature .entry)) (slotsOf (now (registry .entry)) line) (keysIn (now (list .entry)))) r) ⌝ }
 {
     if !is_legal(name, KEY_NAME_MOST) {
         return refused(Status::PsaErrorInvalidArgument);
     }
-    let found = find_slot(registry, line, name);
-    let Found::At(slot) = found else {
+    let place = find_key(registry, list, line, name);
+    if let Place::Nothing = place {
         return refused(Status::PsaErrorDoesNotExist);
-    };
-    let allowed = is_verifiable(registry, line, slot);
-    let bits = key_bits(registry, line, slot);
-    let key = key_data(registry, line, slot);
+    }
+    let allowed = is_verifiable(registry, list, line, place);
+    let bits = key_bits(registry, list, line, place);
+    let key = key_bytes(registry, list, line, place);
     verify_with(allowed, key, bits, hash, signature)
 }
 
 // Verify, of its body.
-pub fn perform_verify(body: &[u8], registry: &[u8], line: Line) -> Decision
-    requires { ⌜ (wellFormedRegistry (now registry) ≡ true) × (line .0 < lineCount) ⌝ }
-    ensures { λ r. ⌜ Decided (slotsOf (now (registry .entry)) line) (now (body .entry)) (operated 5 (now (body .entry)) (slotsOf (now (registry .entry)) line)) r ⌝ }
+pub fn perform_verify<'a>(body: &[u8], registry: &'a [u8], list: &'a [u8], line: Line) -> Decision
+    requires { ⌜ (wellFormedRegistry (now registry) ≡ true) × (line .0 < lineCount) × (wellFormedList (now list) ≡ true) ⌝ }
+    ensures { λ r. ⌜ Decided (slotsOf (now (registry .entry)) line) (now (list .entry)) (now (body .entry)) (operated 5 (now (body .entry)) (slotsOf (now (registry .entry)) line) (keysIn (now (list .entry)))) r ⌝ }
 {
     match read_body(body, verify_fields()) {
         Body::Message(v) => {
@@ -109,7 +122,7 @@ pub fn perform_verify(body: &[u8], registry: &[u8], line: Line) -> Decision
             let d = c + hash.len;
             let e = signature.start;
             let f = e + signature.len;
-            verify(registry, line, &body[a..b], &body[c..d], &body[e..f])
+            verify(registry, list, line, &body[a..b], &body[c..d], &body[e..f])
         }
         Body::Unreadable(_) => refused(Status::DeserializingBodyFailed),
     }

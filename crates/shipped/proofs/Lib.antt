@@ -1,3 +1,4 @@
 pub mod PairLaws
 pub mod ListLaws
 pub mod MarkLaws
+pub mod LegalLaws

@@ -5,7 +5,7 @@ use mathlib.Core.Logic.{_⊎_}
 use mathlib.Core.Bool.{Bool, false, _&&_, not}
 use mathlib.Core.Option.{Option, none, some}
 use mathlib.Core.List.{List, [], _∷_, _++_}
-use lib.ListN.{length, getD}
+use lib.ListN.{length, take, drop, getD}
 use lib.Dec.{ltb, eqb}
 use Rattle.wire.specs.Choice.{if_then_else_}
 use Rattle.wire.specs.Lists.{oneOf}
@@ -13,14 +13,18 @@ use Rattle.wire.specs.declared.header.Header.{Header}
 use Rattle.protobuf.specs.code.Message.{allAbsent}
 use Rattle.protobuf.specs.declared.message.Value.{Value}
 use Rattle.protobuf.specs.declared.message.Values.{Values}
-use Rattle.keys.specs.Key.{dataMost, bitsMost}
+use Rattle.keys.specs.Key.{Key, dataMost, bitsMost}
 use Rattle.keys.specs.Names.{keyNameMost}
 use Rattle.messages.specs.Protobuf.{protobuf}
 use Rattle.messages.specs.Operations as message
-use Rattle.registry.specs.Slots.{Entry, free, held}
+use Rattle.registry.specs.Slots.{Entry, free}
 use Rattle.registry.specs.Registry.{lineCount, slotCount, Change, unchanged, fill, clear}
 use Rattle.registry.specs.code.Check.{keyFrom, bytesIn}
 use Rattle.registry.specs.declared.Line.{Line}
+use Rattle.shipped.specs.Shipped.{ListedKey, keysIn}
+use Rattle.lookup.specs.code.Places.{Within as PlaceWithin}
+use Rattle.lookup.specs.declared.Place.{Place}
+use Rattle.lookup.specs.declared.Place.the-variants.{Own, Listed, Nothing as Nowhere}
 use Rattle.messages.specs.Opcodes.{coreOpcodes, keystoreOpcodes, opcodesOf}
 use Rattle.judgement.specs.Operations.{Result}
 use Rattle.judgement.specs.code.Placed.{keyOf}
@@ -75,31 +79,37 @@ AskerBelow (Named line) = line .0 < lineCount
 
 -- ---- what an operation comes to
 
-unfoldable pub outputIn : (slots : List Entry) → Output → message.Output
-outputIn slots Nothing = message.nothing
-outputIn slots Version = message.version 1 0
-outputIn slots Providers = message.providers (0 ∷ 1 ∷ [])
-outputIn slots (Opcodes provider) = message.opcodes (opcodesOf provider)
-outputIn slots (Data slot) = message.exported (bytesIn (getD slots (slot .0) free))
+-- a key's data where it lies: in one of the slots, or in the list
+unfoldable pub bytesAt : (slots : List Entry) (list : List ℕ) → Place → List ℕ
+bytesAt slots list (Own slot) = bytesIn (getD slots (slot .0) free)
+bytesAt slots list (Listed span) = take (span .len) (drop (span .start) list)
+bytesAt slots list Nowhere = []
+
+unfoldable pub outputIn : (slots : List Entry) (list : List ℕ) → Output → message.Output
+outputIn slots list Nothing = message.nothing
+outputIn slots list Version = message.version 1 0
+outputIn slots list Providers = message.providers (0 ∷ 1 ∷ [])
+outputIn slots list (Opcodes provider) = message.opcodes (opcodesOf provider)
+outputIn slots list (Data place) = message.exported (bytesAt slots list place)
 
 -- the body of its response
-abbrev pub outputBytes : (slots : List Entry) → Output → List ℕ
-outputBytes slots output = message.outputBytes protobuf (outputIn slots output)
+abbrev pub outputBytes : (slots : List Entry) (list : List ℕ) → Output → List ℕ
+outputBytes slots list output = message.outputBytes protobuf (outputIn slots list output)
 
 unfoldable pub changeOf : (body : List ℕ) → Values → Edit → Change
 changeOf body v Stays = unchanged
 changeOf body v (Fills slot) = fill slot (keyOf body v)
 changeOf body v (Clears slot) = clear slot
 
-unfoldable pub resultIn : (slots : List Entry) (body : List ℕ) → Decision → Result
-resultIn slots body d = record { status = d .status; output = outputIn slots (d .output); change = changeOf body (d .values) (d .edit) }
+unfoldable pub resultIn : (slots : List Entry) (list body : List ℕ) → Decision → Result
+resultIn slots list body d = record { status = d .status; output = outputIn slots list (d .output); change = changeOf body (d .values) (d .edit) }
 
 abbrev pub refusedWith : Status → Decision
 refusedWith status = record { status = status; output = Nothing; edit = Stays; values = allAbsent }
 
 -- a key that was found, as far as Verify looks at it
-abbrev pub verifier : (allowed : Bool) (bytes : List ℕ) (bits : ℕ) → Entry
-verifier allowed bytes bits = held (keyFrom [] bytes bits false allowed)
+abbrev pub verifier : (allowed : Bool) (bytes : List ℕ) (bits : ℕ) → Key
+verifier allowed bytes bits = keyFrom [] bytes bits false allowed
 
 -- ---- what whoever carries a decision out may rely on
 
@@ -124,27 +134,27 @@ pub record KeyParts (n : ℕ) (v : Values) : Type 0 where
 abbrev pub outputMost : ℕ
 outputMost = dataMost + 20
 
-abbrev pub SafeOutput : Output → Type 0
-SafeOutput Nothing = Unit {0}
-SafeOutput Version = Unit {0}
-SafeOutput Providers = Unit {0}
-SafeOutput (Opcodes provider) = provider ≤ 1
-SafeOutput (Data slot) = slot .0 < slotCount
+abbrev pub SafeOutput : (list : List ℕ) → Output → Type 0
+SafeOutput list Nothing = Unit {0}
+SafeOutput list Version = Unit {0}
+SafeOutput list Providers = Unit {0}
+SafeOutput list (Opcodes provider) = provider ≤ 1
+SafeOutput list (Data place) = PlaceWithin list place × (length (bytesAt [] list place) ≤ dataMost)
 
 abbrev pub SafeEdit : (n : ℕ) → Values → Edit → Type 0
 SafeEdit n v Stays = Unit {0}
 SafeEdit n v (Fills slot) = (slot .0 < slotCount) × KeyParts n v
 SafeEdit n v (Clears slot) = slot .0 < slotCount
 
--- d is what x says, on these slots and this body
-pub record Decided (slots : List Entry) (body : List ℕ) (x : Result) (d : Decision) : Type 0 where
-  pub result : resultIn slots body d ≡ x
-  pub output : SafeOutput (d .output)
+-- d is what x says, on these slots, this list and this body
+pub record Decided (slots : List Entry) (list body : List ℕ) (x : Result) (d : Decision) : Type 0 where
+  pub result : resultIn slots list body d ≡ x
+  pub output : SafeOutput list (d .output)
   pub edit : SafeEdit (length body) (d .values) (d .edit)
 
--- whatever the slots are
-abbrev pub DecidedAnywhere : (body : List ℕ) (x : List Entry → Result) → Decision → Type 0
-DecidedAnywhere body x d = (slots : List Entry) → Decided slots body (x slots) d
+-- whatever the slots and the list are
+abbrev pub DecidedAnywhere : (body : List ℕ) (x : List Entry → List ListedKey → Result) → Decision → Type 0
+DecidedAnywhere body x d = (slots : List Entry) (list : List ℕ) → Decided slots list body (x slots (keysIn list)) d
 
 abbrev pub oneOfCore : (opcode : ℕ) → Type 0
 oneOfCore opcode = (opcode ≡ 1) ⊎ ((opcode ≡ 8) ⊎ (opcode ≡ 9))

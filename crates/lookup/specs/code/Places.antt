@@ -7,9 +7,10 @@ use mathlib.Core.List.{List, []}
 use lib.ListN.{length, take, drop, getD}
 use Rattle.keys.specs.Key.{Key}
 use Rattle.registry.specs.Slots.{Entry, free, held}
-use Rattle.registry.specs.Registry.{slotCount, slotsOf}
+use Rattle.registry.specs.Registry.{slotCount, slotsOf, slotNamed}
 use Rattle.registry.specs.declared.Line.{Line}
-use Rattle.shipped.specs.Shipped.{keysIn}
+use Rattle.registry.specs.declared.Found.the-variants.{At}
+use Rattle.shipped.specs.Shipped.{ListedKey, keysIn}
 use Rattle.shipped.specs.declared.Span.{Span}
 use Rattle.lookup.specs.Lookup.{shippedKey, Source, listed, ownIn, keyNamed}
 use Rattle.lookup.specs.declared.Place.{Place}
@@ -41,7 +42,14 @@ sourceAt registry list line name (Own slot) = ownIn slot (getD (slotsOf registry
 sourceAt registry list line name (Listed span) = some (listed (listedAt name list span))
 sourceAt registry list line name Nothing = none
 
+-- a slot was found by the name, so that it is free only for the empty one
+unfoldable pub SlotNamed : (registry : List ℕ) → Line → (name : List ℕ) → Place → Type 0
+SlotNamed registry line name (Own slot) = slotNamed name (slotsOf registry line) ≡ At slot
+SlotNamed registry line name (Listed span) = Unit {0}
+SlotNamed registry line name Nothing = Unit {0}
+
 -- the key with the name lies at the place
 pub record KeyAt (registry list : List ℕ) (line : Line) (name : List ℕ) (place : Place) : Type 0 where
   pub source : sourceAt registry list line name place ≡ keyNamed name (slotsOf registry line) (keysIn list)
   pub within : Within list place
+  pub slot : SlotNamed registry line name place

@@ -4,14 +4,14 @@ use mathlib.Core.Bool.{true}
 use borrow.Author.Needs.{needs}
 use borrow.Author.Tests.{not-true, not-false}
 use Rattle.keys.specs.Names.{legalName, keyNameMost}
-use Rattle.registry.proofs.RegistryLaws.{slot-below}
-use Rattle.judgement.specs.declared.Status.the-variants.{PsaErrorInvalidArgument, PsaErrorDoesNotExist}
-use Rattle.judgement.proofs.DecidedLaws.{refusal, clearing, bad-destroyed, none-destroyed, destroyed}
+use Rattle.judgement.specs.declared.Status.the-variants.{PsaErrorNotPermitted, PsaErrorInvalidArgument, PsaErrorDoesNotExist}
+use Rattle.judgement.proofs.SourceLaws.{at-none, at-below}
+use Rattle.judgement.proofs.DecidedLaws.{refusal, clearing, bad-destroyed, none-destroyed, own-destroyed, listed-destroyed}
 use Rattle.judgement.proofs.operations.destroy.Statement.{statement}
 use Rattle.judgement.proofs.operations.destroy.Tie as tie
 
 abbrev start : tie.Else1 → tie.Start
-start c = c .before .before .before .before
+start c = c .before .before .before .before .before
 
 legal : (c : tie.Else1) → legalName keyNameMost (start c .args .name .now) ≡ true
 legal c = sym (c .before .is-legal .ensures) ∙ not-false _ (c .if1 .left)
@@ -25,10 +25,10 @@ refused-requires c κs = search needs
 returns : tie.Need-returns
 returns c body =
     rw (c .refused .ensures)
-    (refusal _ body PsaErrorInvalidArgument (bad-destroyed _ _ (sym (c .before .before .is-legal .ensures) ∙ not-true _ (c .before .if1 .taken))))
+    (refusal _ _ body PsaErrorInvalidArgument (bad-destroyed _ _ _ (sym (c .before .before .is-legal .ensures) ∙ not-true _ (c .before .if1 .taken))))
 
-find-slot-requires : tie.Need-find-slot-requires
-find-slot-requires c κs = search needs
+find-key-requires : tie.Need-find-key-requires
+find-key-requires c κs = search needs
 
 enum-known-slot : tie.Need-enum-known-slot
 enum-known-slot c = search needs
@@ -42,19 +42,35 @@ enum-told c = search needs
 refused-requires-2 : tie.Need-refused-requires-2
 refused-requires-2 c κs = search needs
 
+enum-told-2 : tie.Need-enum-told-2
+enum-told-2 c = search needs
+
+refused-requires-3 : tie.Need-refused-requires-3
+refused-requires-3 c κs = search needs
+
+-- an own key
 returns-2 : tie.Need-returns-2
 returns-2 c body =
     let k = c .before .before in
     let f = k .before .before in
-    let s = start (f .before) in
-    let e = sym (f .find-slot .ensures) ∙ k .slot .given .1 in
-    clearing _ body _ _ (slot-below (s .args .registry .now) (s .args .line) _ _ e) (destroyed _ _ (legal (f .before)) _ e)
+    let s = start (f .before) .args in
+    clearing _ _ body _ _ (at-below (s .registry .now) (s .list .now) (s .line) (s .name .now) _ (f .find-key .ensures) _ (k .slot .given .1)) (own-destroyed (s .registry .now) (s .list .now) (s .line) (s .name .now) _ (f .find-key .ensures) (legal (f .before)) _ (k .slot .given .1))
 
+-- one that we ship
 returns-3 : tie.Need-returns-3
 returns-3 c body =
     let f = c .before .before .before in
+    let s = start (f .before) .args in
     rw (c .refused2 .ensures)
-    (refusal _ body PsaErrorDoesNotExist (none-destroyed _ _ (legal (f .before)) (sym (f .find-slot .ensures) ∙ c .before .enum-told .given .1)))
+    (refusal _ _ body PsaErrorNotPermitted (listed-destroyed (s .registry .now) (s .list .now) (s .line) (s .name .now) _ (f .find-key .ensures) (legal (f .before)) _ (c .before .enum-told .given .1)))
+
+returns-4 : tie.Need-returns-4
+returns-4 c body =
+    let f = c .before .before .before in
+    let s = start (f .before) .args in
+    rw (c .refused3 .ensures)
+    (refusal _ _ body PsaErrorDoesNotExist
+    (none-destroyed _ _ _ (legal (f .before)) (at-none (s .registry .now) (s .list .now) (s .line) (s .name .now) _ (f .find-key .ensures) (c .before .enum-told2 .given .1))))
 
 pub destroy-spec : {M : Type 1} → statement M
 destroy-spec =
@@ -63,10 +79,13 @@ destroy-spec =
     is-legal-requires
     refused-requires
     returns
-    find-slot-requires
+    find-key-requires
     enum-known-slot
     all-absent-requires
     enum-told
     refused-requires-2
+    enum-told-2
+    refused-requires-3
     returns-2
-    returns-3)
+    returns-3
+    returns-4)

@@ -1,7 +1,8 @@
 -- `judgement::operations::import` meets its contract.
 use Prim.Native.Nat.{ℕ, _+_, _-_}
-use mathlib.Core.Path.{_≡_, sym, ap, _∙_}
+use mathlib.Core.Path.{_≡_, sym, subst, _∙_}
 use mathlib.Core.Bool.{true}
+use mathlib.Core.Option.{none}
 use mathlib.Core.List.{List, []}
 use native.Mathlib.Omega.{arith}
 use borrow.Author.Needs.{needs}
@@ -9,20 +10,24 @@ use borrow.Author.Tests.{not-true, not-false}
 use lib.ListN.{take, drop}
 use Rattle.keys.specs.Key.{Key}
 use Rattle.registry.specs.Slots.{Entry}
-use Rattle.registry.specs.Registry.{slotsOf, slotNamed}
-use Rattle.registry.specs.declared.Found.the-variants.{Nothing}
+use Rattle.registry.specs.Registry.{slotsOf}
 use Rattle.registry.proofs.RegistryLaws.{slot-below}
+use Rattle.shipped.specs.Shipped.{keysIn}
+use Rattle.lookup.specs.Lookup.{keyNamed}
+use Rattle.lookup.specs.code.Places.{KeyAt}
 use Rattle.judgement.specs.Operations.{importable}
 use Rattle.judgement.specs.code.Placed.{keyOf}
 use Rattle.judgement.specs.declared.Status.the-variants.{PsaErrorInvalidArgument, PsaErrorAlreadyExists, PsaErrorInsufficientStorage}
-use Rattle.judgement.proofs.DecidedLaws.{refusal, filling, key-parts, bad-key, name-held, no-slot, imported}
+use Rattle.judgement.proofs.SourceLaws.{not-nowhere, at-none, at-source}
+use Rattle.judgement.proofs.Results.{importable-name}
+use Rattle.judgement.proofs.DecidedLaws.{refusal, filling, key-parts, bad-key, name-taken, no-slot, imported}
 use Rattle.judgement.proofs.operations.import.Statement.{statement}
 use Rattle.judgement.proofs.operations.import.Tie as tie
 
 abbrev start : tie.Else1 → tie.Start
-start c = c .before .before .before .before
+start c = c .before .before .before .before .before
 
-abbrev at-name : tie.After-find-slot → tie.Else1
+abbrev at-name : tie.After-find-key → tie.Else1
 at-name c = c .before .before .before .before
 
 abbrev key : tie.Start → Key
@@ -34,16 +39,20 @@ slots s = slotsOf (s .args .registry .now) (s .args .line)
 allowed : (c : tie.Else1) → importable (key (start c)) ≡ true
 allowed c = sym (c .before .is-importable .ensures) ∙ not-false _ (c .if1 .left)
 
--- the slot of that name
-same : (c : tie.After-find-slot) → (let s = start (at-name c) in slotNamed (key s .name) (slots s) ≡ c .find-slot .result)
+-- the place of the key of that name
+same : (c : tie.After-find-key)
+    → (let s = start (at-name c) in KeyAt (s .args .registry .now) (s .args .list .now) (s .args .line) (key s .name) (c .find-key .result))
 same c =
-    let s = start (at-name c) in
-    let v = s .args .v .f1 in
+    let s = start (at-name c) .args in
+    let v = s .v .f1 in
     let n : v .start + v .len - v .start ≡ v .len = omega arith in
-    sym (c .find-slot .ensures ∙ ap (λ (m : ℕ). slotNamed (take m (drop (v .start) (s .args .body .now))) (slots s)) n)
+    subst (λ (m : ℕ). KeyAt (s .registry .now) (s .list .now) (s .line) (take m (drop (v .start) (s .body .now))) (c .find-key .result)) n (c .find-key .ensures)
 
-new : (c : tie.After-enum-told) → (let s = start (at-name (c .before .before)) in slotNamed (key s .name) (slots s) ≡ Nothing)
-new c = same (c .before .before) ∙ c .enum-told .given .1
+new : (c : tie.After-enum-told)
+    → (let s = start (at-name (c .before .before)) in keyNamed (key s .name) (slots s) (keysIn (s .args .list .now)) ≡ none)
+new c =
+    let s = start (at-name (c .before .before)) in
+    at-none (s .args .registry .now) (s .args .list .now) (s .args .line) (key s .name) _ (same (c .before .before)) (c .enum-told .given .1)
 
 is-importable-requires : tie.Need-is-importable-requires
 is-importable-requires c κs = search needs
@@ -54,49 +63,51 @@ refused-requires c κs = search needs
 returns : tie.Need-returns
 returns c =
     rw (c .refused .ensures)
-    (refusal _ _ PsaErrorInvalidArgument (bad-key _ _ (sym (c .before .before .is-importable .ensures) ∙ not-true _ (c .before .if1 .taken))))
+    (refusal _ _ _ PsaErrorInvalidArgument (bad-key _ _ _ (sym (c .before .before .is-importable .ensures) ∙ not-true _ (c .before .if1 .taken))))
 
 add-end : tie.Need-add-end
 add-end c = search needs
 
-sub-find-slot : tie.Need-sub-find-slot
-sub-find-slot c = search needs
+sub-find-key : tie.Need-sub-find-key
+sub-find-key c = search needs
 
-part-find-slot-start : tie.Need-part-find-slot-start
-part-find-slot-start c = search needs
+part-find-key-start : tie.Need-part-find-key-start
+part-find-key-start c = search needs
 
-part-find-slot-end : tie.Need-part-find-slot-end
-part-find-slot-end c = search needs
+part-find-key-end : tie.Need-part-find-key-end
+part-find-key-end c = search needs
 
-find-slot-requires : tie.Need-find-slot-requires
-find-slot-requires c κs = search needs
+find-key-requires : tie.Need-find-key-requires
+find-key-requires c κs = search needs
 
 enum-told : tie.Need-enum-told
 enum-told c = search needs
-
-enum-told-2 : tie.Need-enum-told-2
-enum-told-2 c = search needs
 
 refused-requires-2 : tie.Need-refused-requires-2
 refused-requires-2 c κs = search needs
 
 returns-2 : tie.Need-returns-2
 returns-2 c =
-    let f = c .before .before .before in
+    let f = c .before .before in
+    let l = at-name f in
+    let s = start l in
+    let n = importable-name (key s) (allowed l) in
     rw (c .refused2 .ensures)
-    (refusal _ _ PsaErrorAlreadyExists (name-held _ _ (allowed (at-name f)) _ (same f ∙ c .before .enum-told2 .given .1)))
+    (refusal _ _ _ PsaErrorAlreadyExists
+    (name-taken _ _ _ (allowed l) _
+    (at-source (s .args .registry .now) (s .args .list .now) (s .args .line) (key s .name) _ (same f) (not-nowhere _ (c .before .match .keys2)) n)))
 
 slice-aggregate-find-slot : tie.Need-slice-aggregate-find-slot
 slice-aggregate-find-slot c = search needs
 
-find-slot-requires-2 : tie.Need-find-slot-requires-2
-find-slot-requires-2 c κs = search needs
+find-slot-requires : tie.Need-find-slot-requires
+find-slot-requires c κs = search needs
 
 enum-known-empty : tie.Need-enum-known-empty
 enum-known-empty c = search needs
 
-enum-told-3 : tie.Need-enum-told-3
-enum-told-3 c = search needs
+enum-told-2 : tie.Need-enum-told-2
+enum-told-2 c = search needs
 
 refused-requires-3 : tie.Need-refused-requires-3
 refused-requires-3 c κs = search needs
@@ -106,8 +117,8 @@ returns-3 c =
     let f = c .before .before .before in
     let n = f .before .before in
     rw (c .refused3 .ensures)
-    (refusal _ _ PsaErrorInsufficientStorage
-    (no-slot _ _ (allowed (at-name (n .before .before))) (new n) (sym (f .find-slot2 .ensures) ∙ c .before .enum-told3 .given .1)))
+    (refusal _ _ _ PsaErrorInsufficientStorage
+    (no-slot _ _ _ (allowed (at-name (n .before .before))) (new n) (sym (f .find-slot .ensures) ∙ c .before .enum-told2 .given .1)))
 
 returns-4 : tie.Need-returns-4
 returns-4 c =
@@ -116,10 +127,10 @@ returns-4 c =
     let n = f .before .before in
     let l = at-name (n .before .before) in
     let s = start l in
-    let e = sym (f .find-slot2 .ensures) ∙ k .empty .given .1 in
-    filling _ _ _ _ (slot-below (s .args .registry .now) (s .args .line) [] _ e)
-    (key-parts (s .args .body .now) (s .args .v) (s .pre .2) (allowed l))
-    (imported _ _ (allowed l) (new n) _ e)
+    let e = sym (f .find-slot .ensures) ∙ k .empty .given .1 in
+    filling _ _ _ _ _ (slot-below (s .args .registry .now) (s .args .line) [] _ e)
+    (key-parts (s .args .body .now) (s .args .v) (s .pre .3) (allowed l))
+    (imported _ _ _ (allowed l) (new n) _ e)
 
 pub import-spec : {M : Type 1} → statement M
 import-spec =
@@ -129,18 +140,17 @@ import-spec =
     refused-requires
     returns
     add-end
-    sub-find-slot
-    part-find-slot-start
-    part-find-slot-end
-    find-slot-requires
+    sub-find-key
+    part-find-key-start
+    part-find-key-end
+    find-key-requires
     enum-told
-    enum-told-2
     refused-requires-2
     returns-2
     slice-aggregate-find-slot
-    find-slot-requires-2
+    find-slot-requires
     enum-known-empty
-    enum-told-3
+    enum-told-2
     refused-requires-3
     returns-3
     returns-4)

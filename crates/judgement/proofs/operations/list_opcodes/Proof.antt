@@ -35,11 +35,11 @@ refused-requires c κs = search needs
 
 returns : tie.Need-returns
 unfolding placedOperation perform
-returns c slots =
+returns c slots list =
     let k = c .before .before .before .before in
     let e = body-read (k .before .before) ∙ k .v .given .1 in
     rw (c .refused .ensures)
-    (refusal slots _ ProviderDoesNotExist (readable slots _ 9 opcodesFields asked refl _ e ∙ opcodes-refused _ (c .before .if1 .taken)))
+    (refusal slots list _ ProviderDoesNotExist (readable slots list _ 9 opcodesFields asked refl _ e ∙ opcodes-refused _ (c .before .if1 .taken)))
 
 listed-requires : tie.Need-listed-requires
 listed-requires c κs = search needs
@@ -52,17 +52,17 @@ refused-requires-2 c κs = search needs
 
 returns-2 : tie.Need-returns-2
 unfolding placedOperation perform
-returns-2 c slots =
+returns-2 c slots list =
     let k = c .before .before .before .before in
     let e = body-read (k .before .before) ∙ k .v .given .1 in
     rw (c .listed .ensures)
-    (listing slots _ (Opcodes _) (c .before .if1 .left) (readable slots _ 9 opcodesFields asked refl _ e ∙ opcodes-listed slots _ (c .before .if1 .left)))
+    (listing slots list _ (Opcodes _) (c .before .if1 .left) (readable slots list _ 9 opcodesFields asked refl _ e ∙ opcodes-listed slots list _ (c .before .if1 .left)))
 
 returns-3 : tie.Need-returns-3
 unfolding placedOperation
-returns-3 c slots =
+returns-3 c slots list =
     let e = body-read (c .before .before .before) ∙ c .before .enum-told .given .1 in
-    rw (c .refused2 .ensures) (unreadable slots _ 9 opcodesFields asked refl _ e)
+    rw (c .refused2 .ensures) (unreadable slots list _ 9 opcodesFields asked refl _ e)
 
 pub list-opcodes-spec : {M : Type 1} → statement M
 list-opcodes-spec =

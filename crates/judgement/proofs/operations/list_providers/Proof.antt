@@ -37,15 +37,15 @@ refused-requires c κs = search needs
 
 returns : tie.Need-returns
 unfolding placedOperation perform outputIn
-returns c slots =
+returns c slots list =
     let e = body-read (c .before .before .before) ∙ c .before .enum-told .given .1 in
-    rw (c .listed .ensures) (listing slots _ Providers tt (readable slots _ 8 noFields (λ v. listProviders) refl _ e))
+    rw (c .listed .ensures) (listing slots list _ Providers tt (readable slots list _ 8 noFields (λ v. listProviders) refl _ e))
 
 returns-2 : tie.Need-returns-2
 unfolding placedOperation
-returns-2 c slots =
+returns-2 c slots list =
     let e = body-read (c .before .before .before) ∙ c .before .enum-told2 .given .1 in
-    rw (c .refused .ensures) (unreadable slots _ 8 noFields (λ v. listProviders) refl _ e)
+    rw (c .refused .ensures) (unreadable slots list _ 8 noFields (λ v. listProviders) refl _ e)
 
 pub list-providers-spec : {M : Type 1} → statement M
 list-providers-spec =

@@ -26,7 +26,7 @@ bytes s = s .args .body .now
 -- ---- Import
 
 abbrev start1 : tie.After-read-body → tie.Start
-start1 c = c .before .before .before .before .before
+start1 c = c .before .before .before .before .before .before
 
 body-read1 : (c : tie.After-read-body) → bodyOf importFields (bytes (start1 c)) ≡ c .read-body .result
 body-read1 c = sym (c .read-body .ensures ∙ ap (λ (k : Schema). bodyOf k (bytes (start1 c))) (c .before .import-fields .ensures))
@@ -46,7 +46,7 @@ enum-known-v c = search needs
 import-requires : tie.Need-import-requires
 import-requires c κs =
     let s = start1 (c .before .before .before) in
-    (good-of (s .args .registry .now) (s .pre .1) .size, s .pre .2, values-in importFields (bytes s) _ (message1 (c .before)))
+    (good-of (s .args .registry .now) (s .pre .1) .size, s .pre .2, s .pre .3, values-in importFields (bytes s) _ (message1 (c .before)))
 
 enum-told : tie.Need-enum-told
 enum-told c = search needs
@@ -60,7 +60,7 @@ returns c =
     let k = c .before .before in
     let r = k .before .before in
     let s = start1 r in
-    rw (r .before .before .if1 .taken, readable (slotsOf (s .args .registry .now) (s .args .line)) (bytes s) 6 importFields (λ v. importKey (keyOf (bytes s) v)) refl _ (message1 k))
+    rw (r .before .before .if1 .taken, readable (slotsOf (s .args .registry .now) (s .args .line)) (s .args .list .now) (bytes s) 6 importFields (λ v. importKey (keyOf (bytes s) v)) refl _ (message1 k))
     (c .import .ensures)
 
 returns-2 : tie.Need-returns-2
@@ -69,7 +69,7 @@ returns-2 c =
     let r = c .before .before .before in
     let s = start1 r in
     let e = body-read1 r ∙ c .before .enum-told .given .1 in
-    rw (c .refused .ensures, r .before .before .if1 .taken) (unreadable _ (bytes s) 6 importFields (λ v. importKey (keyOf (bytes s) v)) refl _ e)
+    rw (c .refused .ensures, r .before .before .if1 .taken) (unreadable _ _ (bytes s) 6 importFields (λ v. importKey (keyOf (bytes s) v)) refl _ e)
 
 -- ---- Verify
 
@@ -82,7 +82,7 @@ returns-3 c = rw (c .before .if2 .taken) (c .perform-verify .ensures)
 -- ---- Destroy and Export
 
 abbrev start2 : tie.After-read-body2 → tie.Start
-start2 c = c .before .before .before .before .before .before
+start2 c = c .before .before .before .before .before .before .before
 
 body-read2 : (c : tie.After-read-body2) → bodyOf nameFields (bytes (start2 c)) ≡ c .read-body2 .result
 body-read2 c = sym (c .read-body2 .ensures ∙ ap (λ (k : Schema). bodyOf k (bytes (start2 c))) (c .before .name-fields .ensures))
@@ -106,7 +106,9 @@ enum-known-v-2 : tie.Need-enum-known-v-2
 enum-known-v-2 c = search needs
 
 add-end : tie.Need-add-end
-add-end c = omega (arith, inside (at-v c) .name)
+add-end c =
+    let s = start2 (at-v c .before .before) in
+    omega (arith, inside (at-v c) .name, s .good)
 
 sub-destroy : tie.Need-sub-destroy
 sub-destroy c = search needs
@@ -120,7 +122,7 @@ part-destroy-end c = omega (arith, inside (at-v (c .before)) .name)
 destroy-requires : tie.Need-destroy-requires
 destroy-requires c κs =
     let s = start2 (at-v (c .before .before) .before .before) in
-    (good-of (s .args .registry .now) (s .pre .1) .size, s .pre .2)
+    (good-of (s .args .registry .now) (s .pre .1) .size, s .pre .2, s .pre .3)
 
 -- the part that is lent is the name
 name-part : (v : Values) (body : List ℕ) → take (v .f1 .start + v .f1 .len - v .f1 .start) (drop (v .f1 .start) body) ≡ bytesOf body (v .f1)
@@ -134,7 +136,7 @@ returns-4 c =
     let k = at-v (c .before .before .before) in
     let s = start2 (k .before .before) in
     let x = slotsOf (s .args .registry .now) (s .args .line) in
-    rw (c .before .before .if3 .taken, readable x (bytes s) 3 nameFields (λ v. destroyKey (bytesOf (bytes s) (v .f1))) refl _ (message2 k), ← name-part (k .v2 .given .0 .0) (bytes s))
+    rw (c .before .before .if3 .taken, readable x (s .args .list .now) (bytes s) 3 nameFields (λ v. destroyKey (bytesOf (bytes s) (v .f1))) refl _ (message2 k), ← name-part (k .v2 .given .0 .0) (bytes s))
     (c .destroy .ensures (bytes s))
 
 sub-export : tie.Need-sub-export
@@ -170,7 +172,7 @@ returns-5 c =
     let k = at-v (c .before .before .before) in
     let s = start2 (k .before .before) in
     let x = slotsOf (s .args .registry .now) (s .args .line) in
-    rw (seven (c .before .before), readable x (bytes s) 7 nameFields (λ v. exportPublicKey (bytesOf (bytes s) (v .f1))) refl _ (message2 k), ← name-part (k .v2 .given .0 .0) (bytes s))
+    rw (seven (c .before .before), readable x (s .args .list .now) (bytes s) 7 nameFields (λ v. exportPublicKey (bytesOf (bytes s) (v .f1))) refl _ (message2 k), ← name-part (k .v2 .given .0 .0) (bytes s))
     (c .export .ensures (bytes s))
 
 returns-6 : tie.Need-returns-6
@@ -179,8 +181,8 @@ returns-6 c =
     let r = c .before .before .before in
     let s = start2 r in
     let e = body-read2 r ∙ c .before .enum-told2 .given .1 in
-    ⊎-elim (λ (o : s .args .opcode ≡ 3). rw (c .refused2 .ensures, o) (unreadable _ (bytes s) 3 nameFields (λ v. destroyKey (bytesOf (bytes s) (v .f1))) refl _ e))
-    (λ (o : s .args .opcode ≡ 7). rw (c .refused2 .ensures, o) (unreadable _ (bytes s) 7 nameFields (λ v. exportPublicKey (bytesOf (bytes s) (v .f1))) refl _ e))
+    ⊎-elim (λ (o : s .args .opcode ≡ 3). rw (c .refused2 .ensures, o) (unreadable _ _ (bytes s) 3 nameFields (λ v. destroyKey (bytesOf (bytes s) (v .f1))) refl _ e))
+    (λ (o : s .args .opcode ≡ 7). rw (c .refused2 .ensures, o) (unreadable _ _ (bytes s) 7 nameFields (λ v. exportPublicKey (bytesOf (bytes s) (v .f1))) refl _ e))
     (left r)
 
 pub perform-keystore-spec : {M : Type 1} → statement M

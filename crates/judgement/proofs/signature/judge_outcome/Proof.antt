@@ -29,15 +29,15 @@ refused-requires-2 c κs = search needs
 
 returns : tie.Need-returns
 unfolding checked outputIn
-returns c slots body = rw (c .listed .ensures, c .before .enum-told .given .1) (listing slots body Nothing tt refl)
+returns c slots list body = rw (c .listed .ensures, c .before .enum-told .given .1) (listing slots list body Nothing tt refl)
 
 returns-2 : tie.Need-returns-2
 unfolding checked
-returns-2 c slots body = rw (c .refused .ensures, c .before .enum-told2 .given .1) (refusal slots body PsaErrorNotSupported refl)
+returns-2 c slots list body = rw (c .refused .ensures, c .before .enum-told2 .given .1) (refusal slots list body PsaErrorNotSupported refl)
 
 returns-3 : tie.Need-returns-3
 unfolding checked
-returns-3 c slots body = rw (c .refused2 .ensures, c .before .enum-told3 .given .1) (refusal slots body PsaErrorInvalidSignature refl)
+returns-3 c slots list body = rw (c .refused2 .ensures, c .before .enum-told3 .given .1) (refusal slots list body PsaErrorInvalidSignature refl)
 
 pub judge-outcome-spec : {M : Type 1} → statement M
 judge-outcome-spec =

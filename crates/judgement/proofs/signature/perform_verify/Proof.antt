@@ -23,7 +23,7 @@ abbrev bytes : tie.Start → List ℕ
 bytes s = s .args .body .now
 
 abbrev start : tie.After-read-body → tie.Start
-start c = c .before .before .before .before
+start c = c .before .before .before .before .before
 
 body-read : (c : tie.After-read-body) → bodyOf verifyFields (bytes (start c)) ≡ c .read-body .result
 body-read c = sym (c .read-body .ensures ∙ ap (λ (k : Schema). bodyOf k (bytes (start c))) (c .before .verify-fields .ensures))
@@ -100,14 +100,14 @@ unfolding placedOperation perform
 returns c =
     let k = at-v (c .before .before .before .before) in
     let s = start (k .before .before) in
-    rw (readable (slotsOf (s .args .registry .now) (s .args .line)) (bytes s) 5 verifyFields (asked (bytes s)) refl _ (message k))
+    rw (readable (slotsOf (s .args .registry .now) (s .args .line)) (s .args .list .now) (bytes s) 5 verifyFields (asked (bytes s)) refl _ (message k))
     (simp add-sub-cancel-left at (c .verify .ensures (bytes s)))
 
 returns-2 : tie.Need-returns-2
 unfolding placedOperation
 returns-2 c =
     let r = c .before .before .before in
-    rw (c .refused .ensures) (unreadable _ (bytes (start r)) 5 verifyFields (asked (bytes (start r))) refl _ (body-read r ∙ c .before .enum-told .given .1))
+    rw (c .refused .ensures) (unreadable _ _ (bytes (start r)) 5 verifyFields (asked (bytes (start r))) refl _ (body-read r ∙ c .before .enum-told .given .1))
 
 pub perform-verify-spec : {M : Type 1} → statement M
 perform-verify-spec =

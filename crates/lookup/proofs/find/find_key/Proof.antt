@@ -1,14 +1,16 @@
 -- `lookup::find::find_key` meets its contract.
-use mathlib.Core.Path.{_≡_, sym, _∙_, subst}
+use mathlib.Core.Path.{_≡_, sym, ap, _∙_, subst}
 use mathlib.Core.List.{List}
 use borrow.Author.Needs.{needs}
 use Rattle.registry.specs.Slots.{Entry}
-use Rattle.registry.specs.Registry.{slotsOf}
+use Rattle.registry.specs.Registry.{slotsOf, slotNamed}
+use Rattle.registry.specs.declared.Found.the-variants as found
 use Rattle.registry.proofs.RegistryLaws.{slot-below}
 use Rattle.shipped.specs.Shipped.{keysIn, listedNamed}
 use Rattle.shipped.specs.code.Pairs.{placeEnd, Finds}
+use Rattle.shipped.specs.declared.Listed.{Listed}
 use Rattle.lookup.specs.Lookup.{listedIn, keyNamed}
-use Rattle.lookup.specs.code.Places.{Within, sourceAt}
+use Rattle.lookup.specs.code.Places.{Within, sourceAt, SlotNamed}
 use Rattle.lookup.proofs.LookupLaws.{own-named, none-own, listed-there, listed-nowhere}
 use Rattle.lookup.proofs.find.find_key.Statement.{statement}
 use Rattle.lookup.proofs.find.find_key.Tie as tie
@@ -20,7 +22,7 @@ enum-known-found : tie.Need-enum-known-found
 enum-known-found c = search needs
 
 returns : tie.Need-returns
-unfolding sourceAt Within
+unfolding sourceAt Within SlotNamed
 returns c =
     let f = c .before .before .before in
     let s = f .before .before .before .before .args in
@@ -29,6 +31,7 @@ returns c =
     record {
       source = sym (own-named (s .name .now) slots (keysIn (s .list .now)) _ e);
       within = slot-below (s .registry .now) (s .line) _ _ e;
+      slot = e;
     }
 
 enum-told : tie.Need-enum-told
@@ -49,7 +52,7 @@ enum-known-listed : tie.Need-enum-known-listed
 enum-known-listed c = search needs
 
 returns-2 : tie.Need-returns-2
-unfolding sourceAt Within placeEnd
+unfolding sourceAt Within SlotNamed placeEnd
 returns-2 c =
     let f = c .before .before .before in
     let s = f .before .before .before .before .before .before .before .args in
@@ -57,13 +60,14 @@ returns-2 c =
     record {
       source = sym (not-own f ∙ listed-there (s .list .now) (s .name .now) _ finds);
       within = finds .within;
+      slot = tt;
     }
 
 enum-told-2 : tie.Need-enum-told-2
 enum-told-2 c = search needs
 
 returns-3 : tie.Need-returns-3
-unfolding sourceAt Within
+unfolding sourceAt Within SlotNamed
 returns-3 c =
     let f = c .before .before in
     let s = f .before .before .before .before .before .before .before .args in
@@ -71,6 +75,7 @@ returns-3 c =
     record {
       source = sym (not-own f ∙ listed-nowhere (s .list .now) (s .name .now) finds);
       within = tt;
+      slot = tt;
     }
 
 pub find-key-spec : {M : Type 1} → statement M
