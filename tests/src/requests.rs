@@ -100,13 +100,13 @@ fn some_request(random: &mut Random, application: &Application) -> Vec<u8> {
 
 /// A request with a header that is good, a body that most often is, and any session and good H.
 fn whole_request(random: &mut Random, application: &Application) -> Vec<u8> {
-    let opcode = match random.below(24) {
+    let opcode = match random.below(27) {
         0 | 1 => PING,
         2 => LIST_PROVIDERS,
         3 | 4 => LIST_OPCODES,
-        5..13 => IMPORT,
-        13..17 => EXPORT,
-        17..21 => VERIFY,
+        5..16 => IMPORT,
+        16..20 => EXPORT,
+        20..24 => VERIFY,
         _ => DESTROY,
     };
     let body = match random.below(10) {

@@ -124,7 +124,7 @@ fn count_lines(outcomes: &mut Outcomes, bill: &str) {
 fn generated_files_are_billed_alike() {
     let folder = folder("generated");
     let mut outcomes = Outcomes::default();
-    for_seeds(600, |random| {
+    for_seeds(900, |random| {
         let files = some_files(random);
         assert_same_bill(&folder, &files);
         let stream = files.requests.concat();
