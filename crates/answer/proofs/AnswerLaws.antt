@@ -27,6 +27,7 @@ use Rattle.protobuf.specs.declared.body.Body.the-variants.{Message, Unreadable}
 use Rattle.registry.specs.Slots.{Entry}
 use Rattle.registry.specs.Registry.{applicationNamed, slotsOf, changed}
 use Rattle.registry.specs.declared.Line.{Line}
+use Rattle.shipped.specs.Shipped.{ListedKey, keysIn}
 use Rattle.judgement.specs.Status.{statusNumber}
 use Rattle.messages.specs.Opcodes.{opcodesOf}
 use Rattle.messages.specs.Operations.{Operation, ping, listProviders, listOpcodes}
@@ -81,20 +82,20 @@ module _ (h : Header) (passed : PassedHeader h) where
 -- ---- the operation
 
 -- a core operation does not look at the slots
-module _ (opcode : ℕ) (body : List ℕ) (a b : List Entry) where
+module _ (opcode : ℕ) (body : List ℕ) (keys : List ListedKey) (a b : List Entry) where
   by-body :
       (fields : Schema) (f : Values → Operation) →
       placedOperation opcode body ≡ readBody fields body f →
-      ((v : Values) → perform (f v) a ≡ perform (f v) b) →
-      operated opcode body a ≡ operated opcode body b
+      ((v : Values) → perform (f v) a keys ≡ perform (f v) b keys) →
+      operated opcode body a keys ≡ operated opcode body b keys
   unfolding operated readBody
   by-body fields f e s = go (bodyOf fields body) refl
     where
-      go : (r : Body) → bodyOf fields body ≡ r → operated opcode body a ≡ operated opcode body b
+      go : (r : Body) → bodyOf fields body ≡ r → operated opcode body a keys ≡ operated opcode body b keys
       go (Message v) p = rw (operation-placed opcode body ∙ e, p, operated) (s v)
       go (Unreadable at) p = rw (operation-placed opcode body ∙ e, p, operated)
 
-  pub core-anywhere : oneOfCore opcode → operated opcode body a ≡ operated opcode body b
+  pub core-anywhere : oneOfCore opcode → operated opcode body a keys ≡ operated opcode body b keys
   unfolding placedOperation perform
   core-anywhere (inl e) = by-body noFields (λ v. ping) (rw e) (λ v. refl)
   core-anywhere (inr (inl e)) = by-body noFields (λ v. listProviders) (rw e) (λ v. refl)
@@ -164,7 +165,7 @@ module _ (list registry bytes : List ℕ) where
 
     operated-result : firstOf (authTests registry (requestOf bytes)) ≡ none
         → resultOf list registry (requestOf bytes)
-        ≡ operated (requestOf bytes .opcode) (requestOf bytes .body) (askersSlots registry (applicationOf registry (requestOf bytes)))
+        ≡ operated (requestOf bytes .opcode) (requestOf bytes .body) (askersSlots registry (applicationOf registry (requestOf bytes))) (keysIn list)
     unfolding resultOf
     operated-result e = rw (later-tests ∙ e, resultOf)
 
@@ -176,7 +177,7 @@ module _ (list registry bytes : List ℕ) where
     auth-refused e = refused-result AuthenticationError (later-tests ∙ subst (ToldBy registry (requestOf bytes)) e told-found)
 
     pub by-nobody : authFound registry bytes ≡ Accepted Nobody
-        → (applicationOf registry (requestOf bytes) ≡ none) × (resultOf list registry (requestOf bytes) ≡ resultForNobody (headerOf bytes) (requestOf bytes .body))
+        → (applicationOf registry (requestOf bytes) ≡ none) × (resultOf list registry (requestOf bytes) ≡ resultForNobody (headerOf bytes) (requestOf bytes .body) list)
     unfolding resultForNobody headerOf askersSlots
     by-nobody e =
         let t : Told registry (requestOf bytes) none _ = subst (ToldBy registry (requestOf bytes)) e told-found in
@@ -185,13 +186,13 @@ module _ (list registry bytes : List ℕ) where
         go :
             Told registry (requestOf bytes) none (if eqb (requestOf bytes .provider) 1 then some NotAuthenticated else none) →
             (b : Bool) → eqb (requestOf bytes .provider) 1 ≡ b →
-            resultOf list registry (requestOf bytes) ≡ resultForNobody (headerOf bytes) (requestOf bytes .body)
+            resultOf list registry (requestOf bytes) ≡ resultForNobody (headerOf bytes) (requestOf bytes .body) list
         go t true p = rw p (refused-result NotAuthenticated (later-tests ∙ rw p at (t .first)))
         go t false p = rw p (rw (t .asks) at (operated-result (rw p at (t .first))))
 
     pub by-application : (line : Line) → authFound registry bytes ≡ Accepted (Named line)
         → (applicationOf registry (requestOf bytes) ≡ some line)
-        × (resultOf list registry (requestOf bytes) ≡ operated (requestOf bytes .opcode) (requestOf bytes .body) (slotsOf registry line))
+        × (resultOf list registry (requestOf bytes) ≡ operated (requestOf bytes .opcode) (requestOf bytes .body) (slotsOf registry line) (keysIn list))
     unfolding askersSlots
     by-application line e =
         let t : Told registry (requestOf bytes) (some line) none = subst (ToldBy registry (requestOf bytes)) e told-found in
@@ -215,9 +216,9 @@ module _ (request : List ℕ) where
 -- ---- an operation that was carried out
 
 -- its response was written: `n` bytes
-pub decided-answered : {slots : List Entry} {body : List ℕ} {x : Result} {d : Decision} {before after : List ℕ} {n : ℕ} (h : Header) (who : Asker)
-    → Decided slots body x d
-    → Wrote (responseBytes (h .provider) (h .session) (h .opcode) (statusNumber (d .status)) (outputBytes slots (d .output))) before after n
+pub decided-answered : {slots : List Entry} {list body : List ℕ} {x : Result} {d : Decision} {before after : List ℕ} {n : ℕ} (h : Header) (who : Asker)
+    → Decided slots list body x d
+    → Wrote (responseBytes (h .provider) (h .session) (h .opcode) (statusNumber (d .status)) (outputBytes slots list (d .output))) before after n
     → ResultAnswered h x who before after (record { status = d .status; asker = who; written = n })
 unfolding resultIn
 decided-answered h who e w = record { status = rw (← e .result); asker = refl; response = rw (← e .result) w }

@@ -18,6 +18,12 @@ use Rattle.registry.specs.code.Check.{bytesIn}
 use Rattle.registry.specs.declared.Line.{Line}
 use Rattle.registry.proofs.SlotLaws.{ShortEntry}
 use Rattle.registry.proofs.WellFormedLaws.{slots-short}
+use Rattle.lookup.specs.code.Places.{keyAt}
+use Rattle.lookup.specs.declared.Place.{Place}
+use Rattle.lookup.specs.declared.Place.the-variants.{Own, Listed, Nothing as Nowhere}
+use Rattle.judgement.specs.code.Decided.{bytesAt, SafeOutput}
+use Rattle.judgement.specs.declared.Output.the-variants.{Data}
+use Rattle.judgement.proofs.SourceLaws.{bytes-at}
 
 header-length : (provider session size opcode status : ℕ) → length (responseHeader provider session size opcode status) ≡ 26
 unfolding responseHeader littleEndianOf
@@ -32,12 +38,17 @@ response-on provider session opcode status l k {body} x y =
     let n : k ≡ 26 = x .count ∙ header-length provider session (length body) opcode status in
     rw n (wrote-on (rw n at x) y)
 
--- the data of a key is short
-pub data-short : (r : List ℕ) → wellFormedRegistry r ≡ true → (line : Line) → line .0 < lineCount → (k : ℕ)
-    → length (bytesIn (getD (slotsOf r line) k free)) ≤ dataMost
-unfolding bytesIn
-data-short r w line h k = go (getD (slotsOf r line) k free) (slots-short r w line h k)
+-- the data of a key is short, wherever it lies
+pub data-short : (r list : List ℕ) → wellFormedRegistry r ≡ true → (line : Line) → line .0 < lineCount → (place : Place) → SafeOutput list (Data place)
+    → length (keyAt r list line place .bytes) ≤ dataMost
+unfolding bytesIn bytesAt
+data-short r list w line h place safe = rw (bytes-at r list line place) (go place safe)
   where
-    go : (e : Entry) → ShortEntry e → length (bytesIn e) ≤ dataMost
-    go free s = omega arith
-    go (held key) s = s
+    by-entry : (e : Entry) → ShortEntry e → length (bytesIn e) ≤ dataMost
+    by-entry free s = omega arith
+    by-entry (held key) s = s
+
+    go : (p : Place) → SafeOutput list (Data p) → length (bytesAt (slotsOf r line) list p) ≤ dataMost
+    go (Own slot) s = by-entry (getD (slotsOf r line) (slot .0) free) (slots-short r w line h (slot .0))
+    go (Listed span) s = s .1
+    go Nowhere s = omega arith

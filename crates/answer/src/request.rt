@@ -87,14 +87,14 @@ fn refuse(out: &mut [u8], h: Header, status: Status) -> Answered
 }
 
 // What the operation comes to for an application: core for provider 0, keystore for provider 1.
-fn decide(h: Header, body: &[u8], registry: &[u8], list: &[u8], line: Line) -> Decision
+fn decide<'a>(h: Header, body: &[u8], registry: &'a [u8], list: &'a [u8], line: Line) -> Decision
     requires { ⌜ PassedHeader h × (wellFormedRegistry (now registry) ≡ true) × (line .0 < lineCount) × (wellFormedList (now list) ≡ true) ⌝ }
-    ensures { λ r. ⌜ Decided (slotsOf (now (registry .entry)) line) (now (body .entry)) (resultForNamed h (now (body .entry)) (now (registry .entry)) (now (list .entry)) line) r ⌝ }
+    ensures { λ r. ⌜ Decided (slotsOf (now (registry .entry)) line) (now (list .entry)) (now (body .entry)) (resultForNamed h (now (body .entry)) (now (registry .entry)) (now (list .entry)) line) r ⌝ }
 {
     if h.provider == 0 {
         return perform_core(h.opcode, body);
     }
-    perform_keystore(h.opcode, body, registry, line)
+    perform_keystore(h.opcode, body, registry, list, line)
 }
 
 // A request whose header and auth bytes have passed, answered for an application.
@@ -123,9 +123,15 @@ fn answer_named(
 }
 
 // The same for nobody that is named: the keystore is not for them.
-fn answer_nobody(out: &mut [u8], h: Header, body: &[u8], registry: &[u8], list: &[u8]) -> Answered
+fn answer_nobody<'a>(
+    out: &mut [u8],
+    h: Header,
+    body: &[u8],
+    registry: &'a [u8],
+    list: &'a [u8],
+) -> Answered
     requires { ⌜ PassedHeader h × (wellFormedRegistry (now registry) ≡ true) × (bufferLeast ≤ length (now out)) ⌝ }
-    ensures { λ r. ⌜ ResultAnswered h (resultForNobody h (now (body .entry))) Asker.Nobody (now (out .entry)) (now (out .exit)) r ⌝ }
+    ensures { λ r. ⌜ ResultAnswered h (resultForNobody h (now (body .entry)) (now (list .entry))) Asker.Nobody (now (out .entry)) (now (out .exit)) r ⌝ }
 {
     if h.provider == 1 {
         return refuse(out, h, Status::NotAuthenticated);

@@ -3,11 +3,11 @@
 use judgement::Output;
 use judgement::Status;
 use judgement::statuses::status_number;
+use lookup::key::key_bytes;
 use protobuf::write::bytes_field_size;
 use protobuf::write::write_bytes_field;
 use protobuf::write::write_number_field;
 use registry::Line;
-use registry::key::key_data;
 use wire::bytes::copy_into;
 use wire::header::Header;
 use wire::response::response_header;
@@ -24,9 +24,9 @@ ghost use Rattle.judgement.specs.Status.{statusNumber};
 ghost use Rattle.judgement.specs.code.Decided.{outputMost, SafeOutput, outputBytes};
 
 // How long a response's body is.
-fn output_size(registry: &[u8], line: Line, output: Output) -> usize
-    requires { ⌜ (wellFormedRegistry (now registry) ≡ true) × (line .0 < lineCount) × SafeOutput output ⌝ }
-    ensures { λ r. ⌜ (r ≡ length (outputBytes (slotsOf (now (registry .entry)) line) output)) × (r ≤ outputMost) ⌝ }
+fn output_size<'a>(registry: &'a [u8], list: &'a [u8], line: Line, output: Output) -> usize
+    requires { ⌜ (wellFormedRegistry (now registry) ≡ true) × (line .0 < lineCount) × SafeOutput (now list) output ⌝ }
+    ensures { λ r. ⌜ (r ≡ length (outputBytes (slotsOf (now (registry .entry)) line) (now (list .entry)) output)) × (r ≤ outputMost) ⌝ }
 {
     match output {
         Output::Nothing => 0,
@@ -38,17 +38,23 @@ fn output_size(registry: &[u8], line: Line, output: Output) -> usize
             }
             6
         }
-        Output::Data(slot) => {
-            let data = key_data(registry, line, slot);
+        Output::Data(place) => {
+            let data = key_bytes(registry, list, line, place);
             bytes_field_size(1, data.len())
         }
     }
 }
 
 // A response's body, written straight to its place.
-fn write_output(out: &mut [u8], registry: &[u8], line: Line, output: Output) -> usize
-    requires { ⌜ (wellFormedRegistry (now registry) ≡ true) × (line .0 < lineCount) × SafeOutput output × (outputMost ≤ length (now out)) ⌝ }
-    ensures { λ r. ⌜ Wrote (outputBytes (slotsOf (now (registry .entry)) line) output) (now (out .entry)) (now (out .exit)) r ⌝ }
+fn write_output<'a>(
+    out: &mut [u8],
+    registry: &'a [u8],
+    list: &'a [u8],
+    line: Line,
+    output: Output,
+) -> usize
+    requires { ⌜ (wellFormedRegistry (now registry) ≡ true) × (line .0 < lineCount) × SafeOutput (now list) output × (outputMost ≤ length (now out)) ⌝ }
+    ensures { λ r. ⌜ Wrote (outputBytes (slotsOf (now (registry .entry)) line) (now (list .entry)) output) (now (out .entry)) (now (out .exit)) r ⌝ }
 {
     match output {
         Output::Nothing => 0,
@@ -65,27 +71,27 @@ fn write_output(out: &mut [u8], registry: &[u8], line: Line, output: Output) -> 
             let keystore = [3u8, 5, 6, 7];
             write_bytes_field(out, 1, &keystore)
         }
-        Output::Data(slot) => {
-            let data = key_data(registry, line, slot);
+        Output::Data(place) => {
+            let data = key_bytes(registry, list, line, place);
             write_bytes_field(out, 1, data)
         }
     }
 }
 
 // A response: the header, and behind its 26 bytes the body.
-pub fn write_response(
+pub fn write_response<'a>(
     out: &mut [u8],
     h: Header,
     status: Status,
-    registry: &[u8],
-    list: &[u8],
+    registry: &'a [u8],
+    list: &'a [u8],
     line: Line,
     output: Output,
 ) -> usize
-    requires { ⌜ (wellFormedRegistry (now registry) ≡ true) × (line .0 < lineCount) × SafeOutput output × (bufferLeast ≤ length (now out)) ⌝ }
-    ensures { λ r. ⌜ Wrote (responseBytes (h .provider) (h .session) (h .opcode) (statusNumber status) (outputBytes (slotsOf (now (registry .entry)) line) output)) (now (out .entry)) (now (out .exit)) r ⌝ }
+    requires { ⌜ (wellFormedRegistry (now registry) ≡ true) × (line .0 < lineCount) × SafeOutput (now list) output × (bufferLeast ≤ length (now out)) ⌝ }
+    ensures { λ r. ⌜ Wrote (responseBytes (h .provider) (h .session) (h .opcode) (statusNumber status) (outputBytes (slotsOf (now (registry .entry)) line) (now (list .entry)) output)) (now (out .entry)) (now (out .exit)) r ⌝ }
 {
-    let size = output_size(registry, line, output);
+    let size = output_size(registry, list, line, output);
     let head = response_header(
         h.provider,
         h.session,
@@ -94,7 +100,7 @@ pub fn write_response(
         status_number(status),
     );
     let k = copy_into(out, &head);
-    let m = write_output(&mut out[26..], registry, line, output);
+    let m = write_output(&mut out[26..], registry, list, line, output);
     k + m
 }
 

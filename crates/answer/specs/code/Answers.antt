@@ -13,6 +13,7 @@ use Rattle.messages.specs.Operations.{outputBytes}
 use Rattle.stream.specs.Rules.{Verdict}
 use Rattle.registry.specs.Registry.{slotsOf}
 use Rattle.registry.specs.declared.Line.{Line}
+use Rattle.shipped.specs.Shipped.{keysIn}
 use Rattle.judgement.specs.Status.{statusNumber}
 use Rattle.judgement.specs.Operations.{Result, refuse, operated}
 use Rattle.judgement.specs.Counts.{Counts, noCounts, count}
@@ -43,11 +44,11 @@ PassedHeader h = firstOf (headerTests h) ≡ none
 
 -- what comes of it for an application
 abbrev pub resultForNamed : Header → (body registry list : List ℕ) → Line → Result
-resultForNamed h body registry list line = operated (h .opcode) body (slotsOf registry line)
+resultForNamed h body registry list line = operated (h .opcode) body (slotsOf registry line) (keysIn list)
 
 -- and for nobody that is named: the keystore is not for them
-unfoldable pub resultForNobody : Header → (body : List ℕ) → Result
-resultForNobody h body = if eqb (h .provider) 1 then refuse NotAuthenticated else operated (h .opcode) body []
+unfoldable pub resultForNobody : Header → (body list : List ℕ) → Result
+resultForNobody h body list = if eqb (h .provider) 1 then refuse NotAuthenticated else operated (h .opcode) body [] (keysIn list)
 
 -- the result `x` was answered for `who`: its response, with the header's provider, session and opcode, stands at the front of
 -- the buffer `before`, which is now `after`

@@ -5,6 +5,7 @@ use borrow.Author.Tests.{eq-eqb, ne-eqb}
 use borrow.Author.Needs.{needs}
 use Rattle.messages.proofs.OperationLaws.{nothing-bytes}
 use Rattle.registry.specs.Registry.{slotsOf}
+use Rattle.shipped.specs.Shipped.{keysIn}
 use Rattle.judgement.specs.Operations.{refuse}
 use Rattle.judgement.specs.code.Decided.{oneOfCore}
 use Rattle.judgement.specs.declared.Asker.the-variants.{Nobody}
@@ -36,7 +37,7 @@ perform-core-requires c κs = core c
 write-response-requires : tie.Need-write-response-requires
 write-response-requires c κs =
     let s = c .before .before .before .before .before .before .before .before in
-    (s .pre .1, omega arith, c .before .perform-core .ensures [] .output, s .pre .2)
+    (s .pre .1, omega arith, c .before .perform-core .ensures [] (s .args .list .now) .output, s .pre .2)
 
 same-length-2 : tie.Need-same-length-2
 same-length-2 c = search needs
@@ -47,8 +48,8 @@ returns-2 c =
     let p = c .before .before .before .before in
     let s = p .before .before .before .before .before .before .before in
     let slots = slotsOf (s .args .registry .now) (record { 0 = 0 }) in
-    rw (ne-eqb _ _ (p .before .if1 .left), core-anywhere (s .args .h .opcode) (s .args .body .now) [] slots (core (p .before)))
-    (decided-answered (s .args .h) Nobody (p .perform-core .ensures slots) (c .before .before .write-response .ensures))
+    rw (ne-eqb _ _ (p .before .if1 .left), core-anywhere (s .args .h .opcode) (s .args .body .now) (keysIn (s .args .list .now)) [] slots (core (p .before)))
+    (decided-answered (s .args .h) Nobody (p .perform-core .ensures slots (s .args .list .now)) (c .before .before .write-response .ensures))
 
 pub answer-nobody-spec : {M : Type 1} → statement M
 answer-nobody-spec =

@@ -13,12 +13,12 @@ perform-core-requires c κs =
 returns : tie.Need-returns
 returns c =
     let a = c .before .before .before .before .before .before .args in
-    c .perform-core .ensures (slotsOf (a .registry .now) (a .line))
+    c .perform-core .ensures (slotsOf (a .registry .now) (a .line)) (a .list .now)
 
 perform-keystore-requires : tie.Need-perform-keystore-requires
 perform-keystore-requires c κs =
     let s = c .before .before .before .before .before in
-    (keystore-opcode (s .args .h) (s .pre .0) (c .if1 .left), s .pre .1, s .pre .2)
+    (keystore-opcode (s .args .h) (s .pre .0) (c .if1 .left), s .pre .1, s .pre .2, s .pre .3)
 
 returns-2 : tie.Need-returns-2
 returns-2 c = search needs

@@ -5,6 +5,7 @@ use borrow.Author.Needs.{needs}
 use lib.ListN.{length}
 use Rattle.wire.proofs.BufferLaws.{wrote-none}
 use Rattle.keys.specs.Key.{dataMost}
+use Rattle.judgement.proofs.SourceLaws.{bytes-at}
 use Rattle.judgement.proofs.OutputLaws.{nothing-field, version-field, providers-field, core-field, keystore-field, data-field}
 use Rattle.answer.proofs.WrittenLaws.{data-short}
 use Rattle.answer.proofs.response.write_output.Statement.{statement}
@@ -43,7 +44,7 @@ same-length c = search needs
 returns : tie.Need-returns
 returns c =
     let t = c .before .before .before .before .before in
-    rw (t .before .before .output .given .1, core-field _ _ (t .if1 .taken)) (c .before .before .write-bytes-field2 .ensures)
+    rw (t .before .before .output .given .1, core-field _ _ _ (t .if1 .taken)) (c .before .before .write-bytes-field2 .ensures)
 
 slice-aggregate-write-bytes-field-3 : tie.Need-slice-aggregate-write-bytes-field-3
 slice-aggregate-write-bytes-field-3 c = search needs
@@ -54,21 +55,23 @@ write-bytes-field-requires-3 c κs = search needs
 enum-known-output-2 : tie.Need-enum-known-output-2
 enum-known-output-2 c = search needs
 
-key-data-requires : tie.Need-key-data-requires
-key-data-requires c κs =
-    let s = c .before .before .before .before .before in
-    (s .pre .0, s .pre .1, rw (c .before .output2 .given .1) at (s .pre .2))
-
-short : (c : tie.After-key-data) → length (c .key-data .result .now) ≤ dataMost
-short c =
+key-bytes-requires : tie.Need-key-bytes-requires
+key-bytes-requires c κs =
     let s = c .before .before .before .before .before .before in
-    rw (c .key-data .ensures) (data-short (s .args .registry .now) (s .pre .0) (s .args .line) (s .pre .1) _)
+    let safe = rw (c .before .output2 .given .1) at (s .pre .2) in
+    (s .pre .0, s .pre .1, safe .0)
+
+short : (c : tie.After-key-bytes) → length (c .key-bytes .result .now) ≤ dataMost
+short c =
+    let s = c .before .before .before .before .before .before .before in
+    rw (c .key-bytes .ensures)
+    (data-short (s .args .registry .now) (s .args .list .now) (s .pre .0) (s .args .line) (s .pre .1) _ (rw (c .before .before .output2 .given .1) at (s .pre .2)))
 
 write-bytes-field-requires-4 : tie.Need-write-bytes-field-requires-4
-write-bytes-field-requires-4 c κs = omega (arith, short (c .before), c .before .before .before .before .before .before .before .pre .3)
+write-bytes-field-requires-4 c κs = omega (arith, short (c .before), c .before .before .before .before .before .before .before .before .pre .3)
 
 returns-2 : tie.Need-returns-2
-returns-2 c = rw (c .enum-told .given .1, nothing-field) (wrote-none (c .before .before .before .before .args .out .now))
+returns-2 c = rw (c .enum-told .given .1, nothing-field) (wrote-none (c .before .before .before .before .before .args .out .now))
 
 same-length-2 : tie.Need-same-length-2
 same-length-2 c = search needs
@@ -88,7 +91,7 @@ same-length-4 c = search needs
 returns-5 : tie.Need-returns-5
 returns-5 c =
     let t = c .before .before .before .before .before in
-    rw (t .before .before .output .given .1, keystore-field _ _ (t .if1 .left)) (c .before .before .write-bytes-field3 .ensures)
+    rw (t .before .before .output .given .1, keystore-field _ _ _ (t .if1 .left)) (c .before .before .write-bytes-field3 .ensures)
 
 same-length-5 : tie.Need-same-length-5
 same-length-5 c = search needs
@@ -96,7 +99,8 @@ same-length-5 c = search needs
 returns-6 : tie.Need-returns-6
 returns-6 c =
     let d = c .before .before .before .before in
-    rw (d .before .before .output2 .given .1, data-field, ← d .key-data .ensures) (c .before .before .write-bytes-field4 .ensures)
+    let s = d .before .before .before .before .before .before .before .args in
+    rw (d .before .before .output2 .given .1, data-field, ← bytes-at (s .registry .now) (s .list .now) (s .line) _, ← d .key-bytes .ensures) (c .before .before .write-bytes-field4 .ensures)
 
 pub write-output-spec : {M : Type 1} → statement M
 write-output-spec =
@@ -116,7 +120,7 @@ write-output-spec =
     slice-aggregate-write-bytes-field-3
     write-bytes-field-requires-3
     enum-known-output-2
-    key-data-requires
+    key-bytes-requires
     write-bytes-field-requires-4
     returns-2
     same-length-2
