@@ -22,8 +22,9 @@ use Rattle.keys.specs.Key.{legalData, legalBits, importBits}
 use Rattle.registry.specs.Slots.{Entry, free, held, keyBytes, slotBytes, slotOf}
 use Rattle.registry.specs.Registry.{slotCount, applicationNamed, slotsOf, slotNamed, changed, lineOf, registryOf}
 use Rattle.records.specs.Records.{isWhole, recordTurn, readRecords}
+use Rattle.shipped.specs.Shipped.{pairsDone, listOf, wellFormedList, keysIn, listedNamed}
+use Rattle.lookup.specs.Lookup.{keyOf, ownIn, listedIn, keyNamed}
 use Rattle.roster.specs.Roster.{faultNumber, recordFaults, Roster, applications, faulty, recordStep, rosterOf}
-use Rattle.shipped.specs.Shipped.{pairsDone, listOf, wellFormedList}
 use Rattle.stream.specs.Frame.{legalStart, oversized, next}
 use Rattle.stream.specs.Rules.{Outcome, heldBytes, answer, finish, judge, rulesWithin, rulesFrom, start, rules}
 use Rattle.judgement.specs.Status.{statusNumber}
@@ -31,7 +32,7 @@ use Rattle.messages.specs.Opcodes.{opcodesOf}
 use Rattle.messages.specs.Format.{listed, messageBytes, readMessage}
 use Rattle.messages.specs.Protobuf.{packedOf}
 use Rattle.messages.specs.Operations.{readBody, operationOf, outputBytes}
-use Rattle.judgement.specs.Operations.{success, refuse, importable, performImport, performDestroy, exportOf, performExport, performListOpcodes, perform, operated}
+use Rattle.judgement.specs.Operations.{success, refuse, importable, performImport, destroyOf, performDestroy, exportOf, performExport, performListOpcodes, perform, operated}
 use Rattle.judgement.specs.Counts.{Counts, noCounts, increment, indexOf, countRefused, countServed, count}
 use Rattle.judgement.specs.Judgement.{applicationOf, refusals, askersSlots, resultOf, changedBy, verdictOf, refusedEarly, oversizedStatus, judgement}
 use Rattle.billing.specs.Ascii.{ascii}
@@ -57,7 +58,7 @@ startOf (faulty fault) = []
 
 -- all that a case computes with
 unfoldable pub showing : (roster stream : List ℕ) → Shown
-unfolding rosterOf readRecords recordTurn isWhole recordStep recordFaults firstOf legalName field littleEndian registryOf lineOf flatten rules rulesFrom rulesWithin start answer finish judge next legalStart oversized judgement noCounts requestOf resultOf refusals oneOf opcodesOf isSome applicationOf applicationNamed indexFrom operated operationOf readBody scanAt scanFrom stepAt itemOf fieldAt contentAt numberAt spanAt fixedAt groupAt varintOf withValue perform performImport performDestroy performExport exportOf performListOpcodes success refuse numberField bytesField packedField flatMap varint varintWithin importable importBits legalData legalBits slotNamed keyBytes slotBytes askersSlots verdictOf refusedEarly oversizedStatus responseBytes responseHeader littleEndianOf statusNumber changedBy changed count countServed countRefused increment indexOf slotsOf slotOf billOf textLine decimal digitsBefore applicationLines refusedLines heldBytes ascii shownBy startOf bill billFor isListRefused wellFormedList listOf pairsDone refusedRoster faultNumber listed messageBytes readMessage packedOf outputBytes bind
+unfolding rosterOf readRecords recordTurn isWhole recordStep recordFaults firstOf legalName field littleEndian registryOf lineOf flatten rules rulesFrom rulesWithin start answer finish judge next legalStart oversized judgement noCounts requestOf resultOf refusals oneOf opcodesOf isSome applicationOf applicationNamed indexFrom operated operationOf readBody scanAt scanFrom stepAt itemOf fieldAt contentAt numberAt spanAt fixedAt groupAt varintOf withValue perform performImport performDestroy destroyOf performExport exportOf keyNamed ownIn listedIn keyOf keysIn listOf pairsDone listedNamed performListOpcodes success refuse numberField bytesField packedField flatMap varint varintWithin importable importBits legalData legalBits slotNamed keyBytes slotBytes askersSlots verdictOf refusedEarly oversizedStatus responseBytes responseHeader littleEndianOf statusNumber changedBy changed count countServed countRefused increment indexOf slotsOf slotOf billOf textLine decimal digitsBefore applicationLines refusedLines heldBytes ascii shownBy startOf bill billFor isListRefused wellFormedList refusedRoster faultNumber listed messageBytes readMessage packedOf outputBytes bind
 showing roster stream = shownBy (rules (judgement []) (startOf (rosterOf roster)) stream) (bill (some roster) (some stream) (some []))
 
 -- ---- a table holds

@@ -13,14 +13,14 @@ use Rattle.wire.specs.Lists.{all}
 use Rattle.wire.specs.Request.{Request}
 use Rattle.wire.proofs.TestLaws.{either, first-has}
 use Rattle.keys.specs.Names.{keyNameMost, legalName}
-use Rattle.keys.specs.Key.{Key}
+use Rattle.keys.specs.Key.{Key, dataMost, importBits}
 use Rattle.messages.specs.Protobuf.{protobuf}
 use Rattle.messages.specs.Opcodes.{opcodesOf}
 use Rattle.messages.specs.Operations.{Operation, ping, listProviders, listOpcodes, importKey, destroyKey, exportPublicKey, verifySignature, ofPing, ofListProviders, ofListOpcodes, ofImport, ofDestroy, ofExport, ofVerify}
 use Rattle.rsa.specs.Signature.{verification}
 use Rattle.rsa.specs.declared.verify.Outcome.{Outcome}
 use Rattle.rsa.specs.declared.verify.Outcome.the-variants.{ValidSignature, InvalidSignature, InvalidKey}
-use Rattle.registry.specs.Slots.{Entry, free, held}
+use Rattle.registry.specs.Slots.{Entry, free}
 use Rattle.registry.specs.Registry.{slotNamed}
 use Rattle.registry.specs.WellFormed.{wellFormedRegistry}
 use Rattle.registry.specs.declared.Line.{Line}
@@ -28,10 +28,13 @@ use Rattle.registry.specs.declared.Found.{Found}
 use Rattle.registry.specs.declared.Found.the-variants.{At, Nothing}
 use Rattle.registry.proofs.SlotLaws.{ShortEntry}
 use Rattle.registry.proofs.WellFormedLaws.{slots-short}
+use Rattle.shipped.specs.Shipped.{ListedKey, keysIn}
+use Rattle.lookup.specs.Lookup.{Source, own, listed, keyOf, keyNamed}
 use Rattle.judgement.specs.Status.{statusNumber}
-use Rattle.judgement.specs.Operations.{Result, success, refuse, importable, performImport, performDestroy, exportOf, performExport, hashSize, checked, verifyWith, performVerify, performListOpcodes, perform, operated}
+use Rattle.judgement.specs.Operations.{Result, success, refuse, importable, performImport, destroyOf, performDestroy, exportOf, performExport, hashSize, checked, verifyWith, performVerify, performListOpcodes, perform, operated}
 use Rattle.judgement.specs.Judgement.{applicationOf, refusals, askersSlots, resultOf}
 use Rattle.judgement.specs.declared.Status.{Status}
+use Rattle.judgement.proofs.SourceLaws.{source-short}
 use Rattle.judgement.proofs.JudgementLaws.{asks}
 use Rattle.client_requests.specs.Writing.{Sender, requestFor}
 use Rattle.conversation.proofs.Asked.{Writable, read-as-written}
@@ -51,54 +54,61 @@ opcodes-fit provider =
 abbrev ShortSlots : List Entry → Type 0
 ShortSlots slots = (i : ℕ) → ShortEntry (getD slots i free)
 
-module _ (slots : List Entry) where
-  sound-import : (key : Key) → Sound (importKey key) (performImport key slots)
+module _ (slots : List Entry) (list : List ℕ) where
+  abbrev keys : List ListedKey
+  keys = keysIn list
+
+  sound-import : (key : Key) → Sound (importKey key) (performImport key slots keys)
   unfolding performImport success statusNumber
   sound-import key = go (importable key) refl
     where
-      third : importable key ≡ true → slotNamed (key .name) slots ≡ Nothing → (f : Found) → slotNamed [] slots ≡ f → Sound (importKey key) (performImport key slots)
+      third : importable key ≡ true → keyNamed (key .name) slots keys ≡ none → (f : Found) → slotNamed [] slots ≡ f → Sound (importKey key) (performImport key slots keys)
       third v n Nothing e = rw (v, n, e, performImport) (refused (importKey key) _ (lit< tt))
       third v n (At slot) e = rw (v, n, e, performImport) (served refl ofImport tt)
 
-      second : importable key ≡ true → (f : Found) → slotNamed (key .name) slots ≡ f → Sound (importKey key) (performImport key slots)
-      second v (At slot) e = rw (v, e, performImport) (refused (importKey key) _ (lit< tt))
-      second v Nothing e = third v e (slotNamed [] slots) refl
+      second : importable key ≡ true → (o : Option Source) → keyNamed (key .name) slots keys ≡ o → Sound (importKey key) (performImport key slots keys)
+      second v (some source) e = rw (v, e, performImport) (refused (importKey key) _ (lit< tt))
+      second v none e = third v e (slotNamed [] slots) refl
 
-      go : (t : Bool) → importable key ≡ t → Sound (importKey key) (performImport key slots)
+      go : (t : Bool) → importable key ≡ t → Sound (importKey key) (performImport key slots keys)
       go false e = rw (e, performImport) (refused (importKey key) _ (lit< tt))
-      go true e = second e (slotNamed (key .name) slots) refl
+      go true e = second e (keyNamed (key .name) slots keys) refl
 
-  sound-destroy : (name : List ℕ) → Sound (destroyKey name) (performDestroy name slots)
+  sound-destroying : (name : List ℕ) (source : Source) → Sound (destroyKey name) (destroyOf source)
+  unfolding destroyOf success statusNumber
+  sound-destroying name (own slot key) = served refl ofDestroy tt
+  sound-destroying name (listed key) = refused (destroyKey name) _ (lit< tt)
+
+  sound-destroy : (name : List ℕ) → Sound (destroyKey name) (performDestroy name slots keys)
   unfolding performDestroy success statusNumber
   sound-destroy name = go (legalName keyNameMost name) refl
     where
-      second : legalName keyNameMost name ≡ true → (f : Found) → slotNamed name slots ≡ f → Sound (destroyKey name) (performDestroy name slots)
-      second v Nothing e = rw (v, e, performDestroy) (refused (destroyKey name) _ (lit< tt))
-      second v (At slot) e = rw (v, e, performDestroy) (served refl ofDestroy tt)
+      second : legalName keyNameMost name ≡ true → (o : Option Source) → keyNamed name slots keys ≡ o → Sound (destroyKey name) (performDestroy name slots keys)
+      second v none e = rw (v, e, performDestroy) (refused (destroyKey name) _ (lit< tt))
+      second v (some source) e = rw (v, e, performDestroy) (sound-destroying name source)
 
-      go : (t : Bool) → legalName keyNameMost name ≡ t → Sound (destroyKey name) (performDestroy name slots)
+      go : (t : Bool) → legalName keyNameMost name ≡ t → Sound (destroyKey name) (performDestroy name slots keys)
       go false e = rw (e, performDestroy) (refused (destroyKey name) _ (lit< tt))
-      go true e = second e (slotNamed name slots) refl
+      go true e = second e (keyNamed name slots keys) refl
 
-  sound-entry : (name : List ℕ) (entry : Entry) → ShortEntry entry → Sound (exportPublicKey name) (exportOf entry)
+  sound-exporting : (name : List ℕ) (key : Key) → length (key .bytes) ≤ dataMost → Sound (exportPublicKey name) (exportOf key)
   unfolding exportOf success statusNumber
-  sound-entry name free s = refused (exportPublicKey name) _ (lit< tt)
-  sound-entry name (held key) s =
+  sound-exporting name key s =
       either (Sound (exportPublicKey name)) (key .exportAllowed)
       (λ _. served refl ofExport (omega (arith, s), tt))
       (λ _. refused (exportPublicKey name) _ (lit< tt))
 
-  sound-export : ShortSlots slots → (name : List ℕ) → Sound (exportPublicKey name) (performExport name slots)
+  sound-export : ShortSlots slots → (name : List ℕ) → Sound (exportPublicKey name) (performExport name slots keys)
   unfolding performExport statusNumber
   sound-export short name = go (legalName keyNameMost name) refl
     where
-      second : legalName keyNameMost name ≡ true → (f : Found) → slotNamed name slots ≡ f → Sound (exportPublicKey name) (performExport name slots)
-      second v Nothing e = rw (v, e, performExport) (refused (exportPublicKey name) _ (lit< tt))
-      second v (At slot) e = rw (v, e, performExport) (sound-entry name (getD slots (slot .0) free) (short (slot .0)))
+      second : legalName keyNameMost name ≡ true → (o : Option Source) → keyNamed name slots keys ≡ o → Sound (exportPublicKey name) (performExport name slots keys)
+      second v none e = rw (v, e, performExport) (refused (exportPublicKey name) _ (lit< tt))
+      second v (some source) e = rw (v, e, performExport) (sound-exporting name (keyOf source) (source-short name slots list short source e))
 
-      go : (t : Bool) → legalName keyNameMost name ≡ t → Sound (exportPublicKey name) (performExport name slots)
+      go : (t : Bool) → legalName keyNameMost name ≡ t → Sound (exportPublicKey name) (performExport name slots keys)
       go false e = rw (e, performExport) (refused (exportPublicKey name) _ (lit< tt))
-      go true e = second e (slotNamed name slots) refl
+      go true e = second e (keyNamed name slots keys) refl
 
   module _ (name hash signature : List ℕ) where
     abbrev SoundVerify : Result → Type 0
@@ -110,25 +120,28 @@ module _ (slots : List Entry) where
     sound-checked InvalidKey = refused _ _ (lit< tt)
     sound-checked InvalidSignature = refused _ _ (lit< tt)
 
-    sound-verifying : (entry : Entry) → SoundVerify (verifyWith hash signature entry)
+    sound-verifying : (key : Key) → SoundVerify (verifyWith hash signature key)
     unfolding verifyWith statusNumber
-    sound-verifying free = refused _ _ (lit< tt)
-    sound-verifying (held key) =
+    sound-verifying key =
         either SoundVerify (not (key .verifyAllowed))
         (λ _. refused _ _ (lit< tt))
-        (λ _. either SoundVerify (not (eqb (length hash) hashSize)) (λ _. refused _ _ (lit< tt)) (λ _. sound-checked (verification (key .bytes) (key .bits) hash signature .outcome)))
+        (λ _. either SoundVerify (not (eqb (length hash) hashSize))
+        (λ _. refused _ _ (lit< tt))
+        (λ _. either SoundVerify (not (importBits (key .bits)))
+        (λ _. refused _ _ (lit< tt))
+        (λ _. sound-checked (verification (key .bytes) (key .bits) hash signature .outcome))))
 
-    sound-verify : SoundVerify (performVerify name hash signature slots)
+    sound-verify : SoundVerify (performVerify name hash signature slots keys)
     unfolding performVerify statusNumber
     sound-verify = go (legalName keyNameMost name) refl
       where
-        second : legalName keyNameMost name ≡ true → (f : Found) → slotNamed name slots ≡ f → SoundVerify (performVerify name hash signature slots)
-        second v Nothing e = rw (v, e, performVerify) (refused _ _ (lit< tt))
-        second v (At slot) e = rw (v, e, performVerify) (sound-verifying (getD slots (slot .0) free))
+        second : legalName keyNameMost name ≡ true → (o : Option Source) → keyNamed name slots keys ≡ o → SoundVerify (performVerify name hash signature slots keys)
+        second v none e = rw (v, e, performVerify) (refused _ _ (lit< tt))
+        second v (some source) e = rw (v, e, performVerify) (sound-verifying (keyOf source))
 
-        go : (t : Bool) → legalName keyNameMost name ≡ t → SoundVerify (performVerify name hash signature slots)
+        go : (t : Bool) → legalName keyNameMost name ≡ t → SoundVerify (performVerify name hash signature slots keys)
         go false e = rw (e, performVerify) (refused _ _ (lit< tt))
-        go true e = second e (slotNamed name slots) refl
+        go true e = second e (keyNamed name slots keys) refl
 
   sound-opcodes : (provider : ℕ) → Sound (listOpcodes provider) (performListOpcodes provider)
   unfolding performListOpcodes success statusNumber
@@ -137,7 +150,7 @@ module _ (slots : List Entry) where
       (λ _. refused (listOpcodes provider) _ (lit< tt))
       (λ _. served refl ofListOpcodes (opcodes-fit provider, tt))
 
-  sound-perform : ShortSlots slots → (operation : Operation) → Sound operation (perform operation slots)
+  sound-perform : ShortSlots slots → (operation : Operation) → Sound operation (perform operation slots keys)
   unfolding perform success statusNumber
   sound-perform short ping = served refl ofPing (omega arith, (omega arith, tt))
   sound-perform short listProviders = served refl ofListProviders ((refl, omega arith), tt)
@@ -179,4 +192,4 @@ result-sound list registry w session sender operation writable = go (firstOf (re
     go (some status) e = rw (e, resultOf) (refused operation status (status-some registry q status e))
     go none e =
         rw (e, resultOf, read-as-written session sender operation writable .operation-read, operated)
-        (sound-perform slots (short-slots registry w q) operation)
+        (sound-perform slots list (short-slots registry w q) operation)
