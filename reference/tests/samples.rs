@@ -1,5 +1,5 @@
 //! The bills of the sample streams. `samples/make.py` counts the same bills by itself.
-//! Document 01, "The bill".
+//! Document 01, "The bill"; document 02, "Keys we ship".
 
 use reference::bill;
 use std::fs;
@@ -18,7 +18,7 @@ fn read(name: &str) -> Vec<u8> {
 fn expect_bill(name: &str) {
     let roster = read("servers.roster");
     let stream = read(&format!("{name}.stream"));
-    let text = bill(Some(&roster), Some(&stream), Some(&[]));
+    let text = bill(Some(&roster), Some(&stream), Some(&read("servers.list")));
     let expected = read(&format!("{name}.bill"));
     assert_eq!(
         String::from_utf8(text).unwrap(),
@@ -29,6 +29,11 @@ fn expect_bill(name: &str) {
 #[test]
 fn a_day_with_every_operation_and_a_held_rest() {
     expect_bill("day");
+}
+
+#[test]
+fn what_is_asked_of_listed_keys() {
+    expect_bill("shipped");
 }
 
 #[test]

@@ -25,12 +25,12 @@ fn folder(test: &str) -> Folder {
 fn the_samples_have_the_bills_beside_them() {
     let samples = Path::new(env!("CARGO_MANIFEST_DIR")).join("../samples");
     let roster = samples.join("servers.roster");
-    for name in ["day", "closed"] {
+    let list = samples.join("servers.list");
+    for name in ["day", "closed", "shipped"] {
         let stream = samples.join(format!("{name}.stream"));
         let expected =
             std::fs::read(samples.join(format!("{name}.bill"))).expect("a sample's bill");
-        let list = folder("samples").file("list", b"");
-        let printed = printed(&[roster.clone(), stream, list]);
+        let printed = printed(&[roster.clone(), stream, list.clone()]);
         assert_eq!(text(printed), text(expected));
     }
 }

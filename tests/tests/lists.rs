@@ -2,7 +2,7 @@
 //! cut of a good one, and own keys of a listed name. Document 02, "Keys we ship".
 
 use razidkot::raw::Answer;
-use razidkot::{Counters, CONNECTION_SIZE};
+use razidkot::{Counters, List, Refusal, CONNECTION_SIZE};
 use razidkot_tests::ask::*;
 use razidkot_tests::generate::{registry, Filling};
 use razidkot_tests::layout::Key;
@@ -186,6 +186,77 @@ fn a_bad_list_is_c6_whatever_the_connection() {
             assert_eq!(call(&mut lent, chunk).code, 0);
         }
     }
+}
+
+// ---- the wrapper's type
+
+#[test]
+fn sizes_and_refusals_are_those_of_the_reference() {
+    assert_eq!(razidkot::MOST_LISTED_KEYS, reference::MOST_LISTED_KEYS);
+    assert_eq!(razidkot::LONGEST_LIST, longest_list().len());
+    assert_eq!(Refusal::ListIllFormed.number(), LIST_ILL_FORMED as u8);
+    assert_eq!(reference::Refusal::ListIllFormed.number(), 6);
+}
+
+/// What the wrapper says of bytes: the pairs of a good list, or that they are none.
+fn expect_list(bytes: &[u8], title: &str) {
+    let list = List::from_bytes(bytes);
+    assert_eq!(
+        list.is_ok(),
+        reference::list_is_well_formed(bytes),
+        "{title}"
+    );
+    if let Ok(list) = list {
+        let keys = list
+            .keys()
+            .map(|key| (key.name.to_vec(), key.data.to_vec()));
+        assert_eq!(keys.collect::<Vec<_>>(), pairs_in(bytes), "{title}");
+        assert_eq!(list.bytes(), bytes);
+    }
+}
+
+#[test]
+fn the_wrappers_list_takes_what_the_call_takes() {
+    for (title, list) in bad_lists() {
+        expect_list(&list, &title);
+    }
+    let list = list_of(&pairs(33));
+    for cut in 0..=list.len() {
+        expect_list(&list[..cut], "cut");
+    }
+    for_seeds(5_000, |random| {
+        let mut list = some_list(random, Vec::new());
+        if random.once_in(2) {
+            damage(random, &mut list);
+        }
+        expect_list(&list, "generated");
+    });
+}
+
+/// A list made key by key takes a key where the call takes the longer list.
+#[test]
+fn a_key_is_pushed_where_the_longer_list_is_taken() {
+    let mut outcomes = Outcomes::default();
+    for_seeds(200, |random| {
+        let mut list = List::new();
+        for (name, mut data) in pairs(67) {
+            let name = match random.below(40) {
+                0 => Vec::new(),
+                1 => b"a b".to_vec(),
+                2 => list.keys().last().map_or(name, |key| key.name.to_vec()),
+                _ => name,
+            };
+            if random.once_in(40) {
+                data.resize(random.pick(&[0, 601]), 0);
+            }
+            let longer = [list.bytes(), &pair(&name, &data)].concat();
+            let pushed = list.push(&name, &data).is_ok();
+            assert_eq!(pushed, reference::list_is_well_formed(&longer));
+            assert_eq!(pushed, list.bytes() == longer);
+            outcomes.count(pushed);
+        }
+    });
+    outcomes.assert_often(&[true, false], 100);
 }
 
 // ---- own and listed keys
