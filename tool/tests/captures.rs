@@ -115,7 +115,7 @@ fn some_names(random: &mut Random) -> Vec<Vec<u8>> {
 fn any_stream_is_shown_as_the_reference_has_it() {
     let folder = folder("any_capture");
     let mut outcomes = Outcomes::default();
-    for_seeds(200, |random| {
+    for_seeds(400, |random| {
         let names = some_names(random);
         let (roster, registry) = (roster_of(&names), registry_of(&names));
         let stream = requests(random, &applications(&registry), 30).concat();
