@@ -28,23 +28,31 @@ fn split_pair(list: &[u8]) -> Option<(ListedKey<'_>, &[u8])> {
 /// Pairs of legal names and data to the last byte, at most 64 and of distinct names. An empty list
 /// has none, and is good.
 pub fn list_is_well_formed(list: &[u8]) -> bool {
-    let mut names: Vec<&[u8]> = Vec::new();
+    read_names(list).is_some_and(are_distinct)
+}
+
+/// The names of all pairs, distinct or not; none where the list is bad otherwise.
+fn read_names(list: &[u8]) -> Option<Vec<&[u8]>> {
+    let mut names = Vec::new();
     let mut rest = list;
     while !rest.is_empty() {
-        let Some((key, behind)) = split_pair(rest) else {
-            return false;
-        };
+        let (key, behind) = split_pair(rest)?;
         let is_good = key_name_is_legal(key.name)
             && data_is_legal(key.data)
-            && names.len() < MOST_LISTED_KEYS
-            && !names.contains(&key.name);
+            && names.len() < MOST_LISTED_KEYS;
         if !is_good {
-            return false;
+            return None;
         }
         names.push(key.name);
         rest = behind;
     }
-    true
+    Some(names)
+}
+
+/// Sorted, so that equal names are neighbours: every call tests all names of a list.
+fn are_distinct(mut names: Vec<&[u8]>) -> bool {
+    names.sort_unstable();
+    names.windows(2).all(|pair| pair[0] != pair[1])
 }
 
 /// The data of the key of this name in a good list, as it lies there.
