@@ -124,7 +124,7 @@ enum razidkot_call_code {
     RAZIDKOT_CALL_REGISTRY_ILL_FORMED = 4,
     /* C5: a counter is above RAZIDKOT_HIGHEST_COUNTER. */
     RAZIDKOT_CALL_COUNTER_TOO_HIGH = 5,
-    /* C6: the list is none: document 02, "Keys we ship". */
+    /* C6: the list is ill formed: document 02, "Keys we ship". */
     RAZIDKOT_CALL_LIST_ILL_FORMED = 6
 };
 

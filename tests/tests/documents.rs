@@ -127,7 +127,7 @@ fn readmes_service_serves_the_samples() {
         let expected = read(&samples.join(format!("{name}.bill")));
         assert_eq!(printed(&mut served), expected);
     }
-    // A list that is none: a roster is tagged so, and has no data behind its names.
+    // An ill-formed list: a roster is tagged so, and has no data behind its names.
     let mut served = Command::new(&program);
     let roster = samples.join("servers.roster");
     served.args([&roster, &samples.join("day.stream"), &roster]);

@@ -148,7 +148,7 @@ pub enum Refusal {
     RegistryIllFormed = 4,
     /// C5: a counter above [`HIGHEST_COUNTER`](crate::HIGHEST_COUNTER).
     CounterTooHigh = 5,
-    /// C6: a list that is none. [`List::from_bytes`](crate::List::from_bytes) says why.
+    /// C6: an ill-formed list. [`List::from_bytes`](crate::List::from_bytes) says why.
     ListIllFormed = 6,
 }
 
