@@ -1,4 +1,4 @@
--- "The bill": its text for a roster file, a captured stream and the list of keys that we ship.
+-- "The bill"; document 02, "Keys we ship": its text for a roster file, a captured stream and the list of keys that we ship.
 use Prim.Native.Nat.{ℕ, zero, suc, _+_, _/_, _%_}
 use mathlib.Core.Bool.{Bool, false, not}
 use mathlib.Core.Option.{Option, none, some}

@@ -12,6 +12,7 @@ use Rattle.keys.specs.Names.{applicationNameMost, keyNameMost, legalName}
 use Rattle.keys.specs.Key.{legalData, importBits}
 use Rattle.messages.specs.Protobuf.{protobuf}
 use Rattle.messages.specs.Operations.{Operation, ping, listProviders, listOpcodes, importKey, destroyKey, exportPublicKey, verifySignature, opcodeOf, providerOf, operationBody}
+pub use Rattle.messages.specs.Operations.{hashSize}
 use Rattle.client_requests.specs.declared.WriteRefusal.{WriteRefusal}
 use Rattle.client_requests.specs.declared.WriteRefusal.the-variants.{BufferTooSmall, ApplicationNameIllegal, KeyNameIllegal, DataIllegal, BitsIllegal, HashIllegal, BodyTooLong}
 use Rattle.client_requests.specs.declared.Written.{Written}
@@ -52,9 +53,6 @@ requestFor session sender operation = record {
 
 abbrev pub requestBufferLeast : ℕ
 requestBufferLeast = 5120
-
-abbrev pub hashSize : ℕ
-hashSize = 32
 
 abbrev pub requestBodyMost : ℕ
 requestBodyMost = 4096

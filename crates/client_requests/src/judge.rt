@@ -6,6 +6,7 @@ use keys::DATA_MOST;
 use keys::KEY_NAME_MOST;
 use keys::bits::are_legal_bits;
 use keys::names::is_legal;
+use messages::HASH_SIZE;
 use messages::write::verify_body_size;
 ghost use mathlib.Core.Bool.{Bool};
 ghost use mathlib.Core.List.{[], _∷_};
@@ -19,9 +20,7 @@ ghost use Rattle.client_requests.specs.code.Judged.{judgedAs, firstRefus
 // The shortest buffer for a request.
 pub const REQUEST_BUFFER_LEAST: usize = 5120;
 
-// The size of a hash, and of the longest body of a request.
-const HASH_SIZE: usize = 32;
-
+// The longest body of a request.
 const BODY_MOST: usize = 4096;
 
 pub enum Judged {

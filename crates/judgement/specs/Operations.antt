@@ -1,5 +1,5 @@
--- "Operations and their fields": what each operation does with the slots of the application that asks and with the keys that
--- we ship, and what it answers.
+-- "Operations and their fields"; document 02, "Checking signatures", "Keys we ship": what each operation does with the slots of
+-- the application that asks and with the keys that we ship, and what it answers.
 use Prim.Native.Nat.{ℕ}
 use mathlib.Core.Bool.{Bool, not}
 use mathlib.Core.Option.{none, some}
@@ -13,6 +13,7 @@ use Rattle.keys.specs.Key.{Key, legalData, importBits}
 use Rattle.messages.specs.Protobuf.{protobuf}
 use Rattle.messages.specs.Opcodes.{opcodesOf}
 use Rattle.messages.specs.Operations.{Operation, ping, listProviders, listOpcodes, importKey, destroyKey, exportPublicKey, verifySignature, operationOf, Output, nothing, version, providers, opcodes, exported}
+pub use Rattle.messages.specs.Operations.{hashSize}
 use Rattle.registry.specs.Slots.{Entry}
 use Rattle.registry.specs.Registry.{slotNamed, Change, unchanged, fill, clear}
 use Rattle.registry.specs.declared.Found.the-variants.{At, Nothing}
@@ -82,9 +83,6 @@ performExport name slots keys =
       | none ↦ refuse PsaErrorDoesNotExist
       | some source ↦ exportOf (keyOf source)
     ]
-
-abbrev pub hashSize : ℕ
-hashSize = 32
 
 -- a good signature is answered with no output; a key that can't be used 1134, a signature that isn't the key's 1149
 unfoldable pub checked : Outcome → Result

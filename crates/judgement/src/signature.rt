@@ -1,4 +1,4 @@
-// Verify ("Checking signatures", document 02): what it comes to. Where a key was found, and what is checked by it, are apart.
+// Verify (document 02, "Checking signatures"): `verify` looks for the key, `verify_with` decides by it.
 use crate::Decision;
 use crate::Output;
 use crate::Status;
@@ -12,6 +12,7 @@ use lookup::find::find_key;
 use lookup::key::is_verifiable;
 use lookup::key::key_bits;
 use lookup::key::key_bytes;
+use messages::HASH_SIZE;
 use protobuf::body::Body;
 use protobuf::body::read_body;
 use protobuf::message::Kind;
@@ -29,9 +30,6 @@ ghost use Rattle.shipped.specs.Shipped.{keysIn, wellFormedList};
 ghost use Rattle.judgement.specs.Operations.{checked, verifyWith, performVerify, operated};
 ghost use Rattle.judgement.specs.code.Placed.{verifyFields};
 ghost use Rattle.judgement.specs.code.Decided.{Decided, verifier};
-
-// The bytes of a SHA-256 hash.
-pub const HASH_SIZE: usize = 32;
 
 pub fn verify_fields() -> Schema
     ensures { λ r. ⌜ r ≡ verifyFields ⌝ }

@@ -31,6 +31,7 @@ unfoldable pub keyOf : Source → Key
 keyOf (own slot key) = key
 keyOf (listed key) = key
 
+-- a slot found by a legal name is held; the empty name finds a free one, which holds no key
 unfoldable pub ownIn : Slot → Entry → Option Source
 ownIn slot free = none
 ownIn slot (held key) = some (own slot key)

@@ -1,4 +1,4 @@
--- The listed opcodes, and whose they are ("Operations and their fields").
+-- The listed opcodes, and whose they are ("Operations and their fields"; document 02, "Checking signatures").
 use Prim.Native.Nat.{ℕ}
 use mathlib.Core.List.{List, [], _∷_}
 use lib.Dec.{eqb}

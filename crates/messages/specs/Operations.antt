@@ -1,4 +1,5 @@
--- "Operations and their fields": what each operation asks and answers, and the fields of its bodies.
+-- "Operations and their fields"; document 02, "Checking signatures": what each operation asks and answers, and the fields of its
+-- bodies.
 use Prim.Native.Nat.{ℕ}
 use mathlib.Core.Option.{Option, none, some}
 use mathlib.Core.List.{List, [], _∷_}
@@ -18,6 +19,10 @@ pub data Operation : Type 0 where
   destroyKey : (name : List ℕ) → Operation
   exportPublicKey : (name : List ℕ) → Operation
   verifySignature : (name hash signature : List ℕ) → Operation
+
+-- the bytes of a hash (SHA-256)
+abbrev pub hashSize : ℕ
+hashSize = 32
 
 abbrev pub opcodeOf : Operation → ℕ
 opcodeOf ping = 1

@@ -3,3 +3,6 @@
 pub mod opcodes;
 pub mod read;
 pub mod write;
+
+// The bytes of a hash (SHA-256).
+pub const HASH_SIZE: usize = 32;

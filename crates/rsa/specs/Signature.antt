@@ -50,6 +50,6 @@ verifiedBy key bits hash signature (Valid modulus size e) =
     verified (numberIn key modulus size) e (bits / 8) hash signature
     else report InvalidKey 0
 
--- a signature checked by the key in these octets, whose modulus has so many bits
+-- a signature checked by the key in these octets, whose modulus must have so many bits
 unfoldable pub verification : (key : List ℕ) → (bits : ℕ) → (hash signature : List ℕ) → Verification
 verification key bits hash signature = verifiedBy key bits hash signature (publicKey key)

@@ -133,7 +133,7 @@ fn check_with_size(
     )
 }
 
-// Checks a signature by an RSAPublicKey, whose modulus has so many bits.
+// Checks a signature by an RSAPublicKey, whose modulus must have so many bits.
 pub fn verify(key: &[u8], bits: usize, hash: &[u8], signature: &[u8]) -> Verification
     ensures { λ r. ⌜ r ≡ verification (now (key .entry)) bits (now (hash .entry)) (now (signature .entry)) ⌝ }
 {

@@ -19,7 +19,7 @@ abbrev pub within : List ℕ → (start len : ℕ) → Element
 within s start len = if leb (start + len) (length s) then Contents start len else Unreadable
 
 -- the length behind the tag at `at`, in its shortest form (X.690, 10.1): one octet below 128, behind 0x81 one, behind 0x82 two;
--- no element of a key is longer
+-- no element of a key of at most 4,096 bits is longer
 abbrev pub lengthAt : List ℕ → (at : ℕ) → Element
 lengthAt s at =
     if ltb (getD s (at + 1) 0) 128 then within s (at + 2) (getD s (at + 1) 0)
@@ -73,7 +73,7 @@ publicKey s = inSequence s (elementAt s 0x30 0)
 
 -- ---- bits
 
--- 1,024 to 4,096 in multiples of 8
+-- which moduli are checked: 1,024 to 4,096 bits, whole octets
 abbrev pub bitsLeast : ℕ
 bitsLeast = 1024
 

@@ -1,6 +1,6 @@
--- DEMAND 3 OF THE CODE, as one claim: any list of calls of `service::call::call`, lent one list of keys that we ship, each step being the contract of that function,
--- the very definition (`CallContract`) that its `ensures` cites. Every function of a proved crate meets its contract, so that
--- whatever the code does is such a list.
+-- DEMAND 3 OF THE CODE, as one claim: any list of calls of `service::call::call`, lent one list of keys that we ship, each step
+-- being the contract of that function, the very definition (`CallContract`) that its `ensures` cites. Every function of a proved
+-- crate meets its contract, so that whatever the code does is such a list.
 use Prim.Native.Nat.{ℕ, zero, suc, _+_, _≤_}
 use mathlib.Core.Path.{_≡_, refl, sym, ap, subst, _∙_}
 use mathlib.Core.Bool.{true}

@@ -1,4 +1,5 @@
--- THE CALL'S WHOLE OUTCOME, which the code's contract cites: "When a call is not taken", and what a taken one leaves.
+-- THE CALL'S WHOLE OUTCOME, which the code's contract cites: "When a call is not taken" (C6: document 02, "Keys we ship"), and what
+-- a taken one leaves.
 use Prim.Native.Nat.{ℕ}
 use mathlib.Core.Bool.{Bool, not}
 use mathlib.Core.Option.{Option, none, some}

@@ -1,4 +1,4 @@
--- The number of each refused call: C1 to C6 of "When a call is not taken".
+-- The number of each refused call: C1 to C5 of "When a call is not taken", C6 of document 02, "Keys we ship".
 use Prim.Native.Nat.{ℕ}
 use Rattle.service.specs.declared.Refusal.{Refusal}
 use Rattle.service.specs.declared.Refusal.the-variants.{ResponseBufferTooSmall, ChunkTooLong, ConnectionIllFormed, RegistryIllFormed, CounterTooHigh, ListIllFormed}

@@ -1,4 +1,4 @@
-// The call: refused by C1 to C6 ("When a call is not taken"), or served and counted.
+// The call: refused by C1 to C6 ("When a call is not taken"; document 02, "Keys we ship"), or served and counted.
 use counters::Counters;
 use counters::Increments;
 

@@ -1,4 +1,4 @@
-// C1 to C6 ("When a call is not taken").
+// C1 to C6 ("When a call is not taken"; document 02, "Keys we ship").
 use crate::Code;
 use crate::Refusal;
 use counters::Counters;

@@ -4,7 +4,7 @@ pub mod find;
 mod marks;
 mod pairs;
 
-// Pairs in a list.
+// The most pairs that a list may have.
 pub const LISTED_MOST: usize = 64;
 
 // A part of the list: the bytes from `start` on.

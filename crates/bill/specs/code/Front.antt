@@ -18,10 +18,11 @@ recordMost = 3 + 65535
 abbrev pub frontMost : ℕ
 frontMost = lineCount * goodRecordMost + recordMost
 
--- a good list has at most so many pairs of a name and data, each in its record
+-- the longest pair of a good list: a name and data, each in its record
 abbrev pub pairMost : ℕ
 pairMost = 3 + keyNameMost + (3 + dataMost)
 
+-- as many such pairs as a list may have
 abbrev pub listMost : ℕ
 listMost = listedMost * pairMost
 
