@@ -47,7 +47,7 @@ result-allowed : (list r : List ℕ) (q : Request) → Allowed (askersSlots r (a
 unfolding refuse success
 result-allowed list r q = by-result list r q (λ x. Allowed (askersSlots r (applicationOf r q)) (x .change)) (record {
   refused = λ status. stays;
-  listed = λ output h. stays;
+  served = λ output h. stays;
   imported = λ slot key v n e. fills (importable-legal key v) n e;
   destroyed = λ slot name e. clears name e;
   exported = λ source name e. stays;
@@ -86,7 +86,7 @@ result-kept : (list r : List ℕ) (q : Request) → KeptUnlessServed (resultOf l
 unfolding KeptUnlessServed refuse success statusNumber
 result-kept list r q = by-result list r q KeptUnlessServed (record {
   refused = λ status h. refl;
-  listed = λ output h n. refl;
+  served = λ output h n. refl;
   imported = λ slot key v n e h. absurd (h refl);
   destroyed = λ slot name e h. absurd (h refl);
   exported = λ source name e h. refl;

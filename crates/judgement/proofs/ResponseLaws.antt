@@ -83,7 +83,7 @@ output-short : (list r : List ℕ) → wellFormedRegistry r ≡ true → (q : Re
 unfolding refuse success
 output-short list r w q = by-result list r q (λ x. length (outputBytes protobuf (x .output)) ≤ bodyMost) (record {
   refused = λ status. omega (arith, ap length nothing-bytes);
-  listed = λ output h. omega arith;
+  served = λ output h. omega arith;
   imported = λ slot key v n e. omega (arith, ap length nothing-bytes);
   destroyed = λ slot name e. omega (arith, ap length nothing-bytes);
   exported = λ source name e.

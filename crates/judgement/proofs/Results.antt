@@ -36,7 +36,7 @@ use Rattle.judgement.proofs.OutputLaws.{version-length, providers-lengt
 -- the ways to end, on these slots and these keys that we ship
 pub record Ends (slots : List Entry) (keys : List ListedKey) (P : Result → Type 0) : Type 0 where
   pub refused : (status : Status) → P (refuse status)
-  pub listed : (output : Output) → length (message.outputBytes protobuf output) ≤ 6 → P (success output unchanged)
+  pub served : (output : Output) → length (message.outputBytes protobuf output) ≤ 6 → P (success output unchanged)
   pub imported : (slot : Slot) (key : Key) → importable key ≡ true → slotNamed (key .name) slots ≡ Nothing → slotNamed [] slots ≡ At slot
       → P (success nothing (fill slot key))
   pub destroyed : (slot : Slot) (name : List ℕ) → slotNamed name slots ≡ At slot → P (success nothing (clear slot))
@@ -102,7 +102,7 @@ module _ (slots : List Entry) (keys : List ListedKey) (P : Result → Type 0) (e
 
   by-outcome : (outcome : Outcome) → P (checked outcome)
   unfolding checked outputIn
-  by-outcome ValidSignature = ends .listed nothing (omega (arith, ap length (nothing-field slots [])))
+  by-outcome ValidSignature = ends .served nothing (omega (arith, ap length (nothing-field slots [])))
   by-outcome InvalidKey = ends .refused _
   by-outcome InvalidSignature = ends .refused _
 
@@ -135,12 +135,12 @@ module _ (slots : List Entry) (keys : List ListedKey) (P : Result → Type 0) (e
     where
       go : (t : Bool) → ltb 1 provider ≡ t → P (performListOpcodes provider)
       go true e = rw (e, performListOpcodes) (ends .refused _)
-      go false e = rw (e, performListOpcodes) (ends .listed (outputIn slots [] (Opcodes provider)) (opcodes-short slots [] provider))
+      go false e = rw (e, performListOpcodes) (ends .served (outputIn slots [] (Opcodes provider)) (opcodes-short slots [] provider))
 
   by-operation : (operation : Operation) → P (perform operation slots keys)
   unfolding perform outputIn
-  by-operation ping = ends .listed _ (omega (arith, version-length slots []))
-  by-operation listProviders = ends .listed _ (omega (arith, providers-length slots []))
+  by-operation ping = ends .served _ (omega (arith, version-length slots []))
+  by-operation listProviders = ends .served _ (omega (arith, providers-length slots []))
   by-operation (listOpcodes provider) = by-opcodes provider
   by-operation (importKey key) = by-import key
   by-operation (destroyKey name) = by-destroy name

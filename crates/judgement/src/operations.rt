@@ -99,7 +99,7 @@ pub fn name_fields() -> Schema
 }
 
 // A request that is served with this body in its response, and changes nothing.
-pub fn listed(output: Output) -> Decision
+pub fn served(output: Output) -> Decision
     ensures { λ r. ⌜ r ≡ record { status = Status.Success; output = output; edit = Edit.Stays; values = message.allAbsent } ⌝ }
 {
     Decision {
@@ -114,7 +114,7 @@ fn ping(body: &[u8]) -> Decision
     ensures { λ r. ⌜ DecidedAnywhere (now (body .entry)) (operated 1 (now (body .entry))) r ⌝ }
 {
     match read_body(body, no_fields()) {
-        Body::Message(_) => listed(Output::Version),
+        Body::Message(_) => served(Output::Version),
         Body::Unreadable(_) => refused(Status::DeserializingBodyFailed),
     }
 }
@@ -123,7 +123,7 @@ fn list_providers(body: &[u8]) -> Decision
     ensures { λ r. ⌜ DecidedAnywhere (now (body .entry)) (operated 8 (now (body .entry))) r ⌝ }
 {
     match read_body(body, no_fields()) {
-        Body::Message(_) => listed(Output::Providers),
+        Body::Message(_) => served(Output::Providers),
         Body::Unreadable(_) => refused(Status::DeserializingBodyFailed),
     }
 }
@@ -138,7 +138,7 @@ fn list_opcodes(body: &[u8]) -> Decision
             if 1 < provider {
                 return refused(Status::ProviderDoesNotExist);
             }
-            listed(Output::Opcodes(provider))
+            served(Output::Opcodes(provider))
         }
         Body::Unreadable(_) => refused(Status::DeserializingBodyFailed),
     }
@@ -244,7 +244,7 @@ fn export(registry: &[u8], list: &[u8], line: Line, name: &[u8]) -> Decision
     if !is_exportable(registry, list, line, place) {
         return refused(Status::PsaErrorNotPermitted);
     }
-    listed(Output::Data(place))
+    served(Output::Data(place))
 }
 
 // The keystore operations, for the application of a line.

@@ -2,8 +2,8 @@
 use crate::Decision;
 use crate::Output;
 use crate::Status;
-use crate::operations::listed;
 use crate::operations::refused;
+use crate::operations::served;
 use keys::KEY_NAME_MOST;
 use keys::bits::are_legal_bits;
 use keys::names::is_legal;
@@ -48,7 +48,7 @@ fn judge_outcome(outcome: Outcome) -> Decision
     ensures { λ r. ⌜ ((slots : List Entry) (list body : List ℕ) → Decided slots list body (checked outcome) r) ⌝ }
 {
     match outcome {
-        Outcome::ValidSignature => listed(Output::Nothing),
+        Outcome::ValidSignature => served(Output::Nothing),
         Outcome::InvalidKey => refused(Status::PsaErrorNotSupported),
         Outcome::InvalidSignature => refused(Status::PsaErrorInvalidSignature),
     }

@@ -65,15 +65,15 @@ returns-3 c body =
     (refusal _ _ body PsaErrorNotPermitted
     (not-exported (s .registry .now) (s .list .now) (s .line) (s .name .now) _ (f .find-key .ensures) (legal (f .before)) (not-nowhere _ (x .before .match .keys2)) (sym (x .is-exportable .ensures) ∙ not-true _ (c .before .if2 .taken))))
 
-listed-requires : tie.Need-listed-requires
-listed-requires c κs = search needs
+served-requires : tie.Need-served-requires
+served-requires c κs = search needs
 
 returns-4 : tie.Need-returns-4
 returns-4 c body =
     let x = c .before .before in
     let f = x .before .before in
     let s = start (f .before) .args in
-    rw (c .listed .ensures)
+    rw (c .served .ensures)
     (listing _ _ body (Data _) (at-safe (s .registry .now) (s .list .now) (s .line) (s .name .now) _ (f .find-key .ensures))
     (exported (s .registry .now) (s .list .now) (s .line) (s .name .now) _ (f .find-key .ensures) (legal (f .before)) (not-nowhere _ (x .before .match .keys2)) (sym (x .is-exportable .ensures) ∙ not-false _ (c .before .if2 .left))))
 
@@ -91,5 +91,5 @@ export-spec =
     is-exportable-requires
     refused-requires-3
     returns-3
-    listed-requires
+    served-requires
     returns-4)

@@ -41,8 +41,8 @@ returns c slots list =
     rw (c .refused .ensures)
     (refusal slots list _ ProviderDoesNotExist (readable slots list _ 9 opcodesFields asked refl _ e ∙ opcodes-refused _ (c .before .if1 .taken)))
 
-listed-requires : tie.Need-listed-requires
-listed-requires c κs = search needs
+served-requires : tie.Need-served-requires
+served-requires c κs = search needs
 
 enum-told : tie.Need-enum-told
 enum-told c = search needs
@@ -55,7 +55,7 @@ unfolding placedOperation perform
 returns-2 c slots list =
     let k = c .before .before .before .before in
     let e = body-read (k .before .before) ∙ k .v .given .1 in
-    rw (c .listed .ensures)
+    rw (c .served .ensures)
     (listing slots list _ (Opcodes _) (c .before .if1 .left) (readable slots list _ 9 opcodesFields asked refl _ e ∙ opcodes-listed slots list _ (c .before .if1 .left)))
 
 returns-3 : tie.Need-returns-3
@@ -73,7 +73,7 @@ list-opcodes-spec =
     enum-known-v
     refused-requires
     returns
-    listed-requires
+    served-requires
     enum-told
     refused-requires-2
     returns-2

@@ -12,8 +12,8 @@ use Rattle.judgement.proofs.signature.judge_outcome.Tie as tie
 enum-told : tie.Need-enum-told
 enum-told c = search needs
 
-listed-requires : tie.Need-listed-requires
-listed-requires c κs = search needs
+served-requires : tie.Need-served-requires
+served-requires c κs = search needs
 
 enum-told-2 : tie.Need-enum-told-2
 enum-told-2 c = search needs
@@ -29,7 +29,7 @@ refused-requires-2 c κs = search needs
 
 returns : tie.Need-returns
 unfolding checked outputIn
-returns c slots list body = rw (c .listed .ensures, c .before .enum-told .given .1) (listing slots list body Nothing tt refl)
+returns c slots list body = rw (c .served .ensures, c .before .enum-told .given .1) (listing slots list body Nothing tt refl)
 
 returns-2 : tie.Need-returns-2
 unfolding checked
@@ -44,7 +44,7 @@ judge-outcome-spec =
     tie.close
     (tie.spec
     enum-told
-    listed-requires
+    served-requires
     enum-told-2
     refused-requires
     enum-told-3
