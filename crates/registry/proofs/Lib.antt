@@ -9,4 +9,6 @@ pub mod BlockNameLaws
 pub mod CheckLaws
 pub mod FindLaws
 pub mod KeyLaws
+pub mod UsedLaws
+pub mod UseLaws
 pub mod WrittenLaws

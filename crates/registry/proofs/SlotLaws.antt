@@ -83,7 +83,7 @@ data-none slot h = rw h
 module _ (key : Key) (hn : length (key .name) ≤ keyNameMost) (hd : length (key .bytes) ≤ dataMost) where
   -- what stands from each part on
   flags : List ℕ
-  flags = flag (key .exportAllowed) ∷ flag (key .verifyAllowed) ∷ []
+  flags = flag (key .exportAllowed) ∷ flag (key .verifyAllowed) ∷ littleEndianOf 4 0
 
   fromBits : List ℕ
   fromBits = littleEndianOf 2 (key .bits) ++ flags

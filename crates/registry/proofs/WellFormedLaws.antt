@@ -1,4 +1,4 @@
--- A well-formed registry stays so when a slot of a used line is filled with a legal key, or cleared.
+-- A well-formed registry stays so when a slot of a used line is filled with a legal key or cleared, or its key is used.
 use mathlib.Core.Path.{_≡_, refl, sym, ap, ap₂, _∙_, subst}
 use mathlib.Core.Bool.{Bool, true, not, _&&_, _||_}
 use mathlib.Core.List.{List, [], _∷_, map}
@@ -6,7 +6,7 @@ use Prim.Native.Nat.{ℕ, zero, suc, _+_, _-_, _*_, _≤_, _<_, min}
 use native.Mathlib.Omega.{arith}
 use borrow.Author.Tests.{eqb-true, eq-eqb}
 use lib.ListN.{length, take, drop, getD, set, length-take, length-drop, List·getD-map, length-map}
-use lib.Seq.{getD-take, map-set-same}
+use lib.Seq.{getD-take, map-set-same, set-getD}
 use lib.Dec.{eqb}
 use Rattle.wire.specs.Lists.{all, isZero, put, blocks}
 use Rattle.wire.proofs.TestLaws.{and-left, and-right, every-at}
@@ -16,8 +16,8 @@ use Rattle.wire.proofs.BlockLaws.{length-blocks, block-at, all-block, zero-bloc
 use Rattle.keys.specs.Names.{legalName, applicationNameMost}
 use Rattle.registry.specs.Names.{nameIn, isNew, distinct}
 use Rattle.keys.specs.Key.{Key}
-use Rattle.registry.specs.Slots.{Entry, free, keyBytes, slotBytes, slotOf, slotSize, wellFormedSlot}
-use Rattle.registry.specs.Registry.{lineCount, slotCount, lineHead, lineSize, registrySize, linesIn, namesIn, slotsIn, lineAt, slotsOf, slotNamed, Change, unchanged, fill, clear, changed}
+use Rattle.registry.specs.Slots.{Entry, free, held, keyBytes, slotBytes, slotOf, usedSlot, slotSize, wellFormedSlot}
+use Rattle.registry.specs.Registry.{lineCount, slotCount, lineHead, lineSize, registrySize, linesIn, namesIn, slotsIn, lineAt, slotsOf, slotNamed, Change, unchanged, fill, clear, addUse, slotAt, changed}
 use Rattle.registry.specs.WellFormed.{isUsed, noneUsed, usedFirst, legalIfUsed, freeIfUnused, slotsWellFormed, zerosBehindName, keysDistinct, registryTests, wellFormedRegistry}
 use Rattle.registry.specs.declared.Line.{Line}
 use Rattle.registry.specs.declared.Slot.{Slot}
@@ -25,7 +25,8 @@ use Rattle.registry.specs.declared.Found.the-variants.{At, Nothing}
 use Rattle.keys.proofs.NameLaws.{legal-short}
 use Rattle.registry.proofs.NameLaws.{lone, lone-absent, Apart, apart-empty, apart-absent, distinct-set, distinct-empty}
 use Rattle.registry.proofs.SlotLaws.{Legal, ShortEntry, entry-short, free-good, key-good, key-length, key-name}
-use Rattle.registry.proofs.RegistryLaws.{Used, found-none, slot-below, slot-names, placeOf, slot-place}
+use Rattle.registry.proofs.RegistryLaws.{Used, found-none, slot-below, slot-names, placeOf, slot-place, slot-there}
+use Rattle.registry.proofs.UsedLaws.{length-used, held-named, name-used, good-used}
 
 -- ---- the clauses, one by one
 
@@ -195,7 +196,7 @@ module _ (r : List ℕ) (g : Good r) (l : ℕ) (hl : l < lineCount) where
 
   -- v is put into slot k of this used line
   module _ (used : isUsed (getD (namesIn r) l []) ≡ true) (k : ℕ) (hk : k < slotCount) (v : List ℕ) (e : length v ≡ slotSize)
-      (ok : wellFormedSlot v ≡ true) (single : lone (nameIn v) (map nameIn (slotsIn line)) ≡ true) (apart : Apart (nameIn v) (map nameIn (slotsIn line))) where
+      (ok : wellFormedSlot v ≡ true) (once : distinct (set (map nameIn (slotsIn line)) k (nameIn v)) ≡ true) where
     line′ : List ℕ
     line′ = written line k v line-long hk e
 
@@ -243,21 +244,30 @@ module _ (r : List ℕ) (g : Good r) (l : ℕ) (hl : l < lineCount) where
                 (ap (all wellFormedSlot) slots-after ∙ all-set wellFormedSlot (slotsIn line) k v slots-there ok);
             zeros = ap (all zerosBehindName) lines-after ∙ all-set zerosBehindName (linesIn r) l line′ (p .zeros) zeros-after;
             keys = ap (all keysDistinct) lines-after ∙ all-set keysDistinct (linesIn r) l line′ (p .keys)
-                (ap (λ (bs : List (List ℕ)). distinct (map nameIn bs)) slots-after ∙ ap distinct (map-set nameIn (slotsIn line) k v)
-                ∙ distinct-set (nameIn v) (map nameIn (slotsIn line)) k single apart keys-there);
+                (ap (λ (bs : List (List ℕ)). distinct (map nameIn bs)) slots-after ∙ ap distinct (map-set nameIn (slotsIn line) k v) ∙ once);
           };
         }
 
     kept-after : Good (put r (placeOf l k) v) × (namesIn (put r (placeOf l k) v) ≡ namesIn r)
     kept-after = (good-after, names-after)
 
+-- each slot is well formed, where it lies
+pub slot-good : (r : List ℕ) → wellFormedRegistry r ≡ true → (l k : ℕ) → l < lineCount → k < slotCount → wellFormedSlot (take slotSize (drop (placeOf l k) r)) ≡ true
+slot-good r w l k hl hk =
+    let g = good-of r w in
+    let slots : slotsWellFormed (lineAt r (record { 0 = l })) ≡ true = subst (λ (x : List ℕ). slotsWellFormed x ≡ true) (line-there r g l hl) (slots-there r g l hl) in
+    subst (λ (x : List ℕ). wellFormedSlot x ≡ true) (slot-place r l k hk)
+    (all-block wellFormedSlot slotSize slotCount (drop lineHead (lineAt r (record { 0 = l }))) k hk slots)
+
 -- ---- the changes that operations make
 
--- of these slots: none; a legal key under a name that none has, into the first free one; a named one cleared
+-- of these slots: none; a legal key under a name that none has, into the first free one; a named one cleared; one that holds a
+-- key used
 pub data Allowed (slots : List Entry) : Change → Type 0 where
   stays : Allowed slots unchanged
   fills : {slot : Slot} {key : Key} → Legal key → slotNamed (key .name) slots ≡ Nothing → slotNamed [] slots ≡ At slot → Allowed slots (fill slot key)
   clears : {slot : Slot} (name : List ℕ) → slotNamed name slots ≡ At slot → Allowed slots (clear slot)
+  uses : {slot : Slot} (name : List ℕ) (key : Key) → slotNamed name slots ≡ At slot → getD slots (slot .0) free ≡ held key → Allowed slots (addUse slot)
 
 module _ (r : List ℕ) (w : wellFormedRegistry r ≡ true) (line : Line) (a : Used r line) where
   names : List (List ℕ)
@@ -270,6 +280,16 @@ module _ (r : List ℕ) (w : wellFormedRegistry r ≡ true) (line : Line) (a : U
       ∙ sym (ap (isNew name) (slot-names (slotsIn (lineAt r line))))
       ∙ found-none name (slotsOf r line) e
 
+  -- the names with x at k, where none is x, or x is empty
+  put-once : (x : List ℕ) (k : ℕ) → lone x names ≡ true → Apart x names → distinct (set names k x) ≡ true
+  unfolding names
+  put-once x k single apart = distinct-set x names k single apart (keys-there r (good-of r w) (line .0) (a .there))
+
+  -- the names with that of slot k again
+  same-once : (k : ℕ) → distinct (set names k (getD names k [])) ≡ true
+  unfolding names
+  same-once k = ap distinct (set-getD names k []) ∙ keys-there r (good-of r w) (line .0) (a .there)
+
   -- the registry stays well formed, and keeps the applications' names
   pub change-kept : (c : Change) → Allowed (slotsOf r line) c → (wellFormedRegistry (changed r line c) ≡ true) × (namesIn (changed r line c) ≡ namesIn r)
   unfolding changed names slotBytes
@@ -278,11 +298,27 @@ module _ (r : List ℕ) (w : wellFormedRegistry r ≡ true) (line : Line) (a : U
       let missing = absent-name (key .name) n in
       let name : nameIn (keyBytes key) ≡ key .name = key-name key legal in
       let (good, same) = kept-after r (good-of r w) (line .0) (a .there) (a .used) (slot .0) (slot-below r line [] slot e) (keyBytes key) (key-length key legal) (key-good key legal)
-      (ap (λ (x : List ℕ). lone x names) name ∙ lone-absent (key .name) names missing)
-      (subst (λ (x : List ℕ). Apart x names) (sym name) (apart-absent (key .name) names missing)) in
+      (ap (λ (x : List ℕ). distinct (set names (slot .0) x)) name
+      ∙ put-once (key .name) (slot .0) (lone-absent (key .name) names missing) (apart-absent (key .name) names missing)) in
       (well-of _ good, same)
   change-kept (clear slot) (clears name e) =
-      let (good, same) = kept-after r (good-of r w) (line .0) (a .there) (a .used) (slot .0) (slot-below r line name slot e) (slotBytes free) refl free-good refl (apart-empty names) in
+      let (good, same) = kept-after r (good-of r w) (line .0) (a .there) (a .used) (slot .0) (slot-below r line name slot e) (slotBytes free) refl free-good (put-once [] (slot .0) refl (apart-empty names)) in
+      (well-of _ good, same)
+  change-kept (addUse slot) (uses name key e q) =
+      let hk = slot-below r line name slot e in
+      let g = good-of r w in
+      let s : List ℕ = slotAt r line slot in
+      let long : length s ≡ slotSize = length-part r (placeOf (line .0) (slot .0)) slotSize (omega (arith, g .size, a .there)) in
+      let named : getD s 0 0 ≡ 0 → ⊥ = held-named s key (sym (slot-there r line (slot .0) hk) ∙ q) in
+      let ok = slot-good r w (line .0) (slot .0) (a .there) hk in
+      let there : getD names (slot .0) [] ≡ nameIn s
+      = List·getD-map nameIn (slotsIn (lineIn r (line .0))) (slot .0) []
+      ∙ ap nameIn
+      (ap (λ (l : List ℕ). getD (slotsIn l) (slot .0) []) (line-there r g (line .0) (a .there))
+      ∙ block-at slotSize slotCount (drop lineHead (lineAt r line)) (slot .0) hk
+      ∙ slot-place r (line .0) (slot .0) hk) in
+      let (good, same) = kept-after r g (line .0) (a .there) (a .used) (slot .0) hk (usedSlot s) (length-used s long) (good-used s long named ok)
+      (ap (λ (x : List ℕ). distinct (set names (slot .0) x)) (name-used s long named ok ∙ sym there) ∙ same-once (slot .0)) in
       (well-of _ good, same)
 
 -- ---- what a well-formed registry holds
@@ -291,14 +327,6 @@ blocks-short : (bs : List (List ℕ)) → all wellFormedSlot bs ≡ true → (i 
 blocks-short [] e i = tt
 blocks-short (b ∷ bs) e zero = entry-short b (and-left (wellFormedSlot b) _ e)
 blocks-short (b ∷ bs) e (suc i) = blocks-short bs (and-right (wellFormedSlot b) _ e) i
-
--- each slot is well formed, where it lies
-pub slot-good : (r : List ℕ) → wellFormedRegistry r ≡ true → (l k : ℕ) → l < lineCount → k < slotCount → wellFormedSlot (take slotSize (drop (placeOf l k) r)) ≡ true
-slot-good r w l k hl hk =
-    let g = good-of r w in
-    let slots : slotsWellFormed (lineAt r (record { 0 = l })) ≡ true = subst (λ (x : List ℕ). slotsWellFormed x ≡ true) (line-there r g l hl) (slots-there r g l hl) in
-    subst (λ (x : List ℕ). wellFormedSlot x ≡ true) (slot-place r l k hk)
-    (all-block wellFormedSlot slotSize slotCount (drop lineHead (lineAt r (record { 0 = l }))) k hk slots)
 
 -- the data of a slot is short
 pub slots-short : (r : List ℕ) → wellFormedRegistry r ≡ true → (line : Line) → line .0 < lineCount → (i : ℕ) → ShortEntry (getD (slotsOf r line) i free)

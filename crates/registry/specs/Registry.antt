@@ -1,5 +1,5 @@
 -- The registry's bytes as applications and their slots, and what a change of a slot writes ("Roster, registry, connection,
--- tally"; docs/LAYOUT.md).
+-- tally"; document 02, "Use per key"; docs/LAYOUT.md).
 use Prim.Native.Nat.{ℕ, _+_, _*_}
 use mathlib.Core.Bool.{_&&_}
 use mathlib.Core.Option.{Option, none, some}
@@ -11,7 +11,7 @@ use Rattle.wire.specs.Lists.{padded, put, blocks}
 use Rattle.keys.specs.Names.{applicationNameMost}
 use Rattle.keys.specs.Key.{Key}
 use Rattle.registry.specs.Names.{nameIn, indexFrom}
-use Rattle.registry.specs.Slots.{Entry, free, nameOf, keyBytes, slotBytes, slotOf, slotSize}
+use Rattle.registry.specs.Slots.{Entry, free, nameOf, keyBytes, slotBytes, slotOf, usesIn, usedSlot, slotSize}
 use Rattle.registry.specs.declared.Line.{Line}
 use Rattle.registry.specs.declared.Slot.{Slot}
 use Rattle.registry.specs.declared.Found.{Found}
@@ -64,6 +64,10 @@ lineAt registry line = take lineSize (drop (line .0 * lineSize) registry)
 unfoldable pub slotsOf : List ℕ → Line → List Entry
 slotsOf registry line = map slotOf (slotsIn (lineAt registry line))
 
+-- how often the key in each was used; 0 for a free one
+unfoldable pub usesOf : List ℕ → Line → List ℕ
+usesOf registry line = map usesIn (slotsIn (lineAt registry line))
+
 -- the first slot with this name; the empty name is that of a free slot
 unfoldable pub slotNamed : (name : List ℕ) → List Entry → Found
 slotNamed name slots =
@@ -76,15 +80,21 @@ pub data Change : Type 0 where
   unchanged : Change
   fill : Slot → Key → Change
   clear : Slot → Change  -- the slot becomes free, all zero
+  addUse : Slot → Change  -- the key was used once more
 
 -- where a slot begins
 abbrev pub place : Line → Slot → ℕ
 place line slot = line .0 * lineSize + (lineHead + slot .0 * slotSize)
 
+-- the bytes of a slot
+abbrev pub slotAt : List ℕ → Line → Slot → List ℕ
+slotAt registry line slot = take slotSize (drop (place line slot) registry)
+
 unfoldable pub changed : List ℕ → Line → Change → List ℕ
 changed registry line unchanged = registry
 changed registry line (fill slot key) = put registry (place line slot) (keyBytes key)
 changed registry line (clear slot) = put registry (place line slot) (slotBytes free)
+changed registry line (addUse slot) = put registry (place line slot) (usedSlot (slotAt registry line slot))
 
 -- ---- the registry of a roster: its names, and no keys
 

@@ -1,8 +1,9 @@
-// A slot filled with a key, or cleared ("Operations and their fields"). All other bytes of the registry stay.
+// A slot filled with a key, or cleared ("Operations and their fields"), or its key's use counted (document 02, "Use per key"). All other bytes of the registry stay.
 use crate::Line;
 use crate::SLOT_SIZE;
 use crate::Slot;
 use crate::find::slot_at;
+use crate::slots::count_use;
 use crate::slots::write_key;
 use wire::bytes::clear;
 ghost use mathlib.Core.Path.{_≡_};
@@ -39,4 +40,13 @@ pub fn clear_slot(registry: &mut [u8], line: Line, slot: Slot)
     let a = slot_at(line, slot);
     let e = a + SLOT_SIZE;
     clear(&mut registry[a..e]);
+}
+
+pub fn add_use(registry: &mut [u8], line: Line, slot: Slot)
+    requires { ⌜ (length (now registry) ≡ registrySize) × (line .0 < lineCount) × (slot .0 < slotCount) ⌝ }
+    ensures { λ _. ⌜ now (registry .exit) ≡ changed (now (registry .entry)) line (registry_specs.addUse slot) ⌝ }
+{
+    let a = slot_at(line, slot);
+    let e = a + SLOT_SIZE;
+    count_use(&mut registry[a..e]);
 }

@@ -5,15 +5,17 @@ use crate::DATA_LENGTH_AT;
 use crate::EXPORT_AT;
 use crate::Line;
 use crate::Slot;
+use crate::USES_AT;
 use crate::VERIFY_AT;
 use crate::find::slot_at;
 use crate::slots::size_at;
+use wire::number::read_u32;
 ghost use mathlib.Core.Path.{_≡_};
 ghost use mathlib.Core.Bool.{true};
 ghost use Prim.Native.Nat.{_<_};
 ghost use lib.ListN.{getD};
 ghost use Rattle.registry.specs.Slots.{free};
-ghost use Rattle.registry.specs.Registry.{lineCount, slotCount, slotsOf};
+ghost use Rattle.registry.specs.Registry.{lineCount, slotCount, slotsOf, usesOf};
 ghost use Rattle.registry.specs.WellFormed.{wellFormedRegistry};
 ghost use Rattle.registry.specs.code.Check.{bytesIn, bitsIn, exportIn, verifyIn};
 
@@ -54,4 +56,13 @@ pub fn is_verifiable(registry: &[u8], line: Line, slot: Slot) -> bool
 {
     let a = slot_at(line, slot);
     registry[a + VERIFY_AT] == 1
+}
+
+// How often the key in a slot was used; of a free slot 0.
+pub fn key_uses(registry: &[u8], line: Line, slot: Slot) -> u32
+    requires { ⌜ (wellFormedRegistry (now registry) ≡ true) × (line .0 < lineCount) × (slot .0 < slotCount) ⌝ }
+    ensures { λ r. ⌜ r ≡ getD (usesOf (now (registry .entry)) line) (slot .0) 0 ⌝ }
+{
+    let a = slot_at(line, slot);
+    read_u32(registry, a + USES_AT)
 }

@@ -21,7 +21,12 @@ pub const EXPORT_AT: usize = BITS_AT + 2;
 
 pub const VERIFY_AT: usize = EXPORT_AT + 1;
 
-pub const SLOT_SIZE: usize = VERIFY_AT + 1;
+pub const USES_AT: usize = VERIFY_AT + 1;
+
+pub const SLOT_SIZE: usize = USES_AT + 4;
+
+// A count of uses stays here.
+pub const USES_MOST: u32 = 4294967295;
 
 pub const SLOTS: usize = 4;
 

@@ -3,6 +3,9 @@ use crate::BITS_AT;
 use crate::DATA_AT;
 use crate::DATA_LENGTH_AT;
 use crate::EXPORT_AT;
+use crate::SLOT_SIZE;
+use crate::USES_AT;
+use crate::USES_MOST;
 use crate::VERIFY_AT;
 use crate::names::wide;
 use keys::DATA_MOST;
@@ -14,6 +17,7 @@ use wire::bytes::clear;
 use wire::bytes::copy_into;
 use wire::number::bytes_of_u16;
 use wire::number::read_u16;
+use wire::number::read_u32;
 ghost use mathlib.Core.Path.{_≡_};
 ghost use Prim.Native.Nat.{_+_, _≤_, _<_};
 ghost use lib.ListN.{length};
@@ -21,7 +25,7 @@ ghost use Rattle.wire.specs.Lists.{padded};
 ghost use Rattle.wire.specs.Numbers.{littleEndianOf, field};
 ghost use Rattle.keys.specs.Key.{dataMost};
 ghost use Rattle.keys.specs.Names.{keyNameMost};
-ghost use Rattle.registry.specs.Slots.{flag, slotSize, keyBytes, wellFormedSlot};
+ghost use Rattle.registry.specs.Slots.{flag, slotSize, keyBytes, used, usedSlot, wellFormedSlot};
 ghost use Rattle.registry.specs.code.Check.{keyFrom};
 
 // The number in the two bytes at `at`.
@@ -87,6 +91,20 @@ fn write_u16(dst: &mut [u8], n: u16)
     dst[1] = bytes[1];
 }
 
+// In four bytes.
+fn write_u32(dst: &mut [u8], n: u32)
+    requires { ⌜ length (now dst) ≡ 4 ⌝ }
+    ensures { λ _. ⌜ now (dst .exit) ≡ littleEndianOf 4 n ⌝ }
+{
+    let n1 = n / 256;
+    let n2 = n1 / 256;
+    let n3 = n2 / 256;
+    dst[0] = (n % 256) as u8;
+    dst[1] = (n1 % 256) as u8;
+    dst[2] = (n2 % 256) as u8;
+    dst[3] = n3 as u8;
+}
+
 fn flag_byte(b: bool) -> u8
     ensures { λ r. ⌜ r ≡ flag b ⌝ }
 {
@@ -115,4 +133,24 @@ pub fn write_key(
     write_u16(&mut slot[BITS_AT..EXPORT_AT], bits);
     slot[EXPORT_AT] = flag_byte(exported);
     slot[VERIFY_AT] = flag_byte(verified);
+    clear(&mut slot[USES_AT..SLOT_SIZE]);
+}
+
+// One use more; a count that is at its most stays.
+fn one_more(uses: u32) -> u32
+    ensures { λ r. ⌜ r ≡ used uses ⌝ }
+{
+    if uses < USES_MOST {
+        return uses + 1;
+    }
+    uses
+}
+
+// Counts a use of the key in the bytes of a slot.
+pub fn count_use(slot: &mut [u8])
+    requires { ⌜ length (now slot) ≡ slotSize ⌝ }
+    ensures { λ _. ⌜ now (slot .exit) ≡ usedSlot (now (slot .entry)) ⌝ }
+{
+    let uses = read_u32(slot, USES_AT);
+    write_u32(&mut slot[USES_AT..SLOT_SIZE], one_more(uses));
 }

@@ -5,13 +5,13 @@ use Rattle.wire.proofs.ListLaws.{length-padded}
 use Rattle.wire.proofs.NumberLaws.{length-number}
 use Rattle.keys.specs.Key.{dataMost}
 use Rattle.keys.specs.Names.{keyNameMost}
-use Rattle.registry.specs.Slots.{dataLengthAt, dataAt, bitsAt, exportAt, verifyAt, slotSize, flag, keyBytes}
+use Rattle.registry.specs.Slots.{dataLengthAt, dataAt, bitsAt, exportAt, verifyAt, usesAt, slotSize, flag, keyBytes}
 use Rattle.registry.proofs.WrittenLaws.{Written, start, put-byte-of, put-part-of, part-length, whole}
-use mathlib.Core.Path.{_≡_, sym, ap, _∙_}
+use mathlib.Core.Path.{_≡_, refl, sym, ap, _∙_}
 use mathlib.Core.List.{List, [], _∷_, _++_}
 use Prim.Native.Nat.{ℕ, _%_}
 use native.Mathlib.Omega.{arith}
-use lib.ListN.{length, set}
+use lib.ListN.{length, set, replicate}
 use borrow.Rule.Slice.PartMut.{putMid}
 use borrow.Author.Needs.{needs}
 use Rattle.registry.proofs.slots.write_key.Statement.{statement}
@@ -38,6 +38,9 @@ p6 c = p5 c ++ (flag (c .args .exported) ∷ [])
 
 abbrev p7 : tie.Start → List ℕ
 p7 c = p6 c ++ (flag (c .args .verified) ∷ [])
+
+abbrev p8 : tie.Start → List ℕ
+p8 c = p7 c ++ littleEndianOf 4 0
 
 -- the slot's bytes after each field
 abbrev s1 : tie.Start → List ℕ
@@ -95,8 +98,20 @@ w5 c =
 w6 : (c : tie.After-flag-byte) → Written slotSize (set (s5 (c .before .before .before)) exportAt (c .flag-byte .result)) (p6 (start5 (c .before .before .before))) verifyAt
 w6 c = put-byte-of (w5 (c .before .before .before)) _ (c .flag-byte .ensures) (omega arith)
 
-w7 : (c : tie.After-flag-byte2) → Written slotSize (set (set (s5 (c .before .before .before .before)) exportAt (c .before .flag-byte .result)) verifyAt (c .flag-byte2 .result)) (p7 (start5 (c .before .before .before .before))) slotSize
+abbrev s7 : tie.After-flag-byte2 → List ℕ
+s7 c = set (set (s5 (c .before .before .before .before)) exportAt (c .before .flag-byte .result)) verifyAt (c .flag-byte2 .result)
+
+w7 : (c : tie.After-flag-byte2) → Written slotSize (s7 c) (p7 (start5 (c .before .before .before .before))) usesAt
 w7 c = put-byte-of (w6 (c .before)) _ (c .flag-byte2 .ensures) (omega arith)
+
+abbrev start8 : tie.After-clear → tie.Start
+start8 c = start5 (c .before .before .before .before .before .before)
+
+w8 : (c : tie.After-clear) → Written slotSize (putMid usesAt 4 (s7 (c .before .before)) (c .clear .last .0)) (p8 (start8 c)) slotSize
+unfolding littleEndianOf
+w8 c =
+    let b = c .before .before in
+    put-part-of (w7 b) 4 (littleEndianOf 4 0) (c .clear .ensures ∙ ap (λ (k : ℕ). replicate k 0) (part-length (w7 b) 4 (omega arith))) refl (omega arith)
 
 cast-slot : tie.Need-cast-slot
 cast-slot c = search needs
@@ -167,12 +182,24 @@ flag-byte-requires-2 c κs = search needs
 slice-write-slot-3 : tie.Need-slice-write-slot-3
 slice-write-slot-3 c = omega (arith, w6 (c .before) .long)
 
+sub-clear : tie.Need-sub-clear
+sub-clear c = search needs
+
+part-clear-start : tie.Need-part-clear-start
+part-clear-start c = search needs
+
+part-clear-end : tie.Need-part-clear-end
+part-clear-end c = omega (arith, w7 c .long)
+
+clear-requires : tie.Need-clear-requires
+clear-requires c κs = search needs
+
 same-length : tie.Need-same-length
-same-length c = w7 c .long ∙ sym (start5 (c .before .before .before .before) .pre .0)
+same-length c = w8 (c .before .before) .long ∙ sym (start8 (c .before .before) .pre .0)
 
 returns : tie.Need-returns
 unfolding keyBytes
-returns c = whole (w7 c)
+returns c = whole (w8 (c .before .before))
 
 pub write-key-spec : {M : Type 1} → statement M
 write-key-spec =
@@ -201,5 +228,9 @@ write-key-spec =
     slice-write-slot-2
     flag-byte-requires-2
     slice-write-slot-3
+    sub-clear
+    part-clear-start
+    part-clear-end
+    clear-requires
     same-length
     returns)
