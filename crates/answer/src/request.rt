@@ -14,6 +14,7 @@ use judgement::operations::perform_keystore;
 use judgement::order::authenticate;
 use judgement::order::check_header;
 use registry::Line;
+use registry::change::add_use;
 use registry::change::clear_slot;
 use registry::change::fill_slot;
 use stream::frame::CONTENT_MOST;
@@ -69,6 +70,9 @@ fn make_edit(registry: &mut [u8], line: Line, body: &[u8], d: Decision)
         }
         Edit::Clears(slot) => {
             clear_slot(registry, line, slot);
+        }
+        Edit::Uses(slot) => {
+            add_use(registry, line, slot);
         }
     }
 }

@@ -1,5 +1,5 @@
--- "Operations and their fields"; document 02, "Checking signatures", "Keys we ship": what each operation does with the slots of
--- the application that asks and with the keys that we ship, and what it answers.
+-- "Operations and their fields"; document 02, "Checking signatures", "Keys we ship", "Use per key": what each operation does with
+-- the slots of the application that asks and with the keys that we ship, and what it answers.
 use Prim.Native.Nat.{ℕ}
 use mathlib.Core.Bool.{Bool, not}
 use mathlib.Core.Option.{none, some}
@@ -15,13 +15,14 @@ use Rattle.messages.specs.Opcodes.{opcodesOf}
 use Rattle.messages.specs.Operations.{Operation, ping, listProviders, listOpcodes, importKey, destroyKey, exportPublicKey, verifySignature, operationOf, Output, nothing, version, providers, opcodes, exported}
 pub use Rattle.messages.specs.Operations.{hashSize}
 use Rattle.registry.specs.Slots.{Entry}
-use Rattle.registry.specs.Registry.{slotNamed, Change, unchanged, fill, clear}
+use Rattle.registry.specs.Registry.{slotNamed, Change, unchanged, fill, clear, addUse}
 use Rattle.registry.specs.declared.Found.the-variants.{At, Nothing}
 use Rattle.shipped.specs.Shipped.{ListedKey}
 use Rattle.lookup.specs.Lookup.{Source, own, listed, keyOf, keyNamed}
 use Rattle.rsa.specs.Signature.{verification}
 use Rattle.rsa.specs.declared.verify.Outcome.{Outcome}
 use Rattle.rsa.specs.declared.verify.Outcome.the-variants.{ValidSignature, InvalidSignature, InvalidKey}
+use Rattle.judgement.specs.Status.{statusNumber}
 use Rattle.judgement.specs.declared.Status.{Status}
 use Rattle.judgement.specs.declared.Status.the-variants.{Success, ProviderDoesNotExist, DeserializingBodyFailed, PsaErrorNotPermitted, PsaErrorNotSupported, PsaErrorInvalidArgument, PsaErrorAlreadyExists, PsaErrorDoesNotExist, PsaErrorInsufficientStorage, PsaErrorInvalidSignature}
 
@@ -72,6 +73,12 @@ performDestroy name slots keys =
       | some source ↦ destroyOf source
     ]
 
+-- a request that is served is a use of its key, and counts on the slot of an own one; those that we ship have no count
+unfoldable pub counted : Source → Result → Result
+counted (listed key) r = r
+counted (own slot key) r =
+    if eqb (statusNumber (r .status)) 0 then record { status = r .status; output = r .output; change = addUse slot } else r
+
 unfoldable pub exportOf : Key → Result
 exportOf key = if key .exportAllowed then success (exported (key .bytes)) unchanged else refuse PsaErrorNotPermitted
 
@@ -81,7 +88,7 @@ performExport name slots keys =
     if not (legalName keyNameMost name) then refuse PsaErrorInvalidArgument
     else elim (keyNamed name slots keys) [
       | none ↦ refuse PsaErrorDoesNotExist
-      | some source ↦ exportOf (keyOf source)
+      | some source ↦ counted source (exportOf (keyOf source))
     ]
 
 -- a good signature is answered with no output; a key that can't be used 1134, a signature that isn't the key's 1149
@@ -104,7 +111,7 @@ performVerify name hash signature slots keys =
     if not (legalName keyNameMost name) then refuse PsaErrorInvalidArgument
     else elim (keyNamed name slots keys) [
       | none ↦ refuse PsaErrorDoesNotExist
-      | some source ↦ verifyWith hash signature (keyOf source)
+      | some source ↦ counted source (verifyWith hash signature (keyOf source))
     ]
 
 unfoldable pub perform : Operation → (slots : List Entry) (keys : List ListedKey) → Result

@@ -69,6 +69,7 @@ pub enum Edit {
     Stays,
     Fills(Slot),
     Clears(Slot),
+    Uses(Slot),
 }
 
 // What an operation comes to; `values` are the fields of its body.

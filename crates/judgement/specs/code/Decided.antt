@@ -18,7 +18,7 @@ use Rattle.keys.specs.Names.{keyNameMost}
 use Rattle.messages.specs.Protobuf.{protobuf}
 use Rattle.messages.specs.Operations as message
 use Rattle.registry.specs.Slots.{Entry, free}
-use Rattle.registry.specs.Registry.{lineCount, slotCount, Change, unchanged, fill, clear}
+use Rattle.registry.specs.Registry.{lineCount, slotCount, Change, unchanged, fill, clear, addUse}
 use Rattle.registry.specs.code.Check.{keyFrom, bytesIn}
 use Rattle.registry.specs.declared.Line.{Line}
 use Rattle.shipped.specs.Shipped.{ListedKey, keysIn}
@@ -39,7 +39,7 @@ use Rattle.judgement.specs.declared.Auth.the-variants.{Refused as AuthRe
 use Rattle.judgement.specs.declared.Output.{Output}
 use Rattle.judgement.specs.declared.Output.the-variants.{Nothing, Version, Providers, Opcodes, Data}
 use Rattle.judgement.specs.declared.Edit.{Edit}
-use Rattle.judgement.specs.declared.Edit.the-variants.{Stays, Fills, Clears}
+use Rattle.judgement.specs.declared.Edit.the-variants.{Stays, Fills, Clears, Uses}
 use Rattle.judgement.specs.declared.Decision.{Decision}
 
 -- ---- the order's tests of the header alone, and of the auth bytes
@@ -100,6 +100,7 @@ unfoldable pub changeOf : (body : List ℕ) → Values → Edit → Change
 changeOf body v Stays = unchanged
 changeOf body v (Fills slot) = fill slot (keyOf body v)
 changeOf body v (Clears slot) = clear slot
+changeOf body v (Uses slot) = addUse slot
 
 unfoldable pub resultIn : (slots : List Entry) (list body : List ℕ) → Decision → Result
 resultIn slots list body d = record { status = d .status; output = outputIn slots list (d .output); change = changeOf body (d .values) (d .edit) }
@@ -145,6 +146,7 @@ abbrev pub SafeEdit : (n : ℕ) → Values → Edit → Type 0
 SafeEdit n v Stays = Unit {0}
 SafeEdit n v (Fills slot) = (slot .0 < slotCount) × KeyParts n v
 SafeEdit n v (Clears slot) = slot .0 < slotCount
+SafeEdit n v (Uses slot) = slot .0 < slotCount
 
 -- d is what x says, on these slots, this list and this body
 pub record Decided (slots : List Entry) (list body : List ℕ) (x : Result) (d : Decision) : Type 0 where
