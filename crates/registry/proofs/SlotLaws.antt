@@ -1,7 +1,7 @@
 -- Laws of a slot's bytes: a key written is read as itself, and a key that Import allows is a well-formed slot.
 use mathlib.Core.Path.{_≡_, refl, sym, ap, _∙_}
 use mathlib.Core.Bool.{Bool, true, false, or-true, or-false}
-use mathlib.Core.List.{List, [], _∷_, _++_, append-assoc}
+use mathlib.Core.List.{List, [], _∷_, _++_, append-assoc, append-nil}
 use Prim.Native.Nat.{ℕ, zero, suc, _+_, _-_, _≤_, _<_}
 use native.Mathlib.Omega.{arith}
 use borrow.Author.Tests.{ne-eqb, eqb-false, le-leb, lt-leb}
@@ -18,7 +18,7 @@ use Rattle.wire.proofs.NumberLaws.{length-number, field-back}
 use Rattle.keys.specs.Names.{legalName, keyNameMost}
 use Rattle.registry.specs.Names.{nameIn}
 use Rattle.keys.specs.Key.{Key, dataMost, legalData, legalBits}
-use Rattle.registry.specs.Slots.{Entry, free, held, nameOf, dataLengthAt, dataAt, bitsAt, exportAt, verifyAt, slotSize, flag, keyBytes, slotBytes, dataIn, keyIn, slotOf, behindName, behindData, keyTests, wellFormedSlot}
+use Rattle.registry.specs.Slots.{Entry, free, held, nameOf, dataLengthAt, dataAt, bitsAt, exportAt, verifyAt, usesAt, slotSize, flag, keyBytes, slotBytes, dataIn, keyIn, slotOf, usesIn, behindName, behindData, keyTests, wellFormedSlot}
 use Rattle.keys.proofs.NameLaws.{legal-short}
 
 -- ---- what bytes stand for
@@ -149,6 +149,12 @@ module _ (key : Key) (hn : length (key .name) ≤ keyNameMost) (hd : length (key
   unfolding flags
   verify-flag = sym (getD-drop exportAt (keyBytes key) 1 0) ∙ ap (λ (l : List ℕ). getD l 1 0) from-flags
 
+  no-uses : usesIn (keyBytes key) ≡ 0
+  unfolding flags
+  no-uses =
+      field-back usesAt 3 0 (keyBytes key) []
+      (sym (drop-drop 2 exportAt (keyBytes key)) ∙ ap (drop 2) from-flags ∙ sym (append-nil (littleEndianOf 4 0)))
+
   flag-back : (t : Bool) → eqb (flag t) 1 ≡ t
   flag-back true = refl
   flag-back false = refl
@@ -229,3 +235,6 @@ module _ (key : Key) (legal : Legal key) where
 
   pub key-name : nameIn (keyBytes key) ≡ key .name
   key-name = name-back key short-name short-data
+
+  pub key-unused : usesIn (keyBytes key) ≡ 0
+  key-unused = no-uses key short-name short-data

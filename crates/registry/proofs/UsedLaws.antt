@@ -1,17 +1,16 @@
 -- A slot whose key was used once more: its count alone has changed (document 02, "Use per key").
 use mathlib.Core.Path.{_≡_, refl, sym, ap, _∙_}
 use mathlib.Core.Bool.{Bool, true, false, true≢false}
-use mathlib.Core.List.{List, [], _∷_, _++_}
-use Prim.Native.Nat.{ℕ, zero, suc, _+_, _-_, _≤_, _<_, min}
+use mathlib.Core.List.{List, [], _∷_}
+use Prim.Native.Nat.{ℕ, _+_, _-_, _≤_, _<_, min}
 use native.Mathlib.Omega.{arith}
-use borrow.Author.Tests.{eqb-false}
+use borrow.Author.Tests.{eqb-true}
 use lib.ListN.{length, take, drop, getD, length-take, length-drop}
 use lib.Seq.{getD-take}
 use lib.Dec.{eqb, leb}
 use Rattle.wire.specs.Choice.{if_then_else_}
-use Rattle.wire.specs.Lists.{all, every, isZero, put}
+use Rattle.wire.specs.Lists.{all, every, isZero}
 use Rattle.wire.specs.Numbers.{littleEndian, littleEndianOf, field}
-use Rattle.wire.proofs.ListLaws.{part-of-part}
 use Rattle.wire.proofs.PutLaws.{length-put, part-put, part-before}
 use Rattle.wire.proofs.TestLaws.{every-at}
 use Rattle.wire.proofs.NumberLaws.{length-number, number-back}
@@ -104,6 +103,15 @@ held-named slot key e z = true≢false (sym (ap isHeld (sym (ap (λ (n : ℕ). i
     isHeld : Entry → Bool
     isHeld free = false
     isHeld (held key) = true
+
+-- and a free one none
+pub free-nameless : (slot : List ℕ) → slotOf slot ≡ free → getD slot 0 0 ≡ 0
+unfolding slotOf
+free-nameless slot e = go (eqb (getD slot 0 0) 0) refl e
+  where
+    go : (t : Bool) → eqb (getD slot 0 0) 0 ≡ t → (let entry : Entry = if t then free else held (keyIn slot) in entry) ≡ free → getD slot 0 0 ≡ 0
+    go true q e = eqb-true _ _ q
+    go false q e = cc
 
 -- of a slot that holds a key
 module _ (slot : List ℕ) (long : length slot ≡ slotSize) (named : getD slot 0 0 ≡ 0 → ⊥) (good : wellFormedSlot slot ≡ true) where
