@@ -1,13 +1,15 @@
 -- Laws of decisions: for each way an operation can end, what the rules make of it, from the facts that the code has there.
 use mathlib.Core.Path.{_≡_, refl, sym, ap, _∙_, subst}
-use mathlib.Core.Bool.{true, false, and-true}
+use mathlib.Core.Bool.{Bool, true, false, and-true}
 use mathlib.Core.Option.{none, some}
 use mathlib.Core.List.{List, []}
 use Prim.Native.Nat.{ℕ, _≤_, _<_}
 use native.Mathlib.Omega.{arith}
 use borrow.Author.Tests.{eq-eqb, ne-eqb, lt-ltb, le-ltb, lt-leb, le-leb}
-use lib.ListN.{length}
+use lib.ListN.{length, getD}
+use lib.Dec.{eqb}
 use Rattle.wire.proofs.ListLaws.{length-part}
+use Rattle.wire.proofs.TestLaws.{some≢none}
 use Rattle.protobuf.specs.code.Body.{bodyOf}
 use Rattle.protobuf.specs.code.Message.{allAbsent}
 use Rattle.protobuf.specs.declared.message.Schema.{Schema}
@@ -17,7 +19,7 @@ use Rattle.protobuf.proofs.StepLaws.{ValuesIn as AllIn}
 use Rattle.protobuf.proofs.BodyLaws.{BodyIn, body-in}
 use Rattle.keys.specs.Names.{legalName, keyNameMost}
 use Rattle.keys.specs.Key.{Key, dataMost, legalData, legalBits, importBits}
-use Rattle.registry.specs.Slots.{Entry}
+use Rattle.registry.specs.Slots.{Entry, free, held}
 use Rattle.registry.specs.Registry.{slotCount, slotsOf, slotNamed, unchanged, fill, clear}
 use Rattle.registry.specs.declared.Line.{Line}
 use Rattle.registry.specs.declared.Slot.{Slot}
@@ -27,8 +29,8 @@ use Rattle.keys.proofs.KeyLaws.{legal-data, legal-bits}
 use Rattle.registry.proofs.SlotLaws.{Legal}
 use Rattle.shipped.specs.Shipped.{ListedKey, keysIn}
 use Rattle.shipped.specs.declared.Span.{Span}
-use Rattle.lookup.specs.Lookup.{Source, own, listed, keyOf as keyFound, keyNamed}
-use Rattle.lookup.specs.code.Places.{listedAt, keyAt, KeyAt}
+use Rattle.lookup.specs.Lookup.{Source, own, listed, keyOf as keyFound, ownIn, keyNamed}
+use Rattle.lookup.specs.code.Places.{Within as PlaceWithin, listedAt, keyAt, sourceAt, KeyAt}
 use Rattle.lookup.specs.declared.Place.{Place}
 use Rattle.lookup.specs.declared.Place.the-variants.{Own, Listed, Nothing as Nowhere}
 use Rattle.lookup.proofs.LookupLaws.{Alike}
@@ -36,9 +38,10 @@ use Rattle.rsa.specs.Signature.{verification}
 use Rattle.messages.specs.Protobuf.{protobuf}
 use Rattle.messages.specs.Operations.{Operation, operationOf, nothing}
 use Rattle.messages.specs.Operations as message
-use Rattle.judgement.specs.Operations.{Result, success, refuse, importable, performImport, destroyOf, performDestroy, exportOf, performExport, hashSize, checked, verifyWith, performVerify, performListOpcodes, perform, operated}
+use Rattle.judgement.specs.Status.{statusNumber}
+use Rattle.judgement.specs.Operations.{Result, success, refuse, importable, performImport, destroyOf, performDestroy, counted, exportOf, performExport, hashSize, checked, verifyWith, performVerify, performListOpcodes, perform, operated}
 use Rattle.judgement.specs.code.Placed.{readBody, keyOf, placedOperation}
-use Rattle.judgement.specs.code.Decided.{outputIn, changeOf, resultIn, refusedWith, verifier, ValuesIn, KeyParts, SafeOutput, Decided}
+use Rattle.judgement.specs.code.Decided.{outputIn, changeOf, resultIn, refusedWith, countedAt, verifier, ValuesIn, KeyParts, SafeOutput, Decided}
 use Rattle.judgement.specs.declared.Status.{Status}
 use Rattle.judgement.specs.declared.Status.the-variants.{Success, ProviderDoesNotExist, DeserializingBodyFailed, PsaErrorNotPermitted, PsaErrorInvalidArgument, PsaErrorNotSupported, PsaErrorAlreadyExists, PsaErrorDoesNotExist, PsaErrorInsufficientStorage}
 use Rattle.judgement.specs.declared.Output.{Output}
@@ -47,6 +50,7 @@ use Rattle.judgement.specs.declared.Edit.the-variants.{Stays, Fills, Cle
 use Rattle.judgement.specs.declared.Decision.{Decision}
 use Rattle.judgement.proofs.SourceLaws.{bytes-at, at-own, at-listed, source, at-source, at-alike}
 use Rattle.judgement.proofs.PlacedLaws.{operation-placed}
+use Rattle.judgement.proofs.Results.{refused-uncounted}
 use Rattle.judgement.proofs.JudgementLaws.{importable-legal}
 
 -- ---- what a decision comes to
@@ -74,6 +78,37 @@ module _ (slots : List Entry) (list body : List ℕ) {x : Result} (v : Values) (
   pub clearing : x ≡ success nothing (clear slot) → Decided slots list body x (record { status = Success; output = Nothing; edit = Clears slot; values = v })
   unfolding success resultIn outputIn changeOf
   clearing e = record { result = sym e; output = tt; edit = below }
+
+-- ---- a use of a key
+
+module _ (slots : List Entry) (list body : List ℕ) {x : Result} (d : Decision) (done : Decided slots list body x d) where
+  -- of the key at a place, who holds it counts it
+  abbrev Counted : Source → Place → Type 0
+  Counted source place = Decided slots list body (counted source x) (countedAt place d)
+
+  counted-own : (slot : Slot) (key : Key) → slot .0 < slotCount → Counted (own slot key) (Own slot)
+  unfolding counted countedAt resultIn changeOf
+  counted-own slot key below =
+      subst (λ (y : Result). Decided slots list body (counted (own slot key) y) (countedAt (Own slot) d)) (done .result)
+      (go (eqb (statusNumber (d .status)) 0) refl)
+    where
+      go : (t : Bool) → eqb (statusNumber (d .status)) 0 ≡ t
+          → Decided slots list body (counted (own slot key) (resultIn slots list body d)) (countedAt (Own slot) d)
+      go true e = rw (e, counted, countedAt) (record { result = refl; output = done .output; edit = below })
+      go false e = rw (e, counted, countedAt) (record { result = refl; output = done .output; edit = done .edit })
+
+  pub counted-there : (registry : List ℕ) (line : Line) (name : List ℕ) (place : Place) (source : Source)
+      → sourceAt registry list line name place ≡ some source → PlaceWithin list place → Counted source place
+  unfolding sourceAt ownIn counted countedAt PlaceWithin
+  counted-there registry line name (Own slot) source e w = go (getD (slotsOf registry line) (slot .0) free) e
+    where
+      go : (entry : Entry) → ownIn slot entry ≡ some source → Counted source (Own slot)
+      go free q = absurd (some≢none source (sym q))
+      go (held key) q = let o : own slot key ≡ source = cc in subst (λ (s : Source). Counted s (Own slot)) o (counted-own slot key w)
+  counted-there registry line name (Listed span) source e w =
+      let o : listed (listedAt name list span) ≡ source = cc in
+      subst (λ (s : Source). Counted s (Listed span)) o done
+  counted-there registry line name Nowhere source e w = absurd (some≢none source (sym e))
 
 -- ---- the body of a request
 
@@ -196,11 +231,11 @@ module _ (slots : List Entry) (keys : List ListedKey) (name : List ℕ) where
       unfolding performDestroy
       destroys = rw (t, e)
 
-      pub exports : performExport name slots keys ≡ exportOf (keyFound source)
+      pub exports : performExport name slots keys ≡ counted source (exportOf (keyFound source))
       unfolding performExport
       exports = rw (t, e)
 
-      pub verifies : (hash signature : List ℕ) → performVerify name hash signature slots keys ≡ verifyWith hash signature (keyFound source)
+      pub verifies : (hash signature : List ℕ) → performVerify name hash signature slots keys ≡ counted source (verifyWith hash signature (keyFound source))
       unfolding performVerify
       verifies hash signature = rw (t, e)
 
@@ -247,25 +282,40 @@ module _ (registry list : List ℕ) (line : Line) (name : List ℕ) (place : Pla
     alike : Alike k (keyFound found)
     alike = at-alike registry list line name place at n t
 
-    exported-by : performExport name slots keys ≡ exportOf (keyFound found)
+    exported-by : performExport name slots keys ≡ counted found (exportOf (keyFound found))
     exported-by = exports slots keys name t found (at-source registry list line name place at n t)
 
-    pub exported : k .exportAllowed ≡ true → performExport name slots keys ≡ success (outputIn slots list (Data place)) unchanged
+    pub exported : k .exportAllowed ≡ true → performExport name slots keys ≡ counted found (success (outputIn slots list (Data place)) unchanged)
     unfolding outputIn
     exported a =
         exported-by
-        ∙ may-export (keyFound found) (sym (alike .exportAllowed) ∙ a)
-        ∙ ap (λ (bytes : List ℕ). success (message.exported bytes) unchanged) (sym (alike .bytes) ∙ bytes-at registry list line place)
+        ∙ ap (counted found)
+        (may-export (keyFound found) (sym (alike .exportAllowed) ∙ a)
+        ∙ ap (λ (bytes : List ℕ). success (message.exported bytes) unchanged) (sym (alike .bytes) ∙ bytes-at registry list line place))
 
     pub not-exported : k .exportAllowed ≡ false → performExport name slots keys ≡ refuse PsaErrorNotPermitted
-    not-exported a = exported-by ∙ may-not-export (keyFound found) (sym (alike .exportAllowed) ∙ a)
+    unfolding statusNumber
+    not-exported a =
+        exported-by
+        ∙ ap (counted found) (may-not-export (keyFound found) (sym (alike .exportAllowed) ∙ a))
+        ∙ refused-uncounted found PsaErrorNotPermitted refl
+
+    by-key : (hash signature : List ℕ)
+        → verifyWith hash signature (keyFound found) ≡ verifyWith hash signature (verifier (k .verifyAllowed) (k .bytes) (k .bits))
+    by-key hash signature =
+        by-verifier hash signature (keyFound found)
+        ∙ rw (← alike .verifyAllowed, ← alike .bytes, ← alike .bits) refl
 
     pub verified-by : (hash signature : List ℕ)
-        → performVerify name hash signature slots keys ≡ verifyWith hash signature (verifier (k .verifyAllowed) (k .bytes) (k .bits))
+        → performVerify name hash signature slots keys ≡ counted found (verifyWith hash signature (verifier (k .verifyAllowed) (k .bytes) (k .bits)))
     verified-by hash signature =
         verifies slots keys name t found (at-source registry list line name place at n t) hash signature
-        ∙ by-verifier hash signature (keyFound found)
-        ∙ rw (← alike .verifyAllowed, ← alike .bytes, ← alike .bits) refl
+        ∙ ap (counted found) (by-key hash signature)
+
+    -- what is decided of the key is decided with its use counted
+    pub counting : (body : List ℕ) {x : Result} (d : Decision) → Decided slots list body x d → Decided slots list body (counted found x) (countedAt place d)
+    counting body d done =
+        counted-there slots list body d done registry line name place found (at .source ∙ at-source registry list line name place at n t) (at .within)
 
 -- ---- Verify, with the key
 

@@ -13,17 +13,22 @@ use Rattle.stream.specs.Frame.{oversized}
 use Rattle.stream.specs.Rules.{Verdict, judge}
 use Rattle.keys.specs.Names.{legalName, keyNameMost}
 use Rattle.keys.specs.Key.{Key, legalData, legalBits, importBits}
+use Rattle.registry.specs.Slots.{Entry}
 use Rattle.registry.specs.Registry.{namesIn, applicationNamed, unchanged, changed}
 use Rattle.registry.specs.WellFormed.{wellFormedRegistry}
 use Rattle.registry.specs.declared.Line.{Line}
 use Rattle.registry.proofs.SlotLaws.{Legal}
 use Rattle.registry.proofs.RegistryLaws.{Used, named-used}
-use Rattle.registry.proofs.WellFormedLaws.{Allowed, stays, fills, clears, change-kept}
+use Rattle.registry.proofs.WellFormedLaws.{Allowed, stays, fills, clears, uses, change-kept}
+use Rattle.shipped.specs.Shipped.{ListedKey}
+use Rattle.lookup.specs.Lookup.{Source, own, listed, keyNamed}
+use Rattle.messages.specs.Operations.{Output}
 use Rattle.judgement.specs.Status.{statusNumber}
-use Rattle.judgement.specs.Operations.{Result, success, refuse, importable}
+use Rattle.judgement.specs.Operations.{Result, success, refuse, importable, counted}
 use Rattle.judgement.specs.Counts.{Counts}
 use Rattle.judgement.specs.Judgement.{applicationOf, askersSlots, resultOf, changedBy, verdictOf, refusedEarly, judgement}
-use Rattle.judgement.proofs.Results.{by-result}
+use Rattle.judgement.proofs.SourceLaws.{own-there, own-held}
+use Rattle.judgement.proofs.Results.{served-status, by-result}
 
 -- ---- the application that asks
 
@@ -43,6 +48,12 @@ importable-legal key e =
     let tests : List Bool = legalName keyNameMost (key .name) ∷ legalData (key .bytes) ∷ legalBits (key .bits) ∷ [] in
     record { name = every-at tests 0 e; bytes = every-at tests 1 e; bits = every-at tests 2 e }
 
+use-allowed : (slots : List Entry) (keys : List ListedKey) (name : List ℕ) (source : Source) → keyNamed name slots keys ≡ some source
+    → (output : Output) → Allowed slots (counted source (success output unchanged) .change)
+unfolding counted success statusNumber
+use-allowed slots keys name (own slot key) e output = uses name key (own-there name slots keys slot key e) (own-held name slots keys slot key e)
+use-allowed slots keys name (listed key) e output = stays
+
 result-allowed : (list r : List ℕ) (q : Request) → Allowed (askersSlots r (applicationOf r q)) (resultOf list r q .change)
 unfolding refuse success
 result-allowed list r q = by-result list r q (λ x. Allowed (askersSlots r (applicationOf r q)) (x .change)) (record {
@@ -50,7 +61,8 @@ result-allowed list r q = by-result list r q (λ x. Allowed (askersSlots r (appl
   served = λ output h. stays;
   imported = λ slot key v n e. fills (importable-legal key v) n e;
   destroyed = λ slot name e. clears name e;
-  exported = λ source name e. stays;
+  exported = λ source name e. use-allowed _ _ name source e _;
+  verified = λ source name e. use-allowed _ _ name source e _;
 })
 
 -- of the registry r, and what it becomes
@@ -89,7 +101,8 @@ result-kept list r q = by-result list r q KeptUnlessServed (record {
   served = λ output h n. refl;
   imported = λ slot key v n e h. absurd (h refl);
   destroyed = λ slot name e h. absurd (h refl);
-  exported = λ source name e h. refl;
+  exported = λ source name e h. absurd (h (ap statusNumber (served-status source _)));
+  verified = λ source name e h. absurd (h (ap statusNumber (served-status source _)));
 })
 
 -- a request that is judged at its last byte

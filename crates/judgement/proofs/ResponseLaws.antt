@@ -18,7 +18,7 @@ use Rattle.stream.proofs.AccountingLaws.{by-requests}
 use Rattle.protobuf.specs.Written.{varintWithin, varint, bytesField}
 use Rattle.keys.specs.Key.{dataMost}
 use Rattle.messages.specs.Protobuf.{protobuf}
-use Rattle.messages.specs.Operations.{outputBytes}
+use Rattle.messages.specs.Operations.{outputBytes, nothing, exported}
 use Rattle.messages.proofs.OperationLaws.{nothing-bytes, exported-bytes}
 use Rattle.registry.specs.Slots.{free}
 use Rattle.registry.specs.WellFormed.{wellFormedRegistry}
@@ -32,7 +32,7 @@ use Rattle.judgement.specs.Counts.{Counts}
 use Rattle.judgement.specs.Judgement.{applicationOf, askersSlots, resultOf, verdictOf, refusedEarly, judgement}
 use Rattle.judgement.specs.declared.Status.{Status}
 use Rattle.judgement.proofs.SourceLaws.{source-short}
-use Rattle.judgement.proofs.Results.{by-result}
+use Rattle.judgement.proofs.Results.{served-output, by-result}
 use Rattle.judgement.proofs.JudgementLaws.{asks, judge-good}
 
 -- the longest response
@@ -86,8 +86,9 @@ output-short list r w q = by-result list r q (λ x. length (outputBytes protobuf
   served = λ output h. omega arith;
   imported = λ slot key v n e. omega (arith, ap length nothing-bytes);
   destroyed = λ slot name e. omega (arith, ap length nothing-bytes);
-  exported = λ source name e.
-      omega (arith, ap length (exported-bytes (keyOf source .bytes)), bytes-short (keyOf source .bytes) (source-short name (askersSlots r (applicationOf r q)) list (slots-of-asker r w q) source e));
+  exported = λ source name e. rw (served-output source (exported (keyOf source .bytes)))
+      (omega (arith, ap length (exported-bytes (keyOf source .bytes)), bytes-short (keyOf source .bytes) (source-short name (askersSlots r (applicationOf r q)) list (slots-of-asker r w q) source e)));
+  verified = λ source name e. rw (served-output source nothing) (omega (arith, ap length nothing-bytes));
 })
 
 -- ---- one response

@@ -25,10 +25,12 @@ use Rattle.rsa.specs.declared.verify.Outcome.the-variants.{ValidSignature, Inva
 use Rattle.messages.specs.Protobuf.{protobuf}
 use Rattle.messages.specs.Operations.{Operation, ping, listProviders, listOpcodes, importKey, destroyKey, exportPublicKey, verifySignature, operationOf, Output, nothing, exported}
 use Rattle.messages.specs.Operations as message
-use Rattle.judgement.specs.Operations.{Result, success, refuse, importable, performImport, destroyOf, performDestroy, exportOf, performExport, hashSize, checked, verifyWith, performVerify, performListOpcodes, perform, operated}
+use Rattle.judgement.specs.Status.{statusNumber}
+use Rattle.judgement.specs.Operations.{Result, success, refuse, importable, performImport, destroyOf, performDestroy, counted, exportOf, performExport, hashSize, checked, verifyWith, performVerify, performListOpcodes, perform, operated}
 use Rattle.judgement.specs.Judgement.{applicationOf, refusals, askersSlots, resultOf}
 use Rattle.judgement.specs.code.Decided.{outputIn}
 use Rattle.judgement.specs.declared.Status.{Status}
+use Rattle.judgement.specs.declared.Status.the-variants.{Success}
 use Rattle.judgement.specs.declared.Output.the-variants.{Opcodes}
 use Rattle.judgement.proofs.SourceLaws.{own-there, none-there}
 use Rattle.judgement.proofs.OutputLaws.{version-length, providers-length, opcodes-short, nothing-field}
@@ -40,7 +42,33 @@ pub record Ends (slots : List Entry) (keys : List ListedKey) (P : Result → Typ
   pub imported : (slot : Slot) (key : Key) → importable key ≡ true → slotNamed (key .name) slots ≡ Nothing → slotNamed [] slots ≡ At slot
       → P (success nothing (fill slot key))
   pub destroyed : (slot : Slot) (name : List ℕ) → slotNamed name slots ≡ At slot → P (success nothing (clear slot))
-  pub exported : (source : Source) (name : List ℕ) → keyNamed name slots keys ≡ some source → P (success (exported (keyOf source .bytes)) unchanged)
+  pub exported : (source : Source) (name : List ℕ) → keyNamed name slots keys ≡ some source
+      → P (counted source (success (exported (keyOf source .bytes)) unchanged))
+  pub verified : (source : Source) (name : List ℕ) → keyNamed name slots keys ≡ some source → P (counted source (success nothing unchanged))
+
+-- ---- what counting a use leaves as it is
+
+module _ (source : Source) where
+  pub refused-uncounted : (status : Status) → eqb (statusNumber status) 0 ≡ false → counted source (refuse status) ≡ refuse status
+  unfolding counted refuse
+  refused-uncounted status e = elim source [
+    | own slot key ↦ rw e
+    | shipped key ↦ refl
+  ]
+
+  pub served-status : (output : Output) → counted source (success output unchanged) .status ≡ Success
+  unfolding counted success statusNumber
+  served-status output = elim source [
+    | own slot key ↦ refl
+    | shipped key ↦ refl
+  ]
+
+  pub served-output : (output : Output) → counted source (success output unchanged) .output ≡ output
+  unfolding counted success statusNumber
+  served-output output = elim source [
+    | own slot key ↦ refl
+    | shipped key ↦ refl
+  ]
 
 pub importable-name : (key : Key) → importable key ≡ true → legalName keyNameMost (key .name) ≡ true
 unfolding importable
@@ -80,12 +108,16 @@ module _ (slots : List Entry) (keys : List ListedKey) (P : Result → Type 0) (e
       go false e = rw (e, performDestroy) (ends .refused _)
       go true e = second e (keyNamed name slots keys) refl
 
-  by-exporting : (name : List ℕ) (source : Source) → keyNamed name slots keys ≡ some source → P (exportOf (keyOf source))
-  unfolding exportOf
+  -- a refusal of a request for a key
+  by-refusal : (source : Source) (status : Status) → eqb (statusNumber status) 0 ≡ false → P (counted source (refuse status))
+  by-refusal source status e = rw (refused-uncounted source status e) (ends .refused status)
+
+  by-exporting : (name : List ℕ) (source : Source) → keyNamed name slots keys ≡ some source → P (counted source (exportOf (keyOf source)))
+  unfolding exportOf statusNumber
   by-exporting name source q = go (keyOf source .exportAllowed) refl
     where
-      go : (t : Bool) → keyOf source .exportAllowed ≡ t → P (exportOf (keyOf source))
-      go false e = rw (e, exportOf) (ends .refused _)
+      go : (t : Bool) → keyOf source .exportAllowed ≡ t → P (counted source (exportOf (keyOf source)))
+      go false e = rw (e, exportOf) (by-refusal source _ refl)
       go true e = rw (e, exportOf) (ends .exported source name q)
 
   by-export : (name : List ℕ) → P (performExport name slots keys)
@@ -100,22 +132,26 @@ module _ (slots : List Entry) (keys : List ListedKey) (P : Result → Type 0) (e
       go false e = rw (e, performExport) (ends .refused _)
       go true e = second e (keyNamed name slots keys) refl
 
-  by-outcome : (outcome : Outcome) → P (checked outcome)
-  unfolding checked outputIn
-  by-outcome ValidSignature = ends .served nothing (omega (arith, ap length (nothing-field slots [])))
-  by-outcome InvalidKey = ends .refused _
-  by-outcome InvalidSignature = ends .refused _
+  by-outcome : (name : List ℕ) (source : Source) → keyNamed name slots keys ≡ some source → (outcome : Outcome) → P (counted source (checked outcome))
+  unfolding checked statusNumber
+  by-outcome name source q ValidSignature = ends .verified source name q
+  by-outcome name source q InvalidKey = by-refusal source _ refl
+  by-outcome name source q InvalidSignature = by-refusal source _ refl
 
-  by-verifying : (hash signature : List ℕ) (key : Key) → P (verifyWith hash signature key)
-  unfolding verifyWith
-  by-verifying hash signature key = go (key .verifyAllowed) refl (eqb (length hash) hashSize) refl (importBits (key .bits)) refl
+  by-verifying : (name hash signature : List ℕ) (source : Source) → keyNamed name slots keys ≡ some source
+      → P (counted source (verifyWith hash signature (keyOf source)))
+  unfolding verifyWith statusNumber
+  by-verifying name hash signature source q = go (key .verifyAllowed) refl (eqb (length hash) hashSize) refl (importBits (key .bits)) refl
     where
+      key : Key
+      key = keyOf source
+
       go : (a : Bool) → key .verifyAllowed ≡ a → (t : Bool) → eqb (length hash) hashSize ≡ t → (b : Bool) → importBits (key .bits) ≡ b
-          → P (verifyWith hash signature key)
-      go false e t h b i = rw (e, verifyWith) (ends .refused _)
-      go true e false h b i = rw (e, h, verifyWith) (ends .refused _)
-      go true e true h false i = rw (e, h, i, verifyWith) (ends .refused _)
-      go true e true h true i = rw (e, h, i, verifyWith) (by-outcome (verification (key .bytes) (key .bits) hash signature .outcome))
+          → P (counted source (verifyWith hash signature key))
+      go false e t h b i = rw (e, verifyWith) (by-refusal source _ refl)
+      go true e false h b i = rw (e, h, verifyWith) (by-refusal source _ refl)
+      go true e true h false i = rw (e, h, i, verifyWith) (by-refusal source _ refl)
+      go true e true h true i = rw (e, h, i, verifyWith) (by-outcome name source q (verification (key .bytes) (key .bits) hash signature .outcome))
 
   by-verify : (name hash signature : List ℕ) → P (performVerify name hash signature slots keys)
   unfolding performVerify
@@ -123,7 +159,7 @@ module _ (slots : List Entry) (keys : List ListedKey) (P : Result → Type 0) (e
     where
       second : legalName keyNameMost name ≡ true → (o : Option Source) → keyNamed name slots keys ≡ o → P (performVerify name hash signature slots keys)
       second v none e = rw (v, e, performVerify) (ends .refused _)
-      second v (some source) e = rw (v, e, performVerify) (by-verifying hash signature (keyOf source))
+      second v (some source) e = rw (v, e, performVerify) (by-verifying name hash signature source e)
 
       go : (t : Bool) → legalName keyNameMost name ≡ t → P (performVerify name hash signature slots keys)
       go false e = rw (e, performVerify) (ends .refused _)

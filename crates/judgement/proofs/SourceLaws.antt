@@ -79,6 +79,14 @@ module _ (name : List ℕ) (slots : List Entry) (keys : List ListedKey) where
       not-own none w = true≢false cc
       not-own (some k) w = true≢false cc
 
+  pub own-held : (slot : Slot) (key : Key) → keyNamed name slots keys ≡ some (own slot key) → getD slots (slot .0) free ≡ held key
+  unfolding ownIn
+  own-held slot key e = go (getD slots (slot .0) free) (sym (own-named name slots keys slot (own-there slot key e)) ∙ e)
+    where
+      go : (entry : Entry) → ownIn slot entry ≡ some (own slot key) → entry ≡ held key
+      go free w = absurd (some≢none (own slot key) (sym w))
+      go (held k) w = let q : k ≡ key = cc in ap held q
+
   -- where a legal name stands for no key, no slot has it
   pub none-there : legalName keyNameMost name ≡ true → keyNamed name slots keys ≡ none → slotNamed name slots ≡ Missing
   none-there t e =

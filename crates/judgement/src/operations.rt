@@ -4,6 +4,7 @@ use crate::Edit;
 use crate::Output;
 use crate::Status;
 use crate::signature::perform_verify;
+use crate::statuses::status_number;
 use keys::DATA_MOST;
 use keys::KEY_NAME_MOST;
 use keys::bits::are_legal_bits;
@@ -36,7 +37,7 @@ ghost use Rattle.registry.specs.WellFormed.{wellFormedRegistry};
 ghost use Rattle.shipped.specs.Shipped.{keysIn, wellFormedList};
 ghost use Rattle.judgement.specs.Operations.{operated, performImport, performDestroy, performExport, importable};
 ghost use Rattle.judgement.specs.code.Placed.{noFields, opcodesFields, importFields, nameFields, keyOf};
-ghost use Rattle.judgement.specs.code.Decided.{refusedWith, Decided, DecidedAnywhere, ValuesIn, oneOfCore, oneOfKeystore};
+ghost use Rattle.judgement.specs.code.Decided.{refusedWith, countedAt, Decided, DecidedAnywhere, ValuesIn, oneOfCore, oneOfKeystore};
 
 // A request that is refused: no output, and nothing changes.
 pub fn refused(status: Status) -> Decision
@@ -107,6 +108,29 @@ pub fn served(output: Output) -> Decision
         output,
         edit: Edit::Stays,
         values: all_absent(),
+    }
+}
+
+// What a request for the key at a place comes to, with its use counted where it is served and the key is the application's own
+// (document 02, "Use per key").
+pub fn counted(place: Place, d: Decision) -> Decision
+    ensures { λ r. ⌜ r ≡ countedAt place d ⌝ }
+{
+    let status = d.status;
+    if status_number(status) != 0 {
+        return d;
+    }
+    let output = d.output;
+    let values = d.values;
+    match place {
+        Place::Own(slot) => Decision {
+            status,
+            output,
+            edit: Edit::Uses(slot),
+            values,
+        },
+        Place::Listed(_) => d,
+        Place::Nothing => d,
     }
 }
 
@@ -244,7 +268,7 @@ fn export(registry: &[u8], list: &[u8], line: Line, name: &[u8]) -> Decision
     if !is_exportable(registry, list, line, place) {
         return refused(Status::PsaErrorNotPermitted);
     }
-    served(Output::Data(place))
+    counted(place, served(Output::Data(place)))
 }
 
 // The keystore operations, for the application of a line.

@@ -2,6 +2,7 @@
 use crate::Decision;
 use crate::Output;
 use crate::Status;
+use crate::operations::counted;
 use crate::operations::refused;
 use crate::operations::served;
 use keys::KEY_NAME_MOST;
@@ -101,7 +102,8 @@ fn verify<'a>(
     let allowed = is_verifiable(registry, list, line, place);
     let bits = key_bits(registry, list, line, place);
     let key = key_bytes(registry, list, line, place);
-    verify_with(allowed, key, bits, hash, signature)
+    let d = verify_with(allowed, key, bits, hash, signature);
+    counted(place, d)
 }
 
 // Verify, of its body.

@@ -26,6 +26,7 @@ use Rattle.lookup.specs.code.Places.{Within as PlaceWithin}
 use Rattle.lookup.specs.declared.Place.{Place}
 use Rattle.lookup.specs.declared.Place.the-variants.{Own, Listed, Nothing as Nowhere}
 use Rattle.messages.specs.Opcodes.{coreOpcodes, keystoreOpcodes, opcodesOf}
+use Rattle.judgement.specs.Status.{statusNumber}
 use Rattle.judgement.specs.Operations.{Result}
 use Rattle.judgement.specs.code.Placed.{keyOf}
 use Rattle.judgement.specs.declared.Status.{Status}
@@ -107,6 +108,13 @@ resultIn slots list body d = record { status = d .status; output = outputIn slot
 
 abbrev pub refusedWith : Status → Decision
 refusedWith status = record { status = status; output = Nothing; edit = Stays; values = allAbsent }
+
+-- a decision on the key at a place, its use counted
+unfoldable pub countedAt : Place → Decision → Decision
+countedAt (Own slot) d =
+    if eqb (statusNumber (d .status)) 0 then record { status = d .status; output = d .output; edit = Uses slot; values = d .values } else d
+countedAt (Listed span) d = d
+countedAt Nowhere d = d
 
 -- a key that was found, as far as Verify looks at it
 abbrev pub verifier : (allowed : Bool) (bytes : List ℕ) (bits : ℕ) → Key

@@ -1,5 +1,5 @@
 -- `judgement::operations::export` meets its contract.
-use mathlib.Core.Path.{_≡_, sym, _∙_}
+use mathlib.Core.Path.{_≡_, refl, sym, _∙_}
 use mathlib.Core.Bool.{true}
 use borrow.Author.Needs.{needs}
 use borrow.Author.Tests.{not-true, not-false}
@@ -8,7 +8,7 @@ use Rattle.registry.proofs.WellFormedLaws.{good-of}
 use Rattle.judgement.specs.declared.Output.the-variants.{Data}
 use Rattle.judgement.specs.declared.Status.the-variants.{PsaErrorNotPermitted, PsaErrorInvalidArgument, PsaErrorDoesNotExist}
 use Rattle.judgement.proofs.SourceLaws.{not-nowhere, at-none, at-safe}
-use Rattle.judgement.proofs.DecidedLaws.{refusal, listing, bad-exported, none-exported, exported, not-exported}
+use Rattle.judgement.proofs.DecidedLaws.{refusal, listing, bad-exported, none-exported, exported, not-exported, counting}
 use Rattle.judgement.proofs.operations.export.Statement.{statement}
 use Rattle.judgement.proofs.operations.export.Tie as tie
 
@@ -68,14 +68,20 @@ returns-3 c body =
 served-requires : tie.Need-served-requires
 served-requires c κs = search needs
 
+counted-requires : tie.Need-counted-requires
+counted-requires c κs = search needs
+
 returns-4 : tie.Need-returns-4
 returns-4 c body =
-    let x = c .before .before in
+    let v = c .before in
+    let x = v .before .before in
     let f = x .before .before in
     let s = start (f .before) .args in
-    rw (c .served .ensures)
-    (listing _ _ body (Data _) (at-safe (s .registry .now) (s .list .now) (s .line) (s .name .now) _ (f .find-key .ensures))
-    (exported (s .registry .now) (s .list .now) (s .line) (s .name .now) _ (f .find-key .ensures) (legal (f .before)) (not-nowhere _ (x .before .match .keys2)) (sym (x .is-exportable .ensures) ∙ not-false _ (c .before .if2 .left))))
+    let at = f .find-key .ensures in
+    let somewhere = not-nowhere _ (x .before .match .keys2) in
+    rw (c .counted .ensures, v .served .ensures, exported (s .registry .now) (s .list .now) (s .line) (s .name .now) _ at (legal (f .before)) somewhere (sym (x .is-exportable .ensures) ∙ not-false _ (v .before .if2 .left)))
+    (counting (s .registry .now) (s .list .now) (s .line) (s .name .now) _ at (legal (f .before)) somewhere body _
+    (listing _ _ body (Data _) (at-safe (s .registry .now) (s .list .now) (s .line) (s .name .now) _ at) refl))
 
 pub export-spec : {M : Type 1} → statement M
 export-spec =
@@ -92,4 +98,5 @@ export-spec =
     refused-requires-3
     returns-3
     served-requires
+    counted-requires
     returns-4)

@@ -11,7 +11,7 @@ use Rattle.registry.proofs.WellFormedLaws.{good-of}
 use Rattle.lookup.specs.code.Places.{Within}
 use Rattle.judgement.specs.declared.Status.the-variants.{PsaErrorInvalidArgument, PsaErrorDoesNotExist}
 use Rattle.judgement.proofs.SourceLaws.{not-nowhere, at-none}
-use Rattle.judgement.proofs.DecidedLaws.{refusal, bad-verified, none-verified, verified-by}
+use Rattle.judgement.proofs.DecidedLaws.{refusal, bad-verified, none-verified, verified-by, counting}
 use Rattle.judgement.proofs.signature.verify.Statement.{statement}
 use Rattle.judgement.proofs.signature.verify.Tie as tie
 
@@ -71,14 +71,21 @@ key-bytes-requires c κs = there (c .before .before .before)
 verify-with-requires : tie.Need-verify-with-requires
 verify-with-requires c κs = search needs
 
+counted-requires : tie.Need-counted-requires
+counted-requires c κs = search needs
+
 returns-3 : tie.Need-returns-3
 returns-3 c body =
-    let b = c .before .before in
+    let w = c .before in
+    let b = w .before .before in
     let v = b .before in
     let f = v .before .before in
     let s = start (f .before) .args in
-    rw (verified-by (s .registry .now) (s .list .now) (s .line) (s .name .now) _ (f .find-key .ensures) (legal (f .before)) (not-nowhere _ (v .before .match .keys2)) (s .hash .now) (s .signature .now), ← v .is-verifiable .ensures, ← b .key-bits .ensures, ← c .before .key-bytes .ensures)
-    (c .verify-with .ensures (slotsOf (s .registry .now) (s .line)) (s .list .now) body)
+    let at = f .find-key .ensures in
+    let somewhere = not-nowhere _ (v .before .match .keys2) in
+    rw (c .counted .ensures, verified-by (s .registry .now) (s .list .now) (s .line) (s .name .now) _ at (legal (f .before)) somewhere (s .hash .now) (s .signature .now), ← v .is-verifiable .ensures, ← b .key-bits .ensures, ← w .before .key-bytes .ensures)
+    (counting (s .registry .now) (s .list .now) (s .line) (s .name .now) _ at (legal (f .before)) somewhere body _
+    (w .verify-with .ensures (slotsOf (s .registry .now) (s .line)) (s .list .now) body))
 
 pub verify-spec : {M : Type 1} → statement M
 verify-spec =
@@ -95,4 +102,5 @@ verify-spec =
     key-bits-requires
     key-bytes-requires
     verify-with-requires
+    counted-requires
     returns-3)
