@@ -62,6 +62,14 @@ clear-slot-requires c κs =
     let s = c .before .before .before .before .before .before in
     (s .pre .0, s .pre .1, rw (c .before .before .edit2 .given .1) at (s .pre .2))
 
+enum-known-edit-3 : tie.Need-enum-known-edit-3
+enum-known-edit-3 c = search needs
+
+add-use-requires : tie.Need-add-use-requires
+add-use-requires c κs =
+    let s = c .before .before .before .before .before .before in
+    (s .pre .0, s .pre .1, rw (c .before .before .edit3 .given .1) at (s .pre .2))
+
 returns : tie.Need-returns
 unfolding changed changeOf
 returns c = rw (c .enum-told .given .1)
@@ -85,6 +93,15 @@ returns-3 c =
     let e = c .before .before .before .before .before in
     rw (e .edit2 .given .1) (c .before .before .clear-slot .ensures)
 
+same-length-3 : tie.Need-same-length-3
+same-length-3 c = search needs
+
+returns-4 : tie.Need-returns-4
+unfolding changeOf
+returns-4 c =
+    let e = c .before .before .before .before .before in
+    rw (e .edit3 .given .1) (c .before .before .add-use .ensures)
+
 pub make-edit-spec : {M : Type 1} → statement M
 make-edit-spec =
     tie.close
@@ -103,8 +120,12 @@ make-edit-spec =
     fill-slot-requires
     enum-known-edit-2
     clear-slot-requires
+    enum-known-edit-3
+    add-use-requires
     returns
     same-length
     returns-2
     same-length-2
-    returns-3)
+    returns-3
+    same-length-3
+    returns-4)
