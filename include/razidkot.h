@@ -40,7 +40,7 @@ extern "C" {
 #endif
 
 /* The one size of registry memory. */
-#define RAZIDKOT_REGISTRY_SIZE 20968
+#define RAZIDKOT_REGISTRY_SIZE 21096
 /* The one size of connection memory. */
 #define RAZIDKOT_CONNECTION_SIZE 4431
 /* A shorter response buffer is refused. */
@@ -50,7 +50,7 @@ extern "C" {
 /* No response is longer. */
 #define RAZIDKOT_LONGEST_RESPONSE 629
 /* A shorter buffer gets no bill; no bill is longer. */
-#define RAZIDKOT_LEAST_BILL_BUFFER 2048
+#define RAZIDKOT_LEAST_BILL_BUFFER 4192
 /* 2^62: a call is refused if any counter is above it. */
 #define RAZIDKOT_HIGHEST_COUNTER (UINT64_C(1) << 62)
 
@@ -189,7 +189,8 @@ typedef struct {
 
 /*
  * Writes the bill of these counters, registry and connection to the front of the buffer: lines of text, each with a
- * newline. Bytes of the buffer past the bill stay. The counters may be any numbers. Where there is no bill (code 1 to 3)
+ * newline. The uses of each key that an application holds are the registry's, all else but the names is the counters' and
+ * the connection's. Bytes of the buffer past the bill stay. The counters may be any numbers. Where there is no bill (code 1 to 3)
  * the buffer stays as it was.
  */
 razidkot_bill_answer razidkot_bill(uint8_t *out, size_t out_length,

@@ -63,7 +63,7 @@ impl Sums {
         }
     }
 
-    /// The bill of a roster with these names.
+    /// The bill of a roster with these names, without the keys, which are not shown.
     fn bill(mut self, names: &[Vec<u8>]) -> String {
         let mut bill = format!("taken {}\n", self.taken);
         for (line, name) in names.iter().enumerate() {
@@ -86,6 +86,12 @@ impl Sums {
     }
 }
 
+/// A bill's lines but those of keys.
+fn without_keys(bill: &str) -> String {
+    let lines = bill.split_inclusive('\n');
+    lines.filter(|line| !line.starts_with("key ")).collect()
+}
+
 #[test]
 fn the_samples_are_shown_as_they_are_billed() {
     for (roster, stream) in [
@@ -98,7 +104,8 @@ fn the_samples_are_shown_as_they_are_billed() {
         let names = razidkot(words!["roster", "show", roster]).text();
         let names: Vec<_> = names.lines().map(|name| name.as_bytes().to_vec()).collect();
         let bill = Sums::of(&shown(&stream, &roster)).bill(&names);
-        assert_eq!(bill, text(printed(&[roster, stream, "/dev/null".into()])));
+        let printed = text(printed(&[roster, stream, "/dev/null".into()]));
+        assert_eq!(bill, without_keys(&printed));
     }
 }
 
@@ -131,7 +138,7 @@ fn any_stream_is_shown_as_the_reference_has_it() {
         outcomes.count(format!("held {}", sums.held > 0));
         outcomes.count(format!("dropped {}", sums.dropped > 0));
         let bill = text(reference::bill(Some(&roster), Some(&stream), Some(&[])));
-        assert_eq!(sums.bill(&names), bill);
+        assert_eq!(sums.bill(&names), without_keys(&bill));
     });
     outcomes.assert_often(&["held true", "held false"], 10);
     outcomes.assert_often(&["dropped true", "dropped false"], 10);

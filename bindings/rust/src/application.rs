@@ -7,7 +7,7 @@ pub const SLOTS: usize = 4;
 
 const LINE_SIZE: usize = REGISTRY_SIZE / LINES;
 const SLOTS_START: usize = 65;
-const SLOT_SIZE: usize = 639;
+const SLOT_SIZE: usize = 643;
 
 /// An application on the roster, and its keys.
 #[derive(Clone, Debug, PartialEq, Eq)]
@@ -31,6 +31,9 @@ pub struct Key<'a> {
     pub export_allowed: bool,
     /// May it be used to verify?
     pub verify_allowed: bool,
+    /// Export and verify requests served with it since it was imported; it stays at [`u32::MAX`] once
+    /// there.
+    pub uses: u32,
 }
 
 /// The used lines of a well-formed registry, which come first.
@@ -55,6 +58,7 @@ fn key(slot: &[u8]) -> Option<Key<'_>> {
         bits: number(635),
         export_allowed: slot[637] == 1,
         verify_allowed: slot[638] == 1,
+        uses: u32::from_le_bytes([slot[639], slot[640], slot[641], slot[642]]),
     })
 }
 
@@ -72,13 +76,14 @@ mod tests {
     fn memory() -> Vec<u8> {
         let registry = Registry::load(b"\x01\x01\x00a\x01\x02\x00bc").expect("a good roster");
         let mut memory = registry.memory().to_vec();
-        let slot = &mut memory[2_621 + 65 + 3 * 639..][..639];
+        let slot = &mut memory[2_637 + 65 + 3 * 643..][..643];
         slot[0] = 32;
         slot[1..33].fill(b'k');
         slot[33..35].copy_from_slice(&600_u16.to_le_bytes());
         slot[35..635].fill(0xD0);
         slot[635..637].copy_from_slice(&4_096_u16.to_le_bytes());
         slot[638] = 1;
+        slot[639..].copy_from_slice(&0x0403_0201_u32.to_le_bytes());
         memory
     }
 
@@ -98,6 +103,7 @@ mod tests {
         assert_eq!((key.name, key.data), (&[b'k'; 32][..], &[0xD0; 600][..]));
         assert_eq!(key.bits, 4_096);
         assert_eq!((key.export_allowed, key.verify_allowed), (false, true));
+        assert_eq!(key.uses, 0x0403_0201);
     }
 
     #[test]
@@ -128,9 +134,16 @@ mod tests {
             Registry::from_bytes(&[&whole[..], &[0]].concat()),
             Err(IllFormed)
         );
-        // A space in a name, a byte behind one, a third flag, a key on an unused line.
-        let slot = 2_621 + 65 + 3 * 639;
-        for (place, byte) in [(1, b' '), (2, b'x'), (slot + 637, 2), (2 * 2_621 + 65, 1)] {
+        // A space in a name, a byte behind one, a third flag, a count in a free slot, a key on an
+        // unused line.
+        let slot = 2_637 + 65 + 3 * 643;
+        for (place, byte) in [
+            (1, b' '),
+            (2, b'x'),
+            (slot + 637, 2),
+            (slot - 1, 1),
+            (2 * 2_637 + 65, 1),
+        ] {
             let mut changed = whole.clone();
             changed[place] = byte;
             assert_eq!(

@@ -94,8 +94,9 @@ impl Connection {
         Held::of(&self.memory)
     }
 
-    /// The bill: bytes taken, requests served for each application and with auth type 0, requests
-    /// refused with each status, bytes dropped and held. Each line ends with a newline.
+    /// The bill: bytes taken, requests served for each application, uses of each key that it holds,
+    /// requests served with auth type 0, requests refused with each status, bytes dropped and held.
+    /// Each line ends with a newline.
     ///
     /// ```
     /// use razidkot::{Connection, Counters, Registry};

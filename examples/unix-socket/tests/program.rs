@@ -16,7 +16,7 @@ use std::process::{Command, Stdio};
 use std::thread;
 use std::time::Duration;
 
-/// A bill on which nobody has a line but these.
+/// A bill on which nobody has a count but these, and no key is left.
 fn bill_of(taken: u64, served: &[(usize, u64)], open: u64, held: u64) -> String {
     let line = |(number, name): (usize, &&[u8])| {
         let served = served.iter().find(|(line, _)| *line == number);
@@ -59,6 +59,7 @@ fn either_signal_stops_it_and_the_bill_is_printed() {
         assert_eq!(read_to_end(&begun.socket), b"", "and its end");
         assert_eq!(read_to_end(&silent), b"");
         let expected = bill_of(worker.sent() + 39, &[(3, 2)], 1, 11);
+        let expected = expected.replace("open ", "key 3 0 1\nopen ");
         assert_eq!(output.stdout, expected);
         assert_eq!(output.count(&format!("stopping: SIG{name}")), 1);
         assert_eq!(output.count("3 connections; "), 1, "{output:?}");
