@@ -1,11 +1,11 @@
 //! The bill of a roster file, a captured stream and a list of keys.
-//! Document 01, "The bill"; document 02, "Keys we ship".
+//! Document 01, "The bill"; document 02, "Keys we ship" and "Use per key".
 
 use crate::call::{call, Refusal, MAX_CHUNK, MIN_RESPONSE_BUFFER};
 use crate::connection::unfinished_bytes;
 use crate::counters::Counters;
 use crate::list::list_is_well_formed;
-use crate::registry::{application_name, Line};
+use crate::registry::{application_name, read_uses, used_slots, Line};
 use crate::roster::load_roster;
 use crate::status::Status;
 use crate::{CONNECTION_SIZE, REGISTRY_SIZE};
@@ -54,6 +54,7 @@ fn refused_start(roster: &[u8], list: &[u8], registry: &mut [u8]) -> Option<Stri
 pub fn bill_text(counters: &Counters, registry: &[u8], connection: &[u8]) -> Vec<u8> {
     let mut lines = vec![format!("taken {}", counters.taken)];
     lines.extend(roster_lines(counters, registry));
+    lines.extend(key_lines(registry));
     lines.push(format!("open {}", counters.unauthenticated));
     lines.extend(refused_lines(counters));
     lines.push(format!("dropped {}", counters.dropped));
@@ -73,6 +74,16 @@ fn roster_lines<'a>(
             let name = String::from_utf8_lossy(name);
             format!("line {number} {name} {}", counters.served[number])
         })
+}
+
+/// Of every used slot, one whose key nobody used too.
+fn key_lines(registry: &[u8]) -> impl Iterator<Item = String> + '_ {
+    Line::all().flat_map(move |line| {
+        used_slots(registry, line).map(move |slot| {
+            let uses = read_uses(registry, line, slot);
+            format!("key {} {} {uses}", line.number(), slot.number())
+        })
+    })
 }
 
 fn refused_lines(counters: &Counters) -> impl Iterator<Item = String> + '_ {

@@ -1,6 +1,7 @@
 //! The seven operations: what each reads from its body, does and writes.
 //! Document 01, "Operations and their fields"; document 02, "Unlisted fields" (a field that is not
-//! listed, or has another wire type, is skipped), "Checking signatures" and "Keys we ship".
+//! listed, or has another wire type, is skipped), "Checking signatures", "Keys we ship" and "Use per
+//! key".
 
 use crate::list::find_listed_key;
 use crate::opcode::{CoreOpcode, KeystoreOpcode, Provider};
@@ -62,13 +63,24 @@ pub fn perform_keystore(
         KeystoreOpcode::Destroy => destroy(registry, list, line, read_name(body)?),
         KeystoreOpcode::Export => {
             let source = find_key(registry, list, line, read_name(body)?)?;
-            export(&source, out)
+            let written = export(&source, out)?;
+            count_use(source.own_slot(), line, registry);
+            Ok(written)
         }
         KeystoreOpcode::Verify => {
             let input = read_verify_input(body)?;
             let source = find_key(registry, list, line, input.name)?;
-            verify(&source, &input)
+            let written = verify(&source, &input)?;
+            count_use(source.own_slot(), line, registry);
+            Ok(written)
         }
+    }
+}
+
+/// Only a served use comes here; a listed key, which is in no slot, has no count.
+fn count_use(own: Option<Slot>, line: Line, registry: &mut [u8]) {
+    if let Some(slot) = own {
+        registry::add_use(registry, line, slot);
     }
 }
 
@@ -77,6 +89,15 @@ enum Source<'a> {
     Own(Slot, Key<'a>),
     /// Its data: it allows both uses, and its bits are its modulus's.
     Listed(&'a [u8]),
+}
+
+impl Source<'_> {
+    fn own_slot(&self) -> Option<Slot> {
+        match self {
+            Source::Own(slot, _) => Some(*slot),
+            Source::Listed(_) => None,
+        }
+    }
 }
 
 /// Among the application's own first, then in the list; a bad name is refused before either.

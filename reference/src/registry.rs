@@ -1,7 +1,8 @@
-//! The registry in its lent memory: layout, well-formedness, finding, filling and freeing.
-//! Document 01, "Roster, registry, connection, tally"; the layout is the one set down in docs/.
+//! The registry in its lent memory: layout, well-formedness, finding, filling, freeing and counting.
+//! Document 01, "Roster, registry, connection, tally"; document 02, "Use per key", for the count of a
+//! slot; the layout is the one set down in docs/.
 
-use crate::bytes::{is_zero, read_u16, write_at};
+use crate::bytes::{is_zero, read_u16, read_u32, write_at};
 
 pub const REGISTRY_SIZE: usize = LINES * LINE_SIZE;
 pub const LINES: usize = 8;
@@ -21,7 +22,8 @@ const DATA_AT: usize = DATA_LENGTH_AT + 2;
 const BITS_AT: usize = DATA_AT + LONGEST_DATA;
 const EXPORT_ALLOWED_AT: usize = BITS_AT + 2;
 const VERIFY_ALLOWED_AT: usize = EXPORT_ALLOWED_AT + 1;
-const SLOT_SIZE: usize = VERIFY_ALLOWED_AT + 1;
+const USES_AT: usize = VERIFY_ALLOWED_AT + 1;
+const SLOT_SIZE: usize = USES_AT + 4;
 
 /// The number of a roster line, from 0.
 #[derive(Clone, Copy, Debug, PartialEq, Eq)]
@@ -44,6 +46,10 @@ pub struct Slot(usize);
 impl Slot {
     fn all() -> impl Iterator<Item = Slot> {
         (0..SLOTS).map(Slot)
+    }
+
+    pub fn number(self) -> usize {
+        self.0
     }
 }
 
@@ -131,6 +137,7 @@ fn names_are_distinct(names: &[&[u8]]) -> bool {
         .all(|(place, name)| name.is_empty() || !names[..place].contains(name))
 }
 
+/// A free slot is all zero; in a used one any count of uses is good.
 fn slot_is_well_formed(slot: &[u8]) -> bool {
     if slot[0] == 0 {
         return is_zero(slot);
@@ -202,7 +209,16 @@ pub fn find_key(registry: &[u8], line: Line, name: &[u8]) -> Option<Slot> {
 
 /// The lowest-numbered free slot of this application.
 pub fn find_free_slot(registry: &[u8], line: Line) -> Option<Slot> {
-    Slot::all().find(|&slot| slot_bytes(registry, line, slot)[0] == 0)
+    Slot::all().find(|&slot| is_free(registry, line, slot))
+}
+
+/// The used slots of this application, ascending.
+pub fn used_slots(registry: &[u8], line: Line) -> impl Iterator<Item = Slot> + '_ {
+    Slot::all().filter(move |&slot| !is_free(registry, line, slot))
+}
+
+fn is_free(registry: &[u8], line: Line, slot: Slot) -> bool {
+    slot_bytes(registry, line, slot)[0] == 0
 }
 
 /// The key in a used slot.
@@ -210,7 +226,19 @@ pub fn read_key(registry: &[u8], line: Line, slot: Slot) -> Key<'_> {
     key_in(slot_bytes(registry, line, slot))
 }
 
-/// Fills a free slot with a key that Import allows and leaves all else alone.
+/// How often the key in a used slot was exported or verified with.
+pub fn read_uses(registry: &[u8], line: Line, slot: Slot) -> u32 {
+    read_u32(slot_bytes(registry, line, slot), USES_AT)
+}
+
+/// Counts one use more of the key in a used slot; the highest count stays.
+pub fn add_use(registry: &mut [u8], line: Line, slot: Slot) {
+    let uses = read_uses(registry, line, slot).saturating_add(1);
+    let slot = slot_bytes_mut(registry, line, slot);
+    write_at(slot, USES_AT, &uses.to_le_bytes());
+}
+
+/// Fills a free slot with a key that Import allows, its uses 0, and leaves all else alone.
 pub fn write_key(registry: &mut [u8], line: Line, slot: Slot, key: &Key) {
     let slot = slot_bytes_mut(registry, line, slot);
     slot[0] = key.name.len() as u8;

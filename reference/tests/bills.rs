@@ -1,5 +1,5 @@
 //! The bill by the library and by the executable.
-//! Document 01, "The bill"; document 02, "Keys we ship".
+//! Document 01, "The bill"; document 02, "Keys we ship" and "Use per key".
 
 mod common;
 
@@ -82,11 +82,66 @@ fn every_used_line_and_every_refusal_that_is_not_zero_in_ascending_order() {
     ];
     let stream: Vec<u8> = requests.iter().flat_map(Request::bytes).collect();
     let expected = format!(
-        "taken {}\nline 0 z 1\nline 1 idle 0\nline 2 a 1\nopen 1\nrefused 1 1\nrefused 4 1\n\
-         refused 11 1\nrefused 1139 1\nrefused 1140 1\ndropped 0\nheld 0\n",
+        "taken {}\nline 0 z 1\nline 1 idle 0\nline 2 a 1\nkey 2 0 0\nopen 1\nrefused 1 1\n\
+         refused 4 1\nrefused 11 1\nrefused 1139 1\nrefused 1140 1\ndropped 0\nheld 0\n",
         stream.len()
     );
     expect_bill("every_line", &roster_of(&names), &stream, &expected);
+}
+
+/// Slots are filled and freed in another order than the bill has them; a free one has no line.
+#[test]
+fn key_lines_stand_behind_all_roster_lines_by_line_and_then_slot() {
+    let [first, second]: [&[u8]; 2] = [b"z", b"a"];
+    let mut requests: Vec<Request> = [b"d", b"c", b"b", b"a"]
+        .map(|name| import(&key(name)).sent_by(second))
+        .into();
+    requests.extend([
+        import(&key(b"k")).sent_by(first),
+        import(&key(b"l")).sent_by(first),
+        export(b"a").sent_by(second),
+        export(b"c").sent_by(second),
+        export(b"l").sent_by(first),
+        export(b"a").sent_by(second),
+        destroy(b"c").sent_by(second),
+        destroy(b"k").sent_by(first),
+        // Refused: no use.
+        export(b"c").sent_by(second),
+        export(b"a").sent_by(first),
+    ]);
+    let stream: Vec<u8> = requests.iter().flat_map(Request::bytes).collect();
+    let expected = format!(
+        "taken {}\nline 0 z 4\nline 1 a 8\nkey 0 1 1\nkey 1 0 0\nkey 1 2 0\nkey 1 3 2\nopen 0\n\
+         refused 1140 2\ndropped 0\nheld 0\n",
+        stream.len()
+    );
+    expect_bill(
+        "key_lines",
+        &roster_of(&[first, second]),
+        &stream,
+        &expected,
+    );
+}
+
+#[test]
+fn the_highest_counts_of_all_keys_are_billed() {
+    let names: [&[u8]; 8] = [b"0", b"1", b"2", b"3", b"4", b"5", b"6", b"7"];
+    let mut service = Service::with_roster(&names);
+    let mut expected = String::new();
+    for (line, name) in names.iter().enumerate() {
+        for slot in 0..4 {
+            let request = import(&key(&[b'a' + slot as u8])).sent_by(name);
+            service.expect_status(&request, Status::Success);
+            service.set_uses(line, slot, u32::MAX);
+            expected += &format!("key {line} {slot} 4294967295\n");
+        }
+    }
+    let text = bill_text(&service.counters, &service.registry, &service.connection);
+    let text = String::from_utf8(text).unwrap();
+    assert!(
+        text.contains(&format!("\nline 7 7 4\n{expected}open 0\n")),
+        "{text}"
+    );
 }
 
 #[test]
@@ -243,7 +298,8 @@ fn the_text_of_a_bill_on_lent_memory() {
     service.expect_status(&export(b"c"), Status::PsaErrorDoesNotExist);
     service.send(&PING_REQUEST[..7]);
     let expected = format!(
-        "taken {}\nline 0 scanner 2\nline 1 archive 0\nopen 0\nrefused 1140 1\ndropped 0\nheld 7\n",
+        "taken {}\nline 0 scanner 2\nline 1 archive 0\nkey 0 0 0\nkey 0 1 0\nopen 0\n\
+         refused 1140 1\ndropped 0\nheld 7\n",
         service.counters.taken
     );
     let text = bill_text(&service.counters, &service.registry, &service.connection);

@@ -1,21 +1,24 @@
 //! Any cut against the uncut rules, on generated rosters, lists and streams.
-//! Document 01, "A whole stream under the rules"; document 02, "Keys we ship".
+//! Document 01, "A whole stream under the rules"; document 02, "Keys we ship" and "Use per key".
 
 mod common;
 
 use common::generate::{list, names, requests, Random};
-use common::listed::{self, Asked};
+use common::listed::{self, Asked, MOST_USES};
 use common::*;
 use reference::rules::{self, ConnectionState, Outcome};
 use reference::{registry_is_well_formed, Refusal, Status, Taken, MAX_CHUNK};
 use std::collections::BTreeSet;
 use std::fmt::Debug;
 
-/// A roster, what was sent before there was a list, the list, a stream, and how it is cut.
+/// A roster, what was sent before there was a list, how often those keys were used, the list, a stream,
+/// and how it is cut.
 #[derive(Clone)]
 struct Case {
     names: Vec<Vec<u8>>,
     earlier: Vec<Vec<u8>>,
+    /// Of the keys in their order, over and over.
+    uses: Vec<u32>,
     list: Vec<u8>,
     requests: Vec<Vec<u8>>,
     /// How long the chunks are, over and over.
@@ -29,6 +32,8 @@ impl Case {
         let random = &mut Random::new(seed);
         let names = names(random);
         let earlier = requests(random, &names, 16);
+        let counts = [0, 1, 255, 65_535, MOST_USES - 1, MOST_USES - 1, MOST_USES];
+        let uses = (0..3).map(|_| random.pick(&counts)).collect();
         let list = list(random);
         let requests = requests(random, &names, most_requests);
         // A long stream is not cut into more than some hundreds, for the time it takes.
@@ -39,6 +44,7 @@ impl Case {
         Case {
             names,
             earlier,
+            uses,
             list,
             requests,
             sizes,
@@ -48,11 +54,14 @@ impl Case {
 
     fn service(&self) -> Service {
         let names: Vec<_> = self.names.iter().map(Vec::as_slice).collect();
-        let service = Service::with_roster(&names).with_list(&self.list);
-        Service {
-            registry: rules::run(&service.registry, &self.earlier.concat()).registry,
-            ..service
+        let mut service = Service::with_roster(&names).with_list(&self.list);
+        service.registry = rules::run(&service.registry, &self.earlier.concat()).registry;
+        let used = places().filter(|&(line, slot)| service.registry[slot_at(line, slot)] != 0);
+        let used: Vec<_> = used.collect();
+        for ((line, slot), &uses) in used.into_iter().zip(self.uses.iter().cycle()) {
+            service.set_uses(line, slot, uses);
         }
+        service
     }
 
     /// Cases that are a step shorter.
@@ -82,6 +91,11 @@ impl Case {
             .chain(with_one_size.filter(|case| sizes_can_shrink && case.sizes[0] > 0))
             .collect()
     }
+}
+
+/// Every slot, ascending by line, then slot.
+fn places() -> impl Iterator<Item = (usize, usize)> {
+    (0..8).flat_map(|line| (0..4).map(move |slot| (line, slot)))
 }
 
 fn same<T: PartialEq + Debug>(what: &str, call: T, rules: T) -> Result<(), String> {
@@ -222,11 +236,12 @@ fn run_case(seed: u64, case: Case, check: Check) -> Outcome {
         Err(_) => {
             let case = shrink(case, check);
             panic!(
-                "seed {seed}: {}\nnames {:02X?}\nearlier {:02X?}\nlist {:02X?}\n\
+                "seed {seed}: {}\nnames {:02X?}\nearlier {:02X?}\nuses {:?}\nlist {:02X?}\n\
                  requests {:02X?}\nsizes {:?}, rests alone {}",
                 check(&case).expect_err("shrinking keeps the failure"),
                 case.names,
                 case.earlier,
+                case.uses,
                 case.list,
                 case.requests,
                 case.sizes,
@@ -264,7 +279,7 @@ impl Reached {
             ConnectionState::Skipping { .. } => "skipping",
             ConnectionState::Closed => "closed",
         });
-        for (line, slot) in (0..8).flat_map(|line| (0..4).map(move |slot| (line, slot))) {
+        for (line, slot) in places() {
             let slot = &outcome.registry[slot_at(line, slot)..][..SLOT_SIZE];
             if slot[0] != 0 {
                 self.flags.insert([slot[637], slot[638]]);
@@ -292,13 +307,33 @@ fn any_cut_of_a_stream_comes_to_what_the_rules_give_uncut() {
     reached.assert_all();
 }
 
+fn name_at(registry: &[u8], at: usize) -> &[u8] {
+    &registry[at + 1..][..usize::from(registry[at])]
+}
+
+fn line_of(registry: &[u8], application: &[u8]) -> Option<usize> {
+    (0..8).find(|&line| name_at(registry, line_at(line)) == application)
+}
+
 /// The names in the slots of an application; none where there is no such application.
 fn own_names(registry: &[u8], application: &[u8]) -> Vec<Vec<u8>> {
-    let name_at = |at: usize| registry[at + 1..][..usize::from(registry[at])].to_vec();
-    let line = (0..8).find(|&line| name_at(line_at(line)) == application);
-    line.map_or(Vec::new(), |line| {
-        (0..4).map(|slot| name_at(slot_at(line, slot))).collect()
+    line_of(registry, application).map_or(Vec::new(), |line| {
+        let name = |slot| name_at(registry, slot_at(line, slot)).to_vec();
+        (0..4).map(name).collect()
     })
+}
+
+/// The name of a use that a request was, if it was one that counts, which the counts of all keys show.
+fn counted(asked: &Asked, status: u16, before: &[u8], after: &[u8]) -> Option<String> {
+    let slot = asked.used_slot(&own_names(before, asked.application), status)?;
+    let place = (line_of(before, asked.application)?, slot);
+    for (line, slot) in places() {
+        let uses = uses_in(before, line, slot);
+        let more = u64::from((line, slot) == place);
+        let expected = (u64::from(uses) + more).min(MOST_USES.into());
+        assert_eq!(u64::from(uses_in(after, line, slot)), expected);
+    }
+    Some(asked.use_outcome(uses_in(before, place.0, place.1)))
 }
 
 /// On the cases of the test before this one, request by request.
@@ -309,16 +344,18 @@ fn own_and_listed_keys_come_to_every_outcome() {
         let case = Case::generate(seed, 16);
         let mut service = case.service();
         for request in &case.requests {
-            let own = |asked: &Asked| own_names(&service.registry, asked.application);
-            let asked = Asked::read(request).map(|asked| (own(&asked), asked));
+            let before = service.registry.clone();
             let responses = service.send(request);
-            if let (Some((own, asked)), [response]) = (asked, &responses[..]) {
+            if let (Some(asked), [response]) = (Asked::read(request), &responses[..]) {
                 let status = Response::read(response).status;
+                let own = own_names(&before, asked.application);
                 reached.insert(asked.outcome(&own, &case.list, status));
+                reached.extend(counted(&asked, status, &before, &service.registry));
             }
         }
     }
-    for outcome in listed::expected() {
+    let expected = [listed::expected(), listed::expected_uses()].concat();
+    for outcome in expected {
         assert!(reached.contains(&outcome), "{outcome}: {reached:#?}");
     }
 }
@@ -352,6 +389,7 @@ fn every_single_cut_of_one_stream_comes_to_what_the_rules_give() {
         let case = Case {
             names: vec![FIRST.to_vec()],
             earlier: Vec::new(),
+            uses: vec![0],
             list: lists::pair(b"b", b"listed"),
             requests: requests.clone(),
             sizes: vec![first, length],

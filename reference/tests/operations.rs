@@ -93,16 +93,19 @@ fn a_destroyed_key_does_not_exist() {
 }
 
 #[test]
-fn export_gives_the_imported_data_and_keeps_the_key() {
+fn export_gives_the_imported_data_and_changes_the_count_of_uses_alone() {
     let mut service = Service::new();
     let key = Key {
         data: vec![0x00, 0xFF, 0x00],
         ..key(b"a")
     };
     service.expect_status(&import(&key), Status::Success);
-    for _ in 0..2 {
+    let mut expected = service.clone();
+    for uses in 1..=2 {
         let response = service.ask(&export(b"a"));
         assert_eq!(response.body, [0x0A, 3, 0x00, 0xFF, 0x00]);
+        expected.set_uses(0, 0, uses);
+        assert_eq!(service.registry, expected.registry);
     }
 }
 

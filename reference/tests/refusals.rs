@@ -449,7 +449,7 @@ fn a_used_slot_in_an_unused_line_is_ill_formed() {
 
 #[test]
 fn a_free_slot_that_is_not_all_zero_is_ill_formed() {
-    for offset in [1, 32, 33, 34, 35, 634, 635, 636, 637, 638] {
+    for offset in [1, 32, 33, 34, 35, 634].into_iter().chain(635..SLOT_SIZE) {
         expect_ill_formed_registry(write(two_lines(), slot_at(0, 3) + offset, &[1]));
     }
     let name_taken_away = write(one_key(), in_the_key(0), &[0; 33]);
@@ -534,6 +534,24 @@ fn flags_of_2_are_ill_formed() {
         }
         for flag in [2, 255] {
             expect_ill_formed_registry(write(one_key(), in_the_key(offset), &[flag]));
+        }
+    }
+}
+
+#[test]
+fn any_count_of_uses_in_a_used_slot_is_well_formed() {
+    for uses in [0, 1, 255, 256, 1 << 31, u32::MAX - 1, u32::MAX] {
+        let registry = write(one_key(), in_the_key(USES_AT), &uses.to_le_bytes());
+        assert!(registry_is_well_formed(&registry), "{uses}");
+    }
+}
+
+#[test]
+fn a_count_of_uses_in_a_free_slot_is_ill_formed() {
+    for slot in [slot_at(0, 0), slot_at(1, 3), slot_at(2, 0), slot_at(7, 3)] {
+        for uses in [1, 1 << 8, 1 << 16, 1 << 24, u32::MAX] {
+            let registry = write(two_lines(), slot + USES_AT, &uses.to_le_bytes());
+            expect_ill_formed_registry(registry);
         }
     }
 }

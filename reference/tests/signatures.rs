@@ -218,12 +218,13 @@ fn data_that_is_no_supported_key_is_not_supported() {
 }
 
 #[test]
-fn verify_answers_an_empty_body_and_changes_nothing() {
+fn verify_answers_an_empty_body_and_changes_the_count_of_uses_alone() {
     let signed = Signed::short();
     let mut service = signed.service();
-    let before = service.registry.clone();
+    let mut expected = service.clone();
+    expected.set_uses(0, 0, 1);
     assert_eq!(service.ask(&signed.request()).body, []);
-    assert_eq!(service.registry, before);
+    assert_eq!(service.registry, expected.registry);
     assert_eq!(service.counters.served[0], 2);
 }
 

@@ -1,5 +1,6 @@
 //! What came of the keystore requests of a generated test, by who held the key of that name: document
-//! 02, "Keys we ship". The second program's own tests count with this file too.
+//! 02, "Keys we ship"; and which of them were a use that counts, by the count before it: document 02,
+//! "Use per key". The second program's own tests count with this file too.
 
 use super::lists::pairs_in;
 use reference::rsa::modulus_bits;
@@ -8,6 +9,9 @@ const DESTROY: u16 = 3;
 const VERIFY: u16 = 5;
 const IMPORT: u16 = 6;
 const EXPORT: u16 = 7;
+
+/// "staying at 4,294,967,295 once there"
+pub const MOST_USES: u32 = 4_294_967_295;
 
 /// What a request asks for.
 pub struct Asked<'a> {
@@ -59,16 +63,48 @@ impl Asked<'_> {
         };
         outcome(self.opcode, holder, status, more)
     }
+
+    /// The slot of an own key that a served request used; `own` as above.
+    pub fn used_slot(&self, own: &[Vec<u8>], status: u16) -> Option<usize> {
+        let is_use = [EXPORT, VERIFY].contains(&self.opcode) && status == 0;
+        let slot = own.iter().position(|name| name == self.name);
+        slot.filter(|_| is_use)
+    }
+
+    /// The name of a use that counts, where the key had been used so often before.
+    pub fn use_outcome(&self, uses: u32) -> String {
+        use_outcome(self.opcode, uses)
+    }
 }
 
 fn outcome(opcode: u16, holder: &str, status: u16, more: &str) -> String {
-    let operation = match opcode {
+    format!("{} of {holder}: {status}{more}", operation(opcode))
+}
+
+fn operation(opcode: u16) -> &'static str {
+    match opcode {
         DESTROY => "Destroy",
         VERIFY => "Verify",
         IMPORT => "Import",
         _ => "Export",
+    }
+}
+
+fn use_outcome(opcode: u16, uses: u32) -> String {
+    let uses = match uses {
+        0 => "no use",
+        MOST_USES => "the most uses",
+        _ if uses == MOST_USES - 1 => "one use less than the most",
+        _ => "some uses",
     };
-    format!("{operation} of {holder}: {status}{more}")
+    format!("{} counted after {uses}", operation(opcode))
+}
+
+/// Every use that a long enough run counts.
+pub fn expected_uses() -> Vec<String> {
+    let uses = [0, 1, MOST_USES - 1, MOST_USES];
+    let outcomes = |opcode| uses.map(|uses| use_outcome(opcode, uses));
+    [EXPORT, VERIFY].into_iter().flat_map(outcomes).collect()
 }
 
 /// Opcode, holder, and the statuses with what is said beside them.

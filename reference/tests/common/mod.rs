@@ -1,6 +1,6 @@
 //! Builders of requests, bodies, rosters and lent memory, and a service to hand them to.
 //! Document 01, "Bytes on the wire", "Operations and their fields" and the layout in docs/; document
-//! 02, "Checking signatures" and "Keys we ship".
+//! 02, "Checking signatures", "Keys we ship" and "Use per key".
 
 // Every test crate compiles this file and uses some of it.
 #![allow(dead_code)]
@@ -202,7 +202,7 @@ impl Key {
             .bytes()
     }
 
-    /// The slot that holds this key, by the layout in docs/.
+    /// The slot that holds this key, not used yet, by the layout in docs/.
     pub fn slot(&self) -> Vec<u8> {
         let mut slot = vec![0; SLOT_SIZE];
         slot[0] = self.name.len() as u8;
@@ -276,8 +276,10 @@ pub fn roster_of(names: &[&[u8]]) -> Vec<u8> {
         .collect()
 }
 
-pub const LINE_SIZE: usize = 2_621;
-pub const SLOT_SIZE: usize = 639;
+pub const LINE_SIZE: usize = 2_637;
+pub const SLOT_SIZE: usize = 643;
+/// Where a slot has its count of uses.
+pub const USES_AT: usize = 639;
 
 /// Where a line begins in registry memory.
 pub fn line_at(line: usize) -> usize {
@@ -287,6 +289,15 @@ pub fn line_at(line: usize) -> usize {
 /// Where a slot begins in registry memory.
 pub fn slot_at(line: usize, slot: usize) -> usize {
     line_at(line) + 65 + slot * SLOT_SIZE
+}
+
+pub fn uses_in(registry: &[u8], line: usize, slot: usize) -> u32 {
+    let uses = &registry[slot_at(line, slot) + USES_AT..][..4];
+    u32::from_le_bytes(uses.try_into().unwrap())
+}
+
+pub fn set_uses_in(registry: &mut [u8], line: usize, slot: usize, uses: u32) {
+    registry[slot_at(line, slot) + USES_AT..][..4].copy_from_slice(&uses.to_le_bytes());
 }
 
 /// Connection memory of this kind and count that holds these bytes, well formed or not.
@@ -458,6 +469,14 @@ impl Service {
 
     pub fn slot(&self, line: usize, slot: usize) -> &[u8] {
         &self.registry[slot_at(line, slot)..][..SLOT_SIZE]
+    }
+
+    pub fn uses(&self, line: usize, slot: usize) -> u32 {
+        uses_in(&self.registry, line, slot)
+    }
+
+    pub fn set_uses(&mut self, line: usize, slot: usize, uses: u32) {
+        set_uses_in(&mut self.registry, line, slot, uses);
     }
 }
 
