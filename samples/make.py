@@ -4,9 +4,9 @@
     samples/make.py            writes servers.roster, servers.list and the three streams beside this file
     samples/make.py --check    writes nothing; fails if one of them, or a .bill file, differs
 
-Each request below stands with the status that document 01, as document 02 amends it, gives it, told
-by a reader and not by a program. The expected bill is counted from these statuses alone, so it is
-independent of every program that prints a bill. The .bill files themselves come from the second
+Each request below stands with the status that document 01, as document 02 amends it, gives it, and with
+the key that it is about, told by a reader and not by a program. The expected bill is counted from these
+alone, so it is independent of every program that prints a bill. The .bill files themselves come from the second
 program, see README.md.
 """
 
@@ -214,10 +214,11 @@ class Request:
 
 @dataclass(frozen=True)
 class Sent:
-    """A request and the status that document 01 gives it."""
+    """A request, the status that document 01 gives it, and the name of the key that it is about."""
 
     request: Request
     status: int
+    key: str = ""
 
 
 def core(opcode, status=0, **fields):
@@ -225,27 +226,30 @@ def core(opcode, status=0, **fields):
     return Sent(Request(opcode, **fields), status)
 
 
-def keystore(application, opcode, body, status=0, **fields):
-    """A request that an application sends to the keystore under its name."""
+def keystore(application, opcode, key, body, status=0, **fields):
+    """A request about a key that an application sends to the keystore under its name."""
     named = {"provider": KEYSTORE, "auth_type": 1, "auth": application.encode()}
-    return Sent(Request(opcode, body=body, **{**named, **fields}), status)
+    return Sent(Request(opcode, body=body, **{**named, **fields}), status, key)
+
+
+def import_data(application, name, data, bits, status=0, **flags):
+    return keystore(application, IMPORT, name, import_body(name, data, bits, **flags), status)
 
 
 def import_key(application, name, bits, status=0, **flags):
-    data = public_key(f"{application} {name}", bits)
-    return keystore(application, IMPORT, import_body(name, data, bits, **flags), status)
+    return import_data(application, name, public_key(f"{application} {name}", bits), bits, status, **flags)
 
 
 def export_key(application, name, status=0, **fields):
-    return keystore(application, EXPORT, name_body(name), status, **fields)
+    return keystore(application, EXPORT, name, name_body(name), status, **fields)
 
 
 def destroy_key(application, name, status=0, **fields):
-    return keystore(application, DESTROY, name_body(name), status, **fields)
+    return keystore(application, DESTROY, name, name_body(name), status, **fields)
 
 
 def verify(application, name, digest, signature, status=0, **fields):
-    return keystore(application, VERIFY, verify_body(name, digest, signature), status, **fields)
+    return keystore(application, VERIFY, name, verify_body(name, digest, signature), status, **fields)
 
 
 # ---- a day at the reconstruction servers
@@ -283,7 +287,7 @@ def keys_of_the_servers():
         import_key("recon-a", "ct-0002", 3072, verify=False),
         import_key("recon-b", "ct-0001", 4096),
         import_key("recon-b", "sealed", 2048, export=False),
-        keystore("recon-b", IMPORT, shuffled),
+        keystore("recon-b", IMPORT, "mr-0001", shuffled),
         export_key("recon-a", "ct-0001", session=3),
         export_key("recon-b", "ct-0001", session=4),
         export_key("recon-b", "mr-0001"),
@@ -299,10 +303,10 @@ def keys_of_the_servers():
 
 def unlisted_fields():
     """Skipped: a field that is not listed, one with another wire type than its own, and groups 16 deep."""
-    name = name_body("ct-0001")
+    export = number_field(1, 5) + name_body("ct-0001") + bytes_field(9, b"newer") + groups(16)
     return [
         core(PING, body=number_field(1, 7) + groups(16)),
-        keystore("recon-a", EXPORT, number_field(1, 5) + name + bytes_field(9, b"newer") + groups(16)),
+        keystore("recon-a", EXPORT, "ct-0001", export),
     ]
 
 
@@ -312,7 +316,7 @@ def signatures():
     series, other = digest_of(b"series 1"), digest_of(b"series 2")
     signature = key.sign(series)
     return [
-        keystore("viewer", IMPORT, import_body("series", key.data(), key.bits, export=False)),
+        import_data("viewer", "series", key.data(), key.bits, export=False),
         verify("viewer", "series", series, signature, session=9),
         verify("viewer", "series", other, signature, 1149),
         # Of another length, and not below the modulus.
@@ -324,8 +328,8 @@ def signatures():
         verify("recon-b", "mr-0001", series[1:], signature, 1133),
         verify("viewer", "series", series[1:], signature, 1135),
         # A key of fewer bits than it was said to have, and data that is no key at all.
-        keystore("viewer", IMPORT, import_body("short", key.data(), 2056)),
-        keystore("viewer", IMPORT, import_body("note", b"no key", 2048)),
+        import_data("viewer", "short", key.data(), 2056),
+        import_data("viewer", "note", b"no key", 2048),
         verify("viewer", "short", series, signature, 1134),
         verify("viewer", "note", series, signature, 1134),
     ]
@@ -363,7 +367,7 @@ def bad_headers():
 
 def import_at_core(status):
     body = import_body("ct-0003", public_key("recon-a ct-0003", 2048), 2048)
-    return keystore("recon-a", IMPORT, body, status, provider=CORE)
+    return keystore("recon-a", IMPORT, "ct-0003", body, status, provider=CORE)
 
 
 def bad_authentication():
@@ -382,20 +386,20 @@ def bad_bodies():
     data = public_key("recon-a ct-0003", 2048)
     return [
         # A field of five bytes with two behind its length: cut.
-        keystore("recon-a", EXPORT, b"\x0a\x05ct", 7),
+        keystore("recon-a", EXPORT, "", b"\x0a\x05ct", 7),
         # A varint whose tenth byte is above 1.
         core(LIST_OPCODES, 7, body=b"\x08" + b"\xff" * 9 + b"\x02"),
         # Wire type 7.
         core(PING, 7, body=b"\x0f"),
         # Groups 17 deep.
-        keystore("recon-a", EXPORT, name_body("ct-0001") + groups(17), 7),
+        keystore("recon-a", EXPORT, "ct-0001", name_body("ct-0001") + groups(17), 7),
         core(LIST_OPCODES, 6, body=provider_body(2)),
         destroy_key("recon-a", "", 1135),
         destroy_key("recon-a", "ct 0001", 1135),
         export_key("recon-a", "x" * 33, 1135),
-        keystore("recon-a", IMPORT, import_body("ct-0003", b"", 2048), 1135),
-        keystore("recon-a", IMPORT, import_body("ct-0003", b"\x00" * 601, 2048), 1135),
-        keystore("recon-a", IMPORT, import_body("", data, 2048), 1135),
+        import_data("recon-a", "ct-0003", b"", 2048, 1135),
+        import_data("recon-a", "ct-0003", b"\x00" * 601, 2048, 1135),
+        import_data("recon-a", "", data, 2048, 1135),
     ]
 
 
@@ -452,6 +456,16 @@ def listed_keys():
 # ---- streams
 
 
+def change(slots, opcode, key):
+    """What a served request does to the slots of its application; a listed key is in none."""
+    if opcode == IMPORT:
+        slots[slots.index(None)] = (key, 0)
+        return
+    for slot, held in enumerate(slots):
+        if held and held[0] == key:
+            slots[slot] = None if opcode == DESTROY else (key, held[1] + 1)
+
+
 @dataclass(frozen=True)
 class Stream:
     sent: list
@@ -473,12 +487,30 @@ class Stream:
     def served(self):
         return [sent.request for sent in self.sent if sent.status == 0]
 
+    def slots(self):
+        """Of each application, what its slots hold in the end: a key's name and uses, or None."""
+        slots = {name: [None] * SLOTS for name in APPLICATIONS}
+        for sent in self.sent:
+            if sent.status == 0 and sent.key:
+                change(slots[sent.request.auth.decode()], sent.request.opcode, sent.key)
+        return slots
+
+    def key_lines(self):
+        """Document 02, "Use per key"."""
+        return [
+            f"key {line} {slot} {held[1]}"
+            for line, slots in enumerate(self.slots().values())
+            for slot, held in enumerate(slots)
+            if held
+        ]
+
     def bill(self):
         """Document 01, "The bill"."""
         callers = Counter(request.auth.decode() for request in self.served())
         return [
             f"taken {len(self.encode())}",
             *[f"line {n} {name} {callers[name]}" for n, name in enumerate(APPLICATIONS)],
+            *self.key_lines(),
             f"open {callers['']}",
             *[f"refused {status} {count}" for status, count in sorted(self.refusals().items())],
             f"dropped {len(self.dropped)}",
@@ -540,7 +572,9 @@ def missing(day_stream, closed_stream):
     statuses = {sent.status for sent in day_stream.sent} | set(closed_stream.refusals())
     operations = {request.opcode for request in day_stream.served()}
     lacking = [f"status {status}" for status in STATUSES if status not in statuses]
-    return lacking + [name for opcode, name in OPERATIONS.items() if opcode not in operations]
+    lacking += [name for opcode, name in OPERATIONS.items() if opcode not in operations]
+    uses = {held[1] for slots in day_stream.slots().values() for held in slots if held}
+    return lacking + [name for name, count in [("unused key", 0), ("key used twice", 2)] if count not in uses]
 
 
 def show(name, stream):
