@@ -1,6 +1,7 @@
 //! Times the compiled, proved code against the reference in one run: cargo run --release -p
 //! razidkot-bench. The other commands are for the scripts beside this folder.
 
+mod bills;
 mod calls;
 mod check;
 #[cfg(feature = "client")]

@@ -37,11 +37,12 @@ const fn alike(title: &'static str, applications: usize, keys: usize) -> Registr
 
 pub const FULL: Registry = unlike("full", LINES, SLOTS);
 pub const ONE_KEY: Registry = unlike("one key a line", LINES, 1);
+pub const EIGHT_NAMES: Registry = unlike("8 names", 8, 0);
 pub const ONE_NAME: Registry = unlike("1 name", 1, 0);
 pub const ALL: [Registry; 6] = [
     FULL,
     ONE_KEY,
-    unlike("8 names", 8, 0),
+    EIGHT_NAMES,
     unlike("4 names", 4, 0),
     ONE_NAME,
     unlike("empty roster", 0, 0),

@@ -2,6 +2,7 @@
 
 use crate::ask::{import_body, name_body, record, registry_of, request, DESTROY, IMPORT};
 use crate::layout::*;
+use crate::listed::MOST_USES;
 use crate::oracle::{bytes_field, varint};
 use crate::signatures::with_signed_data;
 use crate::unlisted::{whole_field, START_GROUP};
@@ -122,7 +123,7 @@ impl Filling {
     ];
 }
 
-/// A registry that the reference made of a roster, imports and destroys.
+/// A registry that the reference made of a roster, imports and destroys, its keys used any number of times.
 pub fn registry(random: &mut Random, filling: Filling) -> Vec<u8> {
     let count = match filling {
         Filling::Empty => 0,
@@ -147,7 +148,23 @@ pub fn registry(random: &mut Random, filling: Filling) -> Vec<u8> {
     };
     let outcome = rules::run(&registry_of(&names), &stream);
     assert_eq!(outcome.counters.refused, [0; 19], "all requests are served");
-    outcome.registry
+    let mut registry = outcome.registry;
+    for place in used_places(&registry) {
+        set_uses(&mut registry, place, uses(random));
+    }
+    registry
+}
+
+/// A count of uses; those around the most are frequent.
+pub fn uses(random: &mut Random) -> u32 {
+    match random.below(8) {
+        0 | 1 => 0,
+        2 => random.number() as u32,
+        3 => random.pick(&[1, 0xFF, 0xFFFF, 0xFF_FFFF, 0x7FFF_FFFF]),
+        4 => MOST_USES - 2,
+        5 | 6 => MOST_USES - 1,
+        _ => MOST_USES,
+    }
 }
 
 /// The requests that fill an application's slots: four imports, and for holes some destroys.
@@ -189,6 +206,7 @@ pub enum Damage {
     Bits { place: Place, value: u16 },
     ExportAllowed { place: Place, value: u8 },
     VerifyAllowed { place: Place, value: u8 },
+    Uses { place: Place, value: u32 },
     CopyApplicationName { from: usize, to: usize },
     CopySlot { from: Place, to: Place },
     CopyLine { from: usize, to: usize },
@@ -221,7 +239,8 @@ impl Damage {
                 line: random.below(LINES),
             },
             _ => Damage::Resize {
-                size: random.pick(&[0, 1, 2_621, 20_967, 20_968, 20_969, 41_936]),
+                // 20,968 is the size without counts of uses.
+                size: random.pick(&[0, 1, 2_637, 20_968, 21_095, 21_096, 21_097, 42_192]),
             },
         }
     }
@@ -251,6 +270,7 @@ impl Damage {
             0, 1_016, 1_023, 1_024, 1_028, 1_032, 2_048, 4_095, 4_096, 4_104, 0xFFFF,
         ]);
         let flag = random.pick(&[0, 0, 1, 1, 2, 0x80, 0xFF]);
+        let uses = uses(random);
         random.pick(&[
             Damage::DataLength {
                 place,
@@ -259,6 +279,7 @@ impl Damage {
             Damage::Bits { place, value: bits },
             Damage::ExportAllowed { place, value: flag },
             Damage::VerifyAllowed { place, value: flag },
+            Damage::Uses { place, value: uses },
         ])
     }
 
@@ -307,6 +328,7 @@ impl Damage {
             Damage::VerifyAllowed { place, value } => {
                 set(slot_at(place) + VERIFY_ALLOWED_AT, &[value]);
             }
+            Damage::Uses { place, value } => set(slot_at(place) + USES_AT, &value.to_le_bytes()),
             Damage::CopyApplicationName { from, to } => {
                 copy(registry, line_at(from), line_at(to), 65);
             }

@@ -2,8 +2,8 @@
 
 pub const LINES: usize = 8;
 pub const SLOTS: usize = 4;
-pub const LINE_SIZE: usize = 2_621;
-pub const SLOT_SIZE: usize = 639;
+pub const LINE_SIZE: usize = 2_637;
+pub const SLOT_SIZE: usize = 643;
 
 // Offsets in a slot.
 pub const DATA_LENGTH_AT: usize = 33;
@@ -11,6 +11,7 @@ pub const DATA_AT: usize = 35;
 pub const BITS_AT: usize = 635;
 pub const EXPORT_ALLOWED_AT: usize = 637;
 pub const VERIFY_ALLOWED_AT: usize = 638;
+pub const USES_AT: usize = 639;
 
 pub const LONGEST_APPLICATION_NAME: usize = 64;
 pub const LONGEST_KEY_NAME: usize = 32;
@@ -29,7 +30,7 @@ impl Place {
     }
 }
 
-/// What a slot holds.
+/// What Import brings to a slot.
 #[derive(Clone, Debug, PartialEq, Eq)]
 pub struct Key {
     pub name: Vec<u8>,
@@ -49,6 +50,22 @@ pub fn slot_at(place: Place) -> usize {
 
 pub fn slot_bytes(registry: &[u8], place: Place) -> &[u8] {
     &registry[slot_at(place)..][..SLOT_SIZE]
+}
+
+/// The count of uses in a slot.
+pub fn uses_at(registry: &[u8], place: Place) -> u32 {
+    let uses = slot_bytes(registry, place)[USES_AT..].iter();
+    uses.rfold(0, |number, &byte| number << 8 | u32::from(byte))
+}
+
+pub fn set_uses(registry: &mut [u8], place: Place, uses: u32) {
+    registry[slot_at(place) + USES_AT..][..4].copy_from_slice(&uses.to_le_bytes());
+}
+
+/// The slots that hold a key, ascending by line, then slot.
+pub fn used_places(registry: &[u8]) -> Vec<Place> {
+    let is_used = |place: &Place| registry[slot_at(*place)] != 0;
+    Place::all().filter(is_used).collect()
 }
 
 /// The name at the beginning of a line or a slot: a length, then so many bytes.

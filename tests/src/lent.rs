@@ -1,7 +1,8 @@
 //! What a caller lends to a call, lent to the compiled service and to the reference.
 
+use crate::ask::request;
 use razidkot::raw::{self, Answer};
-use razidkot::Counters;
+use razidkot::{Counters, CONNECTION_SIZE, LEAST_RESPONSE_BUFFER};
 
 /// Bytes of the response memory that are never lent, to see that nothing is written there.
 const GUARD: usize = 64;
@@ -25,6 +26,16 @@ impl Lent {
             counters,
             response: Vec::new(),
         }
+    }
+
+    /// With a fresh connection and all counters 0.
+    pub fn fresh(registry: &[u8], list: &[u8]) -> Lent {
+        Lent::new(
+            vec![0; CONNECTION_SIZE],
+            registry.to_vec(),
+            list.to_vec(),
+            Counters::default(),
+        )
     }
 
     /// A response buffer of this length, all of it this byte.
@@ -73,6 +84,32 @@ impl Lent {
                 written: 0,
             },
         }
+    }
+
+    /// One call of each on this memory; what they say and leave is the same.
+    pub fn call_both(&mut self, chunk: &[u8]) -> Answer {
+        let mut reference = self.clone();
+        self.renew_response(LEAST_RESPONSE_BUFFER, 0x55);
+        reference.renew_response(LEAST_RESPONSE_BUFFER, 0x55);
+        let expected = reference.call_reference(chunk);
+        assert_eq!(self.call_proved(chunk), expected);
+        assert_eq!(self.difference(&reference), None);
+        expected
+    }
+
+    /// Status and body of what both answer to one request.
+    pub fn ask_both(
+        &mut self,
+        opcode: u16,
+        application: Option<&[u8]>,
+        body: &[u8],
+    ) -> (u16, Vec<u8>) {
+        let request = request(opcode, application, body);
+        let answer = self.call_both(&request);
+        assert_eq!((answer.code, answer.taken), (0, request.len()));
+        let response = &self.response()[..answer.written];
+        let status = u16::from_le_bytes([response[24], response[25]]);
+        (status, response[26..].to_vec())
     }
 
     /// What of all this is not the same in the other, and where.

@@ -210,7 +210,7 @@ pub fn find_slot(registry: &[u8], line: usize, name: &[u8]) -> Option<usize> {
     (0..SLOTS).find(|&slot| name_at(registry, slot_at(Place { line, slot })) == name)
 }
 
-/// A slot that holds this key, the unused bytes zero.
+/// A slot that holds this key, not used yet, the unused bytes zero.
 pub fn slot_of(key: &Key) -> Vec<u8> {
     let padded = |bytes: &[u8], size: usize| {
         let mut bytes = bytes.to_vec();
@@ -224,6 +224,7 @@ pub fn slot_of(key: &Key) -> Vec<u8> {
         padded(&key.data, LONGEST_DATA),
         key.bits.to_le_bytes().to_vec(),
         vec![key.export_allowed.into(), key.verify_allowed.into()],
+        0_u32.to_le_bytes().to_vec(),
     ]
     .concat()
 }

@@ -2,10 +2,11 @@
 //! the reference answered.
 
 use crate::ask::*;
-use crate::layout::{slot_bytes, Place, EXPORT_ALLOWED_AT, VERIFY_ALLOWED_AT};
+use crate::layout::{slot_bytes, uses_at, Place, EXPORT_ALLOWED_AT, VERIFY_ALLOWED_AT};
 use crate::lent::Lent;
 use crate::listed::{self, Asked};
 use crate::lists::{pairs_in, MOST_PAIRS};
+use crate::oracle::find_application;
 use crate::run::Outcomes;
 use crate::shipped::slot_names;
 use razidkot::raw::Answer;
@@ -71,13 +72,20 @@ impl Reached {
         }
     }
 
-    /// What came of a request that lay whole in its chunk, by who held the key that it named.
+    /// What came of a request that lay whole in its chunk, by who held the key that it named; of a use that
+    /// counts, also by the count.
     fn count_key(&mut self, before: &Lent, request: &[u8], response: &[u8]) {
-        if let Some(asked) = Asked::read(request) {
-            let own = slot_names(&before.registry, asked.application);
-            let status = u16::from_le_bytes([response[24], response[25]]);
-            self.outcomes
-                .count(asked.outcome(&own, &before.list, status));
+        let Some(asked) = Asked::read(request) else {
+            return;
+        };
+        let own = slot_names(&before.registry, asked.application);
+        let status = u16::from_le_bytes([response[24], response[25]]);
+        self.outcomes
+            .count(asked.outcome(&own, &before.list, status));
+        let line = find_application(&before.registry, asked.application);
+        if let (Some(line), Some(slot)) = (line, asked.used_slot(&own, status)) {
+            let uses = uses_at(&before.registry, Place { line, slot });
+            self.outcomes.count(asked.use_outcome(uses));
         }
     }
 
@@ -96,11 +104,11 @@ impl Reached {
 
     /// The flags of the key that an Import brought, or that a Destroy freed a slot.
     fn count_flags(&mut self, before: &Lent, after: &Lent) {
-        let slot_in = |lent: &Lent, place| slot_bytes(&lent.registry, place).to_vec();
         for place in Place::all() {
-            let slot = slot_in(after, place);
-            if slot != slot_in(before, place) {
-                self.outcomes.count(slot_reached(&slot));
+            let slot = slot_bytes(&after.registry, place);
+            let is_free = |slot: &[u8]| slot[0] == 0;
+            if is_free(slot) != is_free(slot_bytes(&before.registry, place)) {
+                self.outcomes.count(slot_reached(slot));
             }
         }
     }
@@ -110,6 +118,8 @@ impl Reached {
         self.outcomes.assert_often(&expected(), least);
         // Many more cases, so that there are fewer of each.
         self.outcomes.assert_often(&listed::expected(), least / 5);
+        self.outcomes
+            .assert_often(&listed::expected_uses(), least / 5);
     }
 }
 

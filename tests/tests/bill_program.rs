@@ -1,5 +1,5 @@
 //! The proved program `bill ROSTER STREAM LIST` against the reference's bill: document 01, "The bill";
-//! document 02, "Keys we ship".
+//! document 02, "Keys we ship" and "Use per key".
 
 use razidkot::LONGEST_CHUNK;
 use razidkot_tests::ask::{
@@ -114,6 +114,8 @@ fn count_lines(outcomes: &mut Outcomes, bill: &str) {
             ["line", number, _, served] if served != "0" => {
                 outcomes.count(format!("line {number}"))
             }
+            ["key", _, slot, "0"] => outcomes.count(format!("key {slot}, not used")),
+            ["key", _, slot, _] => outcomes.count(format!("key {slot}, used")),
             [word, count] if count != "0" => outcomes.count(word),
             _ => {}
         }
@@ -146,6 +148,10 @@ fn generated_files_are_billed_alike() {
     );
     let refused = Status::REFUSED.map(|status| format!("refused {}", status.number()));
     outcomes.assert_often(&refused, 5);
+    let keys: Vec<_> = (0..4)
+        .flat_map(|slot| ["not used", "used"].map(|used| format!("key {slot}, {used}")))
+        .collect();
+    outcomes.assert_often(&keys, 5);
 }
 
 #[test]
@@ -250,6 +256,36 @@ fn a_stream_cut_anywhere_is_held_to_its_end() {
         }
         assert!(folder.bill(&roster, &request).ends_with("\nheld 0\n"));
     }
+}
+
+// ---- keys
+
+/// Slots are filled in another order than the bill has them, and a free one has no line. A listed key
+/// has none, whoever uses it.
+#[test]
+fn key_lines_stand_behind_all_roster_lines_by_line_and_then_slot() {
+    let folder = folder("keys");
+    let key = |name: &[u8]| Key {
+        name: name.to_vec(),
+        export_allowed: true,
+        ..key(&mut Random::new(0), 0)
+    };
+    let import =
+        |application: &[u8], name| request(IMPORT, Some(application), &import_body(&key(name)));
+    let export = |application: &[u8], name| request(EXPORT, Some(application), &name_body(name));
+    let destroy = |application: &[u8], name| request(DESTROY, Some(application), &name_body(name));
+    let mut stream = [b"s", b"t", b"u", b"v"]
+        .map(|name| import(b"b", name))
+        .concat();
+    stream.extend([b"s", b"t"].map(|name| import(b"a", name)).concat());
+    stream.extend(export(b"b", b"v").repeat(12));
+    stream.extend(export(b"a", b"t"));
+    stream.extend([export(b"b", b"t"), destroy(b"b", b"t"), destroy(b"a", b"s")].concat());
+    stream.extend([export(b"a", b"listed"), export(b"b", b"t")].concat());
+    let bill = folder.bill_with_list(&roster_of(&letters(2)), &stream, &pair(b"listed", b"data"));
+    let expected =
+        "\nline 0 a 5\nline 1 b 18\nkey 0 1 1\nkey 1 0 0\nkey 1 2 0\nkey 1 3 12\nopen 0\n";
+    assert!(bill.contains(expected), "{bill}");
 }
 
 // ---- long streams

@@ -1,9 +1,11 @@
-//! The compiled bill against the reference's: document 01, "The bill".
+//! The compiled bill against the reference's: document 01, "The bill"; document 02, "Use per key".
 
 use razidkot::raw::{self, NoBill};
 use razidkot_tests::case::{Case, Fault};
-use razidkot_tests::generate::Random;
-use razidkot_tests::lent::{to_reference, Lent};
+use razidkot_tests::generate::{registry, Filling, Random};
+use razidkot_tests::layout::{set_uses, used_places, LINES, SLOTS};
+use razidkot_tests::lent::{counter_mut, to_reference, Lent, COUNTERS};
+use razidkot_tests::listed::MOST_USES;
 use razidkot_tests::reached::kind_of;
 use razidkot_tests::run::{for_seeds, Outcomes};
 
@@ -61,9 +63,13 @@ fn bills_of_generated_memory_are_those_of_the_reference() {
     let mut outcomes = Outcomes::default();
     for_seeds(20_000, |random: &mut Random| {
         for lent in some_memory(random.word()) {
-            let length = random.pick(&[0, 2_047, 2_048, 2_048, 2_049, 3_000]);
+            let length = random.pick(&[0, 2_048, 4_191, 4_192, 4_192, 4_192, 4_193, 5_000]);
             compare(&lent, length);
-            outcomes.count(match refusal(&lent, length) {
+            let refusal = refusal(&lent, length);
+            if refusal.is_none() {
+                outcomes.count(keys_billed(&lent.registry));
+            }
+            outcomes.count(match refusal {
                 Some(NoBill::BufferTooSmall) => "buffer too small",
                 Some(NoBill::ConnectionIllFormed) => "connection ill formed",
                 Some(NoBill::RegistryIllFormed) => "registry ill formed",
@@ -79,4 +85,38 @@ fn bills_of_generated_memory_are_those_of_the_reference() {
     outcomes.assert_often(&refusals, 100);
     let kinds = ["open empty", "open holding", "skipping", "closed"];
     outcomes.assert_often(&kinds, 100);
+    let keys = ["no keys", "some keys", "all keys"];
+    outcomes.assert_often(&keys, 100);
+}
+
+/// How many `key` lines the bill has.
+fn keys_billed(registry: &[u8]) -> &'static str {
+    const ALL: usize = LINES * SLOTS;
+    match used_places(registry).len() {
+        0 => "no keys",
+        ALL => "all keys",
+        _ => "some keys",
+    }
+}
+
+/// Eight names of 64 bytes, 32 keys used as often as is counted, every counter as high as it can be.
+#[test]
+fn the_longest_bill_fits_into_the_least_buffer() {
+    let random = &mut Random::new(0);
+    let mut lent = Lent::fresh(&registry(random, Filling::Full), b"");
+    for place in used_places(&lent.registry) {
+        set_uses(&mut lent.registry, place, MOST_USES);
+    }
+    for place in 0..COUNTERS {
+        *counter_mut(&mut lent.counters, place) = u64::MAX;
+    }
+    compare(&lent, razidkot::LEAST_BILL_BUFFER);
+    let (written, out) = expected(&lent, razidkot::LEAST_BILL_BUFFER);
+    let text = String::from_utf8_lossy(&out[..written.expect("a bill")]);
+    let keys: Vec<_> = text
+        .lines()
+        .filter(|line| line.starts_with("key "))
+        .collect();
+    assert_eq!(keys.len(), LINES * SLOTS);
+    assert_eq!(keys[31], "key 7 3 4294967295");
 }

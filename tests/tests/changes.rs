@@ -92,7 +92,7 @@ fn what_fits_no_slot_changes_nothing() {
     let mut outcomes = Outcomes::default();
     for_seeds(2_000, |random| {
         let size = match random.below(8) {
-            0 => random.pick(&[20_967, 20_969, 639, 0]),
+            0 => random.pick(&[20_968, 21_095, 21_097, 643, 0]),
             _ => REGISTRY_SIZE,
         };
         let registry = random.bytes(size);

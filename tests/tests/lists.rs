@@ -2,7 +2,7 @@
 //! cut of a good one, and own keys of a listed name. Document 02, "Keys we ship".
 
 use razidkot::raw::Answer;
-use razidkot::{Counters, List, Refusal, CONNECTION_SIZE};
+use razidkot::{List, Refusal};
 use razidkot_tests::ask::*;
 use razidkot_tests::generate::{registry, Filling};
 use razidkot_tests::layout::Key;
@@ -18,36 +18,16 @@ const APPLICATION: &[u8] = b"scanner";
 const OTHER: &[u8] = b"archive";
 const LIST_ILL_FORMED: u32 = 6;
 
-fn lent(registry: &[u8], list: &[u8]) -> Lent {
-    Lent::new(
-        vec![0; CONNECTION_SIZE],
-        registry.to_vec(),
-        list.to_vec(),
-        Counters::default(),
-    )
-}
-
-/// One call of each on this memory; what they say and leave is the same.
-fn call(lent: &mut Lent, chunk: &[u8]) -> Answer {
-    let mut reference = lent.clone();
-    lent.renew_response(1_024, 0x55);
-    reference.renew_response(1_024, 0x55);
-    let expected = reference.call_reference(chunk);
-    assert_eq!(lent.call_proved(chunk), expected);
-    assert_eq!(lent.difference(&reference), None);
-    expected
-}
-
 fn ping() -> Vec<u8> {
     request(PING, None, &[])
 }
 
 /// Whether a Ping with this list is taken; a refused call says C6 and changes nothing.
 fn is_taken(registry: &[u8], list: &[u8]) -> bool {
-    let mut lent = lent(registry, list);
+    let mut lent = Lent::fresh(registry, list);
     lent.renew_response(1_024, 0x55);
     let before = lent.clone();
-    let answer = call(&mut lent, &ping());
+    let answer = lent.call_both(&ping());
     if answer.code == 0 {
         assert_eq!((answer.taken, answer.written), (28, 28));
         return true;
@@ -179,11 +159,11 @@ fn a_bad_list_is_c6_whatever_the_connection() {
     for sent in [&[][..], &ping()[..9], &oversized[..400], &[0xFF; 6]] {
         let connection = rules::run(&registry, sent).connection.to_memory();
         for chunk in [&[][..], &ping(), &[0xFF; 6]] {
-            let mut lent = lent(&registry, &[1]);
+            let mut lent = Lent::fresh(&registry, &[1]);
             lent.connection.clone_from(&connection);
-            assert_eq!(call(&mut lent, chunk).code, LIST_ILL_FORMED);
+            assert_eq!(lent.call_both(chunk).code, LIST_ILL_FORMED);
             lent.list.clear();
-            assert_eq!(call(&mut lent, chunk).code, 0);
+            assert_eq!(lent.call_both(chunk).code, 0);
         }
     }
 }
@@ -273,14 +253,8 @@ fn registry_with(own: Option<&Key>) -> Vec<u8> {
     }
 }
 
-/// Status and body of what both answer to one request.
 fn asked(lent: &mut Lent, opcode: u16, application: &[u8], body: &[u8]) -> (u16, Vec<u8>) {
-    let request = request(opcode, Some(application), body);
-    let answer = call(lent, &request);
-    assert_eq!((answer.code, answer.taken), (0, request.len()));
-    let response = &lent.response()[..answer.written];
-    let status = u16::from_le_bytes([response[24], response[25]]);
-    (status, response[26..].to_vec())
+    lent.ask_both(opcode, Some(application), body)
 }
 
 /// Key `k` with these uses.
@@ -311,7 +285,7 @@ fn an_own_key_comes_before_a_listed_one_whatever_it_allows() {
     let (first, second) = (&Signed::good()[0], &Signed::good()[1]);
     for (export_allowed, verify_allowed) in USES {
         let registry = registry_with(Some(&own_key(first, export_allowed, verify_allowed)));
-        let lent = &mut lent(&registry, &list_with(&second.data));
+        let lent = &mut Lent::fresh(&registry, &list_with(&second.data));
         let name = &name_body(b"k");
 
         let (status, body) = asked(lent, EXPORT, APPLICATION, name);
@@ -348,7 +322,7 @@ fn import_and_destroy_under_a_listed_name() {
     let signed = &Signed::good()[0];
     for (export_allowed, verify_allowed) in USES {
         let own = own_key(signed, export_allowed, verify_allowed);
-        let lent = &mut lent(&registry_with(Some(&own)), &list_with(b"listed"));
+        let lent = &mut Lent::fresh(&registry_with(Some(&own)), &list_with(b"listed"));
         let (import, name) = (&import_body(&own), &name_body(b"k"));
         for application in [APPLICATION, OTHER] {
             let (status, _) = asked(lent, IMPORT, application, import);
@@ -373,7 +347,7 @@ fn import_and_destroy_under_a_listed_name() {
 #[test]
 fn every_key_of_a_full_list_is_exported_as_it_lies() {
     for list in [list_of(&pairs(64)), longest_list()] {
-        let lent = &mut lent(&registry_with(None), &list);
+        let lent = &mut Lent::fresh(&registry_with(None), &list);
         for (name, data) in pairs_in(&list) {
             let (status, body) = asked(lent, EXPORT, APPLICATION, &name_body(&name));
             assert_eq!((status, body), (SUCCESS, bytes_of(&data)));
@@ -391,7 +365,7 @@ fn on_generated_registries_own_and_listed_keys_are_asked_for_alike() {
         let registry = registry(random, Filling::Some);
         let list = some_list(random, own_names(&registry));
         let names: Vec<_> = pairs_in(&list).into_iter().map(|(name, _)| name).collect();
-        let lent = &mut lent(&registry, &list);
+        let lent = &mut Lent::fresh(&registry, &list);
         for application in razidkot_tests::requests::applications(&registry) {
             for name in names.iter().take(12) {
                 let signed = Signed::of_name(name);
@@ -452,7 +426,7 @@ fn listed_data_that_is_no_rsa_public_key_is_not_supported() {
 fn a_listed_modulus_has_1024_to_4096_bits_in_multiples_of_8() {
     for bits in (1_000..1_050).chain(2_040..2_060).chain(4_080..4_130) {
         let is_supported = (1_024..=4_096).contains(&bits) && bits % 8 == 0;
-        let lent = &mut lent(&registry_with(None), &list_with(&rsa_public_key(bits)));
+        let lent = &mut Lent::fresh(&registry_with(None), &list_with(&rsa_public_key(bits)));
         let body = verify_body(b"k", &[0; 32], &vec![0; bits.div_ceil(8)]);
         let (status, _) = asked(lent, VERIFY, APPLICATION, &body);
         let expected = if is_supported {
@@ -467,7 +441,7 @@ fn a_listed_modulus_has_1024_to_4096_bits_in_multiples_of_8() {
 /// Name, then who holds it, then the hash, then the data, then the signature.
 #[test]
 fn the_order_of_a_listed_keys_statuses() {
-    let lent = &mut lent(&registry_with(None), &list_with(b"no key"));
+    let lent = &mut Lent::fresh(&registry_with(None), &list_with(b"no key"));
     let rows = [
         (&b"a b"[..], 31, INVALID_ARGUMENT),
         (b"nobody", 31, DOES_NOT_EXIST),
