@@ -226,7 +226,8 @@ fn a_stream_is_billed_with_the_keys_of_the_list() {
     let bill_with = |list: &[u8]| folder.bill_with_list(b"\x01\x01\x00b", &stream, list);
     let refused = "\nline 0 b 1\nopen 0\nrefused 1133 1\nrefused 1139 1\ndropped";
     assert!(bill_with(&pair(b"k", b"data")).contains(refused));
-    assert!(bill_with(&longest_list()).contains("\nline 0 b 1\nopen 0\nrefused 1140 2\ndropped"));
+    let served = "\nline 0 b 1\nkey 0 0 0\nopen 0\nrefused 1140 2\ndropped";
+    assert!(bill_with(&longest_list()).contains(served));
 }
 
 #[test]
