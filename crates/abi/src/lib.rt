@@ -133,7 +133,7 @@ fn number_billed(billed: Billed) -> Bill
     }
 }
 
-// 0 for a bill that was written, 1 for a buffer below 2048 bytes, 2 for an ill-formed connection, 3 for such a registry.
+// 0 for a bill that was written, 1 for a buffer below billing's BILL_MOST bytes, 2 for an ill-formed connection, 3 for such a registry.
 #[no_mangle]
 pub extern "C" fn razidkot_bill(
     out: &mut [u8],

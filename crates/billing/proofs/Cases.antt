@@ -20,7 +20,7 @@ use Rattle.keys.specs.Names.{legalName}
 use Rattle.registry.specs.Names.{indexFrom}
 use Rattle.keys.specs.Key.{legalData, legalBits, importBits}
 use Rattle.registry.specs.Slots.{Entry, free, held, keyBytes, slotBytes, slotOf}
-use Rattle.registry.specs.Registry.{slotCount, applicationNamed, slotsOf, slotNamed, changed, lineOf, registryOf}
+use Rattle.registry.specs.Registry.{slotCount, applicationNamed, slotsOf, usesOf, slotNamed, changed, lineOf, registryOf}
 use Rattle.records.specs.Records.{isWhole, recordTurn, readRecords}
 use Rattle.shipped.specs.Shipped.{pairsDone, listOf, wellFormedList, keysIn, listedNamed}
 use Rattle.lookup.specs.Lookup.{keyOf, ownIn, listedIn, keyNamed}
@@ -36,7 +36,7 @@ use Rattle.judgement.specs.Operations.{success, refuse, importable, performImpo
 use Rattle.judgement.specs.Counts.{Counts, noCounts, increment, indexOf, countRefused, countServed, count}
 use Rattle.judgement.specs.Judgement.{applicationOf, refusals, askersSlots, resultOf, changedBy, verdictOf, refusedEarly, oversizedStatus, judgement}
 use Rattle.billing.specs.Ascii.{ascii}
-use Rattle.billing.specs.Bill.{digitsBefore, decimal, textLine, applicationLines, refusedLines, billOf, refusedRoster, billFor, isListRefused, bill}
+use Rattle.billing.specs.Bill.{digitsBefore, decimal, textLine, applicationLines, keyLine, slotLines, keyLines, refusedLines, billOf, refusedRoster, billFor, isListRefused, bill}
 
 -- ---- what a case shows: the responses, the slots of application 0 afterwards, and the bill
 pub record Shown : Type 0 where
@@ -58,7 +58,7 @@ startOf (faulty fault) = []
 
 -- all that a case computes with
 unfoldable pub showing : (roster stream : List ℕ) → Shown
-unfolding rosterOf readRecords recordTurn isWhole recordStep recordFaults firstOf legalName field littleEndian registryOf lineOf flatten rules rulesFrom rulesWithin start answer finish judge next legalStart oversized judgement noCounts requestOf resultOf refusals oneOf opcodesOf isSome applicationOf applicationNamed indexFrom operated operationOf readBody scanAt scanFrom stepAt itemOf fieldAt contentAt numberAt spanAt fixedAt groupAt varintOf withValue perform performImport performDestroy destroyOf performExport exportOf keyNamed ownIn listedIn keyOf keysIn listOf pairsDone listedNamed performListOpcodes success refuse numberField bytesField packedField flatMap varint varintWithin importable importBits legalData legalBits slotNamed keyBytes slotBytes askersSlots verdictOf refusedEarly oversizedStatus responseBytes responseHeader littleEndianOf statusNumber changedBy changed count countServed countRefused increment indexOf slotsOf slotOf billOf textLine decimal digitsBefore applicationLines refusedLines heldBytes ascii shownBy startOf bill billFor isListRefused wellFormedList refusedRoster faultNumber listed messageBytes readMessage packedOf outputBytes bind
+unfolding rosterOf readRecords recordTurn isWhole recordStep recordFaults firstOf legalName field littleEndian registryOf lineOf flatten rules rulesFrom rulesWithin start answer finish judge next legalStart oversized judgement noCounts requestOf resultOf refusals oneOf opcodesOf isSome applicationOf applicationNamed indexFrom operated operationOf readBody scanAt scanFrom stepAt itemOf fieldAt contentAt numberAt spanAt fixedAt groupAt varintOf withValue perform performImport performDestroy destroyOf performExport exportOf keyNamed ownIn listedIn keyOf keysIn listOf pairsDone listedNamed performListOpcodes success refuse numberField bytesField packedField flatMap varint varintWithin importable importBits legalData legalBits slotNamed keyBytes slotBytes askersSlots verdictOf refusedEarly oversizedStatus responseBytes responseHeader littleEndianOf statusNumber changedBy changed count countServed countRefused increment indexOf slotsOf usesOf slotOf billOf textLine decimal digitsBefore applicationLines keyLine slotLines keyLines refusedLines heldBytes ascii shownBy startOf bill billFor isListRefused wellFormedList refusedRoster faultNumber listed messageBytes readMessage packedOf outputBytes bind
 showing roster stream = shownBy (rules (judgement []) (startOf (rosterOf roster)) stream) (bill (some roster) (some stream) (some []))
 
 -- ---- a table holds

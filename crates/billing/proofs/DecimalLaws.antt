@@ -10,7 +10,7 @@ use lib.ListN.{length, take, drop, set, length-set, length-drop}
 use lib.Seq.{drop-cons, drop-length, drop-set-lt, getD-set-same, take-all}
 use lib.Dec.{ltb}
 use Rattle.billing.specs.Bill.{digitsBefore, decimal}
-use Rattle.billing.specs.code.Text.{digitsMost}
+use Rattle.billing.specs.Outcome.{digitsMost}
 
 -- ---- the digits, by the last
 

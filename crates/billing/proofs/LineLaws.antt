@@ -1,14 +1,14 @@
--- Laws of the bill's lines: those of the applications and of the statuses, one by one.
+-- Laws of the bill's lines: those of the applications, of their keys and of the statuses, one by one.
 use mathlib.Core.Path.{_≡_, refl, sym, ap, _∙_}
 use mathlib.Core.Bool.{Bool, true, false}
 use mathlib.Core.List.{List, [], _∷_, _++_}
 use Prim.Native.Nat.{ℕ, suc, _+_, _-_, _*_, _≤_, _<_}
-use native.Mathlib.Nat.{zero-add}
+use native.Mathlib.Nat.{zero-add, add-zero}
 use native.Mathlib.Numerals.{add-one}
 use native.Mathlib.Omega.{arith}
 use borrow.Author.Tests.{eq-eqb, ne-eqb}
 use lib.ListN.{length, take, drop, getD, drop-of-length-le}
-use lib.Seq.{drop-cons}
+use lib.Seq.{drop-cons, getD-take, getD-drop}
 use lib.Dec.{eqb}
 use Rattle.wire.specs.Choice.{if_then_else_}
 use Rattle.wire.specs.Lists.{all}
@@ -16,16 +16,19 @@ use Rattle.wire.proofs.TestLaws.{and-left}
 use Rattle.wire.proofs.ListLaws.{all-drop}
 use Rattle.registry.specs.Names.{nameIn}
 use Rattle.keys.specs.Names.{applicationNameMost}
-use Rattle.registry.specs.Registry.{lineCount, lineSize, namesIn}
+use Rattle.registry.specs.Slots.{free, slotSize, slotOf}
+use Rattle.registry.specs.Registry.{lineCount, slotCount, lineSize, namesIn, slotsOf, usesOf, place}
 use Rattle.registry.specs.WellFormed.{legalIfUsed, wellFormedRegistry}
 use Rattle.registry.specs.code.Check.{blockNames}
+use Rattle.registry.specs.declared.Line.{Line}
 use Rattle.keys.proofs.NameLaws.{legal-short}
 use Rattle.registry.proofs.WellFormedLaws.{good-of}
+use Rattle.registry.proofs.RegistryLaws.{length-slots, slot-there}
 use Rattle.registry.proofs.BlockNameLaws.{blockAt, fits, length-names, names-cons, name-at, name-length}
 use Rattle.judgement.specs.Status.{statusNumber, refusedStatuses}
 use Rattle.judgement.specs.declared.Status.the-variants.{Success}
 use Rattle.billing.specs.Ascii.{ascii}
-use Rattle.billing.specs.Bill.{decimal, textLine, applicationLines, refusedLines}
+use Rattle.billing.specs.Bill.{decimal, textLine, applicationLines, keyLine, slotLines, keyLines, refusedLines}
 use Rattle.billing.specs.Outcome.{usedNames}
 use Rattle.billing.specs.code.Text.{refusedLine}
 
@@ -41,17 +44,32 @@ unfolding usedNames
 used-none [] names h = refl
 used-none (b ∷ name) names h = absurd (omega arith)
 
--- the lines from number i on
+-- the lines from number i on, and those of their keys
 abbrev pub linesFrom : (registry served : List ℕ) (i : ℕ) → List ℕ
 linesFrom registry served i = applicationLines i (usedNames (drop i (namesIn registry))) served
+
+abbrev pub keysFrom : (registry : List ℕ) (i : ℕ) → List ℕ
+keysFrom registry i = keyLines i (usedNames (drop i (namesIn registry))) registry
 
 abbrev pub applicationLine : (served : List ℕ) (i : ℕ) (name : List ℕ) → List ℕ
 applicationLine served i name = textLine (ascii "line") (decimal i ∷ name ∷ decimal (getD served i 0) ∷ [])
 
-pub lines-end : (registry served : List ℕ) (i : ℕ) → lineCount ≤ i → linesFrom registry served i ≡ []
-unfolding applicationLines usedNames blockNames
-lines-end registry served i h =
+used-end : (registry : List ℕ) (i : ℕ) → lineCount ≤ i → usedNames (drop i (namesIn registry)) ≡ []
+unfolding usedNames blockNames
+used-end registry i h =
     rw (drop-of-length-le (namesIn registry) (let x : length (namesIn registry) ≤ i = omega (arith, length-names 0 lineSize lineCount registry) in x))
+
+pub lines-end : (registry served : List ℕ) (i : ℕ) → lineCount ≤ i → linesFrom registry served i ≡ []
+unfolding applicationLines
+lines-end registry served i h = rw (used-end registry i h)
+
+pub keys-end : (registry : List ℕ) (i : ℕ) → lineCount ≤ i → keysFrom registry i ≡ []
+unfolding keyLines
+keys-end registry i h = rw (used-end registry i h)
+
+-- the lines of an application's keys from slot k on
+abbrev pub slotsFrom : (registry : List ℕ) (line : Line) (k : ℕ) → List ℕ
+slotsFrom registry line k = slotLines (line .0) k (drop k (slotsOf registry line)) (usesOf registry line)
 
 module _ (registry : List ℕ) (w : wellFormedRegistry registry ≡ true) (i : ℕ) (h : i < lineCount) (b : getD registry (i * lineSize) 0 < 256) where
   -- the name's bytes, as the part of the registry that is lent
@@ -80,12 +98,54 @@ module _ (registry : List ℕ) (w : wellFormedRegistry registry ≡ true) (i : �
   lines-next served n =
       rw (names-next, used-some nameAt (drop (i + 1) (namesIn registry)) (omega (arith, name-long)), ← add-one i)
 
+  pub keys-none : getD registry (i * lineSize) 0 ≡ 0 → keysFrom registry i ≡ []
+  unfolding keyLines
+  keys-none e = rw (names-next, used-none nameAt (drop (i + 1) (namesIn registry)) (name-long ∙ e))
+
+  pub keys-next : (getD registry (i * lineSize) 0 ≡ 0 → ⊥) → keysFrom registry i ≡ slotsFrom registry (record { 0 = i }) 0 ++ keysFrom registry (i + 1)
+  unfolding keyLines
+  keys-next n =
+      rw (names-next, used-some nameAt (drop (i + 1) (namesIn registry)) (omega (arith, name-long)), ← add-one i)
+
   pub name-short : (getD registry (i * lineSize) 0 ≡ 0 → ⊥) → length nameAt ≤ applicationNameMost
   name-short n =
       let named : length nameAt ≡ 0 → ⊥ = λ e. n (sym name-long ∙ e) in
       let legal : all legalIfUsed (nameAt ∷ drop (i + 1) (namesIn registry)) ≡ true
       = rw names-next at (all-drop legalIfUsed i (namesIn registry) (good-of registry w .lines .legal)) in
       legal-short applicationNameMost nameAt (rw (ne-eqb (length nameAt) 0 named) at (and-left (legalIfUsed nameAt) _ legal))
+
+-- ---- an application's keys
+
+-- the line of slot k
+abbrev pub slotLine : (registry : List ℕ) (line : Line) (k : ℕ) → List ℕ
+slotLine registry line k = keyLine (line .0) k (getD (slotsOf registry line) k free) (getD (usesOf registry line) k 0)
+
+pub slots-next : (registry : List ℕ) (line : Line) (k : ℕ) → k < slotCount
+    → slotsFrom registry line k ≡ slotLine registry line k ++ slotsFrom registry line (k + 1)
+unfolding slotLines
+slots-next registry line k h =
+    rw (add-one k, drop-cons (slotsOf registry line) k free (let x : k < length (slotsOf registry line) = omega (arith, length-slots registry line) in x))
+
+pub slots-end : (registry : List ℕ) (line : Line) (k : ℕ) → slotCount ≤ k → slotsFrom registry line k ≡ []
+unfolding slotLines
+slots-end registry line k h =
+    rw (drop-of-length-le (slotsOf registry line) (let x : length (slotsOf registry line) ≤ k = omega (arith, length-slots registry line) in x))
+
+module _ (registry : List ℕ) (line : Line) (k : ℕ) (h : k < slotCount) where
+  abbrev at : ℕ
+  at = place line (record { 0 = k })
+
+  first-byte : getD (take slotSize (drop at registry)) 0 0 ≡ getD registry at 0
+  first-byte = getD-take slotSize (drop at registry) 0 0 (omega arith) ∙ getD-drop at registry 0 0 ∙ ap (λ (n : ℕ). getD registry n 0) (add-zero at)
+
+  pub slot-line-none : getD registry at 0 ≡ 0 → slotLine registry line k ≡ []
+  unfolding keyLine slotOf
+  slot-line-none e = rw (slot-there registry line k h, eq-eqb _ 0 (first-byte ∙ e))
+
+  pub slot-line-some : (getD registry at 0 ≡ 0 → ⊥)
+      → slotLine registry line k ≡ textLine (ascii "key") (decimal (line .0) ∷ decimal k ∷ decimal (getD (usesOf registry line) k 0) ∷ [])
+  unfolding keyLine slotOf
+  slot-line-some n = rw (slot-there registry line k h, ne-eqb _ 0 (λ e. n (sym first-byte ∙ e)))
 
 -- ---- the statuses
 

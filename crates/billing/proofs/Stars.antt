@@ -49,7 +49,7 @@ case-opcodes-1 = case-of [] (request 1 0 9 0 (0x08 ∷ 0x01 ∷ []) []) (respons
 
 case-import : Case
 case-import = case-of roster-b (imports 0x61) (imported ∷ []) (key 0x61 ∷ [])
-    (ascii "taken 41\nline 0 b 1\nopen 0\ndropped 0\nheld 0\n")
+    (ascii "taken 41\nline 0 b 1\nkey 0 0 0\nopen 0\ndropped 0\nheld 0\n")
 
 case-bill : Case
 case-bill = case-of [] (ping ++ replicate 6 0xFF) (pong ∷ response 0 0 17 0 [] ∷ []) []
@@ -73,7 +73,7 @@ case-fifth = case-of roster-b
     (imports 0x61 ++ (imports 0x62 ++ (imports 0x63 ++ (imports 0x64 ++ (imports 0x65 ++ (destroys 0x62 ++ imports 0x65))))))
     (imported ∷ imported ∷ imported ∷ imported ∷ response 1 6 0x76 0x04 [] ∷ response 1 3 0 0 [] ∷ imported ∷ [])
     (key 0x61 ∷ key 0x65 ∷ key 0x63 ∷ key 0x64 ∷ [])
-    (ascii "taken 278\nline 0 b 6\nopen 0\nrefused 1142 1\ndropped 0\nheld 0\n")
+    (ascii "taken 278\nline 0 b 6\nkey 0 0 0\nkey 0 1 0\nkey 0 2 0\nkey 0 3 0\nopen 0\nrefused 1142 1\ndropped 0\nheld 0\n")
 
 -- 1139 is 0x0473
 case-held : Case
@@ -81,7 +81,7 @@ case-held = case-of roster-b
     (imports 0x61 ++ (imports 0x62 ++ (imports 0x63 ++ (imports 0x64 ++ imports 0x63))))
     (imported ∷ imported ∷ imported ∷ imported ∷ response 1 6 0x73 0x04 [] ∷ [])
     (key 0x61 ∷ key 0x62 ∷ key 0x63 ∷ key 0x64 ∷ [])
-    (ascii "taken 205\nline 0 b 4\nopen 0\nrefused 1139 1\ndropped 0\nheld 0\n")
+    (ascii "taken 205\nline 0 b 4\nkey 0 0 0\nkey 0 1 0\nkey 0 2 0\nkey 0 3 0\nopen 0\nrefused 1139 1\ndropped 0\nheld 0\n")
 
 pub table : List Case
 table =

@@ -1,4 +1,5 @@
--- "The bill"; document 02, "Keys we ship": its text for a roster file, a captured stream and the list of keys that we ship.
+-- "The bill"; document 02, "Keys we ship", "Use per key": its text for a roster file, a captured stream and the list of keys that
+-- we ship.
 use Prim.Native.Nat.{ℕ, zero, suc, _+_, _/_, _%_}
 use mathlib.Core.Bool.{Bool, false, not}
 use mathlib.Core.Option.{Option, none, some}
@@ -7,7 +8,8 @@ use lib.ListN.{length, take, getD}
 use lib.Dec.{ltb, eqb}
 use Rattle.wire.specs.Choice.{if_then_else_}
 use Rattle.stream.specs.Rules.{heldBytes, State, rules}
-use Rattle.registry.specs.Registry.{registryOf}
+use Rattle.registry.specs.Slots.{Entry, free, held}
+use Rattle.registry.specs.Registry.{slotsOf, usesOf, registryOf}
 use Rattle.roster.specs.Roster.{faultNumber, Roster, applications, faulty, rosterOf}
 use Rattle.roster.specs.declared.RosterFault.{RosterFault}
 use Rattle.shipped.specs.Shipped.{wellFormedList}
@@ -41,6 +43,22 @@ applicationLines number [] served = []
 applicationLines number (name ∷ names) served =
     textLine (ascii "line") (decimal number ∷ name ∷ decimal (getD served number 0) ∷ []) ++ applicationLines (suc number) names served
 
+-- a used slot: its line's number, its own, and how often its key was used
+unfoldable pub keyLine : (line slot : ℕ) → Entry → (uses : ℕ) → List ℕ
+keyLine line slot free uses = []
+keyLine line slot (held key) uses = textLine (ascii "key") (decimal line ∷ decimal slot ∷ decimal uses ∷ [])
+
+-- the slots of a line, ascending
+unfoldable pub slotLines : (line slot : ℕ) (slots : List Entry) (uses : List ℕ) → List ℕ
+slotLines line slot [] uses = []
+slotLines line slot (entry ∷ slots) uses = keyLine line slot entry (getD uses slot 0) ++ slotLines line (suc slot) slots uses
+
+-- of each used line
+unfoldable pub keyLines : (number : ℕ) (names : List (List ℕ)) (registry : List ℕ) → List ℕ
+keyLines number [] registry = []
+keyLines number (name ∷ names) registry =
+    slotLines number 0 (slotsOf registry (record { 0 = number })) (usesOf registry (record { 0 = number })) ++ keyLines (suc number) names registry
+
 -- each status with its count, where that isn't 0
 unfoldable pub refusedLines : List Status → (refused : List ℕ) → List ℕ
 refusedLines [] refused = []
@@ -53,10 +71,11 @@ unfoldable pub billOf : (names : List (List ℕ)) → State (List ℕ) Counts �
 billOf names s =
     textLine (ascii "taken") (decimal (s .totals .taken) ∷ [])
     ++ (applicationLines 0 names (s .totals .counts .served)
+    ++ (keyLines 0 names (s .registry)
     ++ (textLine (ascii "open") (decimal (s .totals .counts .unauthenticated) ∷ [])
     ++ (refusedLines refusedStatuses (s .totals .counts .refused)
     ++ (textLine (ascii "dropped") (decimal (s .totals .dropped) ∷ [])
-    ++ textLine (ascii "held") (decimal (heldBytes (s .connection)) ∷ [])))))
+    ++ textLine (ascii "held") (decimal (heldBytes (s .connection)) ∷ []))))))
 
 -- all requests on the bill: on the roster's lines, the one of auth type 0, and those of statuses
 unfoldable pub requestsOn : (names : List (List ℕ)) → State (List ℕ) Counts → ℕ

@@ -1,5 +1,5 @@
 -- What writing a bill comes to, for any memory and any buffer.
-use Prim.Native.Nat.{ℕ}
+use Prim.Native.Nat.{ℕ, _+_, _*_}
 use mathlib.Core.Bool.{Bool, not}
 use mathlib.Core.Option.{Option, none, some}
 use mathlib.Core.List.{List, [], _∷_}
@@ -8,16 +8,24 @@ use lib.Dec.{ltb}
 use Rattle.wire.specs.Choice.{firstOf}
 use Rattle.wire.specs.Lists.{over}
 use Rattle.connection.specs.Connection.{wellFormedConnection}
-use Rattle.registry.specs.Registry.{namesIn}
+use Rattle.registry.specs.Registry.{lineCount, slotCount, namesIn}
 use Rattle.registry.specs.WellFormed.{wellFormedRegistry}
 use Rattle.service.specs.Call.{Memory, stateIn}
 use Rattle.billing.specs.Bill.{billOf}
 use Rattle.billing.specs.declared.Billed.{Billed}
 use Rattle.billing.specs.declared.Billed.the-variants.{Written, BufferTooSmall, ConnectionIllFormed, RegistryIllFormed}
 
+-- a number of 64 bits has at most so many digits
+abbrev pub digitsMost : ℕ
+digitsMost = 20
+
+-- "key" and three numbers
+abbrev pub keyLineMost : ℕ
+keyLineMost = 3 + (1 + digitsMost) + (1 + digitsMost) + (1 + digitsMost) + 1
+
 -- a buffer of so many bytes has room for every bill
 abbrev pub billMost : ℕ
-billMost = 2048
+billMost = 2048 + lineCount * (slotCount * keyLineMost)
 
 -- the names of the used lines, which come first
 unfoldable pub usedNames : (names : List (List ℕ)) → List (List ℕ)

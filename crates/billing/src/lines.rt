@@ -6,19 +6,24 @@ use judgement::statuses::refused_number;
 use registry::LINE_SIZE;
 use registry::LINES;
 use registry::Line;
+use registry::SLOTS;
+use registry::Slot;
+use registry::find::slot_at;
+use registry::key::key_uses;
 use registry::names::wide;
 ghost use mathlib.Core.Bool.{true};
 ghost use mathlib.Core.List.{[], _∷_};
 ghost use mathlib.Core.Path.{_≡_};
-ghost use Prim.Native.Nat.{_+_, _*_, _≤_};
-ghost use lib.ListN.{length};
+ghost use Prim.Native.Nat.{_+_, _*_, _≤_, _<_};
+ghost use lib.ListN.{length, getD};
 ghost use Rattle.keys.specs.Names.{applicationNameMost};
-ghost use Rattle.registry.specs.Registry.{lineCount, namesIn};
+ghost use Rattle.registry.specs.Slots.{free};
+ghost use Rattle.registry.specs.Registry.{lineCount, slotCount, namesIn, slotsOf, usesOf};
 ghost use Rattle.registry.specs.WellFormed.{wellFormedRegistry};
 ghost use Rattle.judgement.specs.Status.{refusedStatuses, refusedCount};
 ghost use Rattle.billing.specs.Ascii.{ascii};
-ghost use Rattle.billing.specs.Bill.{decimal, textLine, applicationLines, refusedLines};
-ghost use Rattle.billing.specs.Outcome.{usedNames};
+ghost use Rattle.billing.specs.Bill.{decimal, textLine, applicationLines, keyLine, slotLines, keyLines, refusedLines};
+ghost use Rattle.billing.specs.Outcome.{keyLineMost, usedNames};
 ghost use Rattle.billing.specs.code.Text.{wordMost, countLineMost, applicationLineMost, refusedLineMost, Placed, refusedLine};
 
 // A line of a word and a number.
@@ -60,6 +65,54 @@ pub fn write_applications(out: &mut [u8], at: usize, registry: &[u8], served: &[
         let begin = start + 1;
         let stop = begin + size;
         end = write_application(out, end, Line(i), &registry[begin..stop], served[i]);
+        i += 1;
+    }
+    end
+}
+
+// A slot's line: the line's number, the slot's and how often its key was used; nothing where the slot is free.
+fn write_key(out: &mut [u8], at: usize, registry: &[u8], line: Line, slot: Slot) -> usize
+    requires { ⌜ (wellFormedRegistry (now registry) ≡ true) × (line .0 < lineCount) × (slot .0 < slotCount) × (at + keyLineMost ≤ length (now out)) ⌝ }
+    ensures { λ r. ⌜ Placed (keyLine (line .0) (slot .0) (getD (slotsOf (now (registry .entry)) line) (slot .0) free) (getD (usesOf (now (registry .entry)) line) (slot .0) 0)) (now (out .entry)) (now (out .exit)) at r × (r ≤ at + keyLineMost) ⌝ }
+{
+    let place = slot_at(line, slot);
+    if registry[place] == 0 {
+        return at;
+    }
+    let uses = key_uses(registry, line, slot);
+    let begun = write_word(out, at, b"key");
+    let lined = write_number(out, begun, line.0 as u64);
+    let numbered = write_number(out, lined, slot.0 as u64);
+    let counted = write_number(out, numbered, uses as u64);
+    write_word(out, counted, b"\n")
+}
+
+// The lines of an application's keys, by slot.
+fn write_line_keys(out: &mut [u8], at: usize, registry: &[u8], line: Line) -> usize
+    requires { ⌜ (wellFormedRegistry (now registry) ≡ true) × (line .0 < lineCount) × (at + slotCount * keyLineMost ≤ length (now out)) ⌝ }
+    ensures { λ r. ⌜ Placed (slotLines (line .0) 0 (slotsOf (now (registry .entry)) line) (usesOf (now (registry .entry)) line)) (now (out .entry)) (now (out .exit)) at r × (r ≤ at + slotCount * keyLineMost) ⌝ }
+{
+    let mut end = at;
+    let mut k = 0;
+    while k < SLOTS {
+        end = write_key(out, end, registry, line, Slot(k));
+        k += 1;
+    }
+    end
+}
+
+// The lines of all keys (document 02, "Use per key"), those of one application behind those of the one before.
+pub fn write_keys(out: &mut [u8], at: usize, registry: &[u8]) -> usize
+    requires { ⌜ (wellFormedRegistry (now registry) ≡ true) × (at + lineCount * (slotCount * keyLineMost) ≤ length (now out)) ⌝ }
+    ensures { λ r. ⌜ Placed (keyLines 0 (usedNames (namesIn (now (registry .entry)))) (now (registry .entry))) (now (out .entry)) (now (out .exit)) at r × (r ≤ at + lineCount * (slotCount * keyLineMost)) ⌝ }
+{
+    let mut end = at;
+    let mut i = 0;
+    while i < LINES {
+        if wide(registry[i * LINE_SIZE]) == 0 {
+            return end;
+        }
+        end = write_line_keys(out, end, registry, Line(i));
         i += 1;
     }
     end

@@ -4,7 +4,8 @@ ghost use mathlib.Core.List.{_∷_};
 ghost use Prim.Native.Nat.{_+_, _≤_};
 ghost use lib.ListN.{length};
 ghost use Rattle.billing.specs.Bill.{decimal};
-ghost use Rattle.billing.specs.code.Text.{digitsMost, Placed};
+ghost use Rattle.billing.specs.Outcome.{digitsMost};
+ghost use Rattle.billing.specs.code.Text.{Placed};
 
 pub fn write_word(out: &mut [u8], at: usize, word: &[u8]) -> usize
     requires { ⌜ at + length (now word) ≤ length (now out) ⌝ }
@@ -15,7 +16,7 @@ pub fn write_word(out: &mut [u8], at: usize, word: &[u8]) -> usize
 }
 
 // A number of 64 bits has at most so many digits.
-const DIGITS_MOST: usize = 20;
+pub const DIGITS_MOST: usize = 20;
 
 // A number in decimal digits, which are found from the last one on.
 pub fn write_decimal(out: &mut [u8], at: usize, n: u64) -> usize

@@ -3,6 +3,7 @@ use crate::BILL_MOST;
 use crate::Billed;
 use crate::lines::write_applications;
 use crate::lines::write_count;
+use crate::lines::write_keys;
 use crate::lines::write_refusals;
 use connection::BYTES_AT;
 use connection::check::State;
@@ -43,7 +44,8 @@ fn write_lines(out: &mut [u8], counters: Counters, registry: &[u8], connection: 
     let held = held_bytes(connection);
     let taken = write_count(out, 0, b"taken", counters.taken);
     let named = write_applications(out, taken, registry, &served);
-    let open = write_count(out, named, b"open", counters.unauthenticated);
+    let keyed = write_keys(out, named, registry);
+    let open = write_count(out, keyed, b"open", counters.unauthenticated);
     let statuses = write_refusals(out, open, &refused);
     let dropped = write_count(out, statuses, b"dropped", counters.dropped);
     write_count(out, dropped, b"held", held)

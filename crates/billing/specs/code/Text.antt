@@ -9,12 +9,9 @@ use Rattle.wire.specs.Lists.{put}
 use Rattle.keys.specs.Names.{applicationNameMost}
 use Rattle.billing.specs.Ascii.{ascii}
 use Rattle.billing.specs.Bill.{decimal, textLine}
+use Rattle.billing.specs.Outcome.{digitsMost}
 
 -- ---- the longest texts
-
--- a number of 64 bits has at most so many digits
-abbrev pub digitsMost : ℕ
-digitsMost = 20
 
 -- "dropped" and "refused"
 abbrev pub wordMost : ℕ

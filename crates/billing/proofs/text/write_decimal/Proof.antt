@@ -5,7 +5,7 @@ use mathlib.Core.Path.{ap}
 use native.Mathlib.Omega.{arith}
 use borrow.Author.Needs.{needs}
 use lib.ListN.{length, length-replicate}
-use Rattle.billing.specs.code.Text.{digitsMost}
+use Rattle.billing.specs.Outcome.{digitsMost}
 use Rattle.billing.proofs.DecimalLaws.{Found, found-none, found-more, found-all, found-short}
 use Rattle.billing.proofs.text.write_decimal.Statement.{statement}
 use Rattle.billing.proofs.text.write_decimal.Tie as tie
