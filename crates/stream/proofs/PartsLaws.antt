@@ -144,6 +144,13 @@ module _ {Reg Count Out : Type 0} (J : Judgement Reg Count Out) where
       let v = verdictOn J registry counts request in
       countsFrom (v .registry) (v .counts) requests
 
+  -- and the registry
+  unfoldable pub registryFrom : Reg → Count → (requests : List (List ℕ)) → Reg
+  registryFrom registry counts [] = registry
+  registryFrom registry counts (request ∷ requests) =
+      let v = verdictOn J registry counts request in
+      registryFrom (v .registry) (v .counts) requests
+
   -- the rules from any progress on, by the parts of the bytes not yet read
   pub record Told (p : Progress Reg Count Out) (parts : Parts) (o : Outcome Reg Count Out) : Type 0 where
     pub responses : o .responses ≡ p .responses ++ responsesFrom J (p .registry) (p .counts) (parts .answered)
@@ -151,24 +158,25 @@ module _ {Reg Count Out : Type 0} (J : Judgement Reg Count Out) where
     pub held : heldBytes (o .state .connection) ≡ length (parts .held)
     pub dropped : o .state .totals .dropped ≡ length (parts .dropped)
     pub counts : o .state .totals .counts ≡ countsFrom (p .registry) (p .counts) (parts .answered)
+    pub registry : o .state .registry ≡ registryFrom (p .registry) (p .counts) (parts .answered)
 
   module _ (taken : ℕ) (p : Progress Reg Count Out) (s : List ℕ) where
     told-unfinished : Told p (heldParts s) (finish p taken 0 (opened s))
-    unfolding heldParts finish heldBytes responsesFrom countsFrom flatten
-    told-unfinished = record { responses = sym (append-nil (p .responses)); answered = omega arith; held = refl; dropped = refl; counts = refl }
+    unfolding heldParts finish heldBytes responsesFrom countsFrom registryFrom flatten
+    told-unfinished = record { responses = sym (append-nil (p .responses)); answered = omega arith; held = refl; dropped = refl; counts = refl; registry = refl }
 
     told-skipped : Skipped s
         → Told p (heldParts s) (finish p taken 0 (skipping (take (headerLength s) s) (requestLength s - length s)))
-    unfolding heldParts finish heldBytes responsesFrom countsFrom flatten
+    unfolding heldParts finish heldBytes responsesFrom countsFrom registryFrom flatten
     told-skipped k =
         let h = header-length s k in
         let m : length s < requestLength s = k .more in
-        record { responses = sym (append-nil (p .responses)); answered = omega arith; held = omega arith; dropped = refl; counts = refl }
+        record { responses = sym (append-nil (p .responses)); answered = omega arith; held = omega arith; dropped = refl; counts = refl; registry = refl }
 
     told-bad : 6 ≤ length s → legalStart s ≡ false
         → Told p (closingParts s)
         (finish (answer p 6 (J .onBadStart (p .registry) (p .counts))) taken (length s - 6) closed)
-    unfolding closingParts finish answer heldBytes responsesFrom countsFrom flatten
+    unfolding closingParts finish answer heldBytes responsesFrom countsFrom registryFrom flatten
     told-bad h l =
         let n : length (take 6 s) ≡ 6 = length-take-le 6 s h in
         let d : length (drop 6 s) ≡ length s - 6 = length-drop 6 s in
@@ -181,11 +189,13 @@ module _ {Reg Count Out : Type 0} (J : Judgement Reg Count Out) where
           dropped = sym d;
           counts = ap (λ (v : Verdict Reg Count Out). v .counts)
               (sym (verdict-bad (p .registry) (p .counts) (take 6 s) (legal-front s 6 (le-refl 6) h ∙ l)));
+          registry = ap (λ (v : Verdict Reg Count Out). v .registry)
+              (sym (verdict-bad (p .registry) (p .counts) (take 6 s) (legal-front s 6 (le-refl 6) h ∙ l)));
         }
 
     told-whole : (n : ℕ) → legalStart s ≡ true → 6 ≤ n → n ≤ length s → (rest : Parts) (o : Outcome Reg Count Out)
         → Told (answer p n (judge J (p .registry) (p .counts) (take n s))) rest o → Told p (andBefore (take n s) rest) o
-    unfolding answer andBefore responsesFrom countsFrom flatten
+    unfolding answer andBefore responsesFrom countsFrom registryFrom flatten
     told-whole n l h k rest o t =
         let v : Verdict Reg Count Out = judge J (p .registry) (p .counts) (take n s) in
         let size : length (take n s) ≡ n = length-take-le n s k in
@@ -201,6 +211,9 @@ module _ {Reg Count Out : Type 0} (J : Judgement Reg Count Out) where
           dropped = t .dropped;
           counts = t .counts
               ∙ ap (λ (v : Verdict Reg Count Out). countsFrom (v .registry) (v .counts) (rest .answered))
+              (sym (verdict-legal (p .registry) (p .counts) (take n s) (legal-front s n h k ∙ l)));
+          registry = t .registry
+              ∙ ap (λ (v : Verdict Reg Count Out). registryFrom (v .registry) (v .counts) (rest .answered))
               (sym (verdict-legal (p .registry) (p .counts) (take n s) (legal-front s n h k ∙ l)));
         }
 
@@ -229,6 +242,12 @@ module _ {Reg Count Out : Type 0} (J : Judgement Reg Count Out) where
   rules-from-stream registry stream =
       let t = told stream (length stream) (start J registry) in
       record { responses = t .responses; answered = t .answered ∙ omega arith; held = t .held; dropped = t .dropped; counts = t .counts }
+
+  -- the registry is the one that the answered requests leave
+  pub rules-registry : (registry : Reg) (stream : List ℕ)
+      → rules J registry stream .state .registry ≡ registryFrom registry (J .noCounts) (partsOf stream .answered)
+  unfolding rules start
+  rules-registry registry stream = told stream (length stream) (start J registry) .registry
 
   one-from : (registry : Reg) (counts : Count) (requests : List (List ℕ)) → length (responsesFrom J registry counts requests) ≡ length requests
   unfolding responsesFrom
