@@ -21,7 +21,7 @@ use Rattle.rsa.specs.Signature.{verification}
 use Rattle.rsa.specs.declared.verify.Outcome.{Outcome}
 use Rattle.rsa.specs.declared.verify.Outcome.the-variants.{ValidSignature, InvalidSignature, InvalidKey}
 use Rattle.registry.specs.Slots.{Entry, free}
-use Rattle.registry.specs.Registry.{slotNamed}
+use Rattle.registry.specs.Registry.{slotNamed, addUse}
 use Rattle.registry.specs.WellFormed.{wellFormedRegistry}
 use Rattle.registry.specs.declared.Line.{Line}
 use Rattle.registry.specs.declared.Found.{Found}
@@ -31,7 +31,7 @@ use Rattle.registry.proofs.WellFormedLaws.{slots-short}
 use Rattle.shipped.specs.Shipped.{ListedKey, keysIn}
 use Rattle.lookup.specs.Lookup.{Source, own, listed, keyOf, keyNamed}
 use Rattle.judgement.specs.Status.{statusNumber}
-use Rattle.judgement.specs.Operations.{Result, success, refuse, importable, performImport, destroyOf, performDestroy, exportOf, performExport, hashSize, checked, verifyWith, performVerify, performListOpcodes, perform, operated}
+use Rattle.judgement.specs.Operations.{Result, success, refuse, importable, performImport, destroyOf, performDestroy, counted, exportOf, performExport, hashSize, checked, verifyWith, performVerify, performListOpcodes, perform, operated}
 use Rattle.judgement.specs.Judgement.{applicationOf, refusals, askersSlots, resultOf}
 use Rattle.judgement.specs.declared.Status.{Status}
 use Rattle.judgement.proofs.SourceLaws.{source-short}
@@ -43,6 +43,16 @@ use Rattle.conversation.proofs.Answered.{Sound, notServed, served}
 refused : (operation : Operation) (status : Status) → 0 < statusNumber status → Sound operation (refuse status)
 unfolding refuse
 refused operation status h = notServed h refl
+
+-- counting a use changes neither the status nor the output
+sound-counted : (operation : Operation) (source : Source) (r : Result) → Sound operation r → Sound operation (counted source r)
+unfolding counted
+sound-counted operation (listed key) r sound = sound
+sound-counted operation (own slot key) r sound = either (Sound operation) (eqb (statusNumber (r .status)) 0) (λ _. again sound) (λ _. sound)
+  where
+    again : Sound operation r → Sound operation (record { status = r .status; output = r .output; change = addUse slot })
+    again (notServed h e) = notServed h e
+    again (served h kind fits) = served h kind fits
 
 opcodes-fit : (provider : ℕ) → (all (λ n. ltb n (2 ^ 32)) (opcodesOf provider) ≡ true) × (10 * length (opcodesOf provider) ≤ protobuf .lengthMost)
 unfolding opcodesOf
@@ -104,7 +114,7 @@ module _ (slots : List Entry) (list : List ℕ) where
     where
       second : legalName keyNameMost name ≡ true → (o : Option Source) → keyNamed name slots keys ≡ o → Sound (exportPublicKey name) (performExport name slots keys)
       second v none e = rw (v, e, performExport) (refused (exportPublicKey name) _ (lit< tt))
-      second v (some source) e = rw (v, e, performExport) (sound-exporting name (keyOf source) (source-short name slots list short source e))
+      second v (some source) e = rw (v, e, performExport) (sound-counted _ source _ (sound-exporting name (keyOf source) (source-short name slots list short source e)))
 
       go : (t : Bool) → legalName keyNameMost name ≡ t → Sound (exportPublicKey name) (performExport name slots keys)
       go false e = rw (e, performExport) (refused (exportPublicKey name) _ (lit< tt))
@@ -137,7 +147,7 @@ module _ (slots : List Entry) (list : List ℕ) where
       where
         second : legalName keyNameMost name ≡ true → (o : Option Source) → keyNamed name slots keys ≡ o → SoundVerify (performVerify name hash signature slots keys)
         second v none e = rw (v, e, performVerify) (refused _ _ (lit< tt))
-        second v (some source) e = rw (v, e, performVerify) (sound-verifying (keyOf source))
+        second v (some source) e = rw (v, e, performVerify) (sound-counted _ source _ (sound-verifying (keyOf source)))
 
         go : (t : Bool) → legalName keyNameMost name ≡ t → SoundVerify (performVerify name hash signature slots keys)
         go false e = rw (e, performVerify) (refused _ _ (lit< tt))

@@ -33,7 +33,7 @@ use Rattle.judgement.specs.declared.Status.{Status}
 use Rattle.judgement.specs.declared.Status.the-variants.{Success}
 use Rattle.judgement.specs.declared.Output.the-variants.{Opcodes}
 use Rattle.judgement.proofs.SourceLaws.{own-there, none-there}
-use Rattle.judgement.proofs.OutputLaws.{version-length, providers-length, opcodes-short, nothing-field}
+use Rattle.judgement.proofs.OutputLaws.{version-length, providers-length, opcodes-short}
 
 -- the ways to end, on these slots and these keys that we ship
 pub record Ends (slots : List Entry) (keys : List ListedKey) (P : Result → Type 0) : Type 0 where
