@@ -19,11 +19,11 @@ use Rattle.protobuf.specs.Written.{varintWithin, varint, numberField, bytesFiel
 use Rattle.keys.specs.Names.{legalName}
 use Rattle.registry.specs.Names.{indexFrom}
 use Rattle.keys.specs.Key.{legalData, legalBits, importBits}
-use Rattle.registry.specs.Slots.{Entry, free, held, keyBytes, slotBytes, slotOf}
+use Rattle.registry.specs.Slots.{Entry, free, held, keyBytes, slotBytes, slotOf, used, usedSlot}
 use Rattle.registry.specs.Registry.{slotCount, applicationNamed, slotsOf, usesOf, slotNamed, changed, lineOf, registryOf}
 use Rattle.records.specs.Records.{isWhole, recordTurn, readRecords}
-use Rattle.shipped.specs.Shipped.{pairsDone, listOf, wellFormedList, keysIn, listedNamed}
-use Rattle.lookup.specs.Lookup.{keyOf, ownIn, listedIn, keyNamed}
+use Rattle.shipped.specs.Shipped.{pairStep, pairsDone, listOf, wellFormedList, keysIn, listedNamed}
+use Rattle.lookup.specs.Lookup.{shippedKey, keyOf, ownIn, listedIn, keyNamed}
 use Rattle.roster.specs.Roster.{faultNumber, recordFaults, Roster, applications, faulty, recordStep, rosterOf}
 use Rattle.stream.specs.Frame.{legalStart, oversized, next}
 use Rattle.stream.specs.Rules.{Outcome, heldBytes, answer, finish, judge, rulesWithin, rulesFrom, start, rules}
@@ -32,7 +32,7 @@ use Rattle.messages.specs.Opcodes.{opcodesOf}
 use Rattle.messages.specs.Format.{listed, messageBytes, readMessage}
 use Rattle.messages.specs.Protobuf.{packedOf}
 use Rattle.messages.specs.Operations.{readBody, operationOf, outputBytes}
-use Rattle.judgement.specs.Operations.{success, refuse, importable, performImport, destroyOf, performDestroy, exportOf, performExport, performListOpcodes, perform, operated}
+use Rattle.judgement.specs.Operations.{success, refuse, importable, performImport, destroyOf, performDestroy, counted, exportOf, performExport, performListOpcodes, perform, operated}
 use Rattle.judgement.specs.Counts.{Counts, noCounts, increment, indexOf, countRefused, countServed, count}
 use Rattle.judgement.specs.Judgement.{applicationOf, refusals, askersSlots, resultOf, changedBy, verdictOf, refusedEarly, oversizedStatus, judgement}
 use Rattle.billing.specs.Ascii.{ascii}
@@ -47,6 +47,7 @@ pub record Shown : Type 0 where
 pub record Case : Type 0 where
   pub roster : List ℕ
   pub stream : List ℕ
+  pub list : List ℕ  -- of the keys that we ship
   pub shown : Shown
 
 unfoldable pub shownBy : Outcome (List ℕ) Counts (List ℕ) → (bill : List ℕ) → Shown
@@ -57,14 +58,14 @@ startOf (applications names) = registryOf names
 startOf (faulty fault) = []
 
 -- all that a case computes with
-unfoldable pub showing : (roster stream : List ℕ) → Shown
-unfolding rosterOf readRecords recordTurn isWhole recordStep recordFaults firstOf legalName field littleEndian registryOf lineOf flatten rules rulesFrom rulesWithin start answer finish judge next legalStart oversized judgement noCounts requestOf resultOf refusals oneOf opcodesOf isSome applicationOf applicationNamed indexFrom operated operationOf readBody scanAt scanFrom stepAt itemOf fieldAt contentAt numberAt spanAt fixedAt groupAt varintOf withValue perform performImport performDestroy destroyOf performExport exportOf keyNamed ownIn listedIn keyOf keysIn listOf pairsDone listedNamed performListOpcodes success refuse numberField bytesField packedField flatMap varint varintWithin importable importBits legalData legalBits slotNamed keyBytes slotBytes askersSlots verdictOf refusedEarly oversizedStatus responseBytes responseHeader littleEndianOf statusNumber changedBy changed count countServed countRefused increment indexOf slotsOf usesOf slotOf billOf textLine decimal digitsBefore applicationLines keyLine slotLines keyLines refusedLines heldBytes ascii shownBy startOf bill billFor isListRefused wellFormedList refusedRoster faultNumber listed messageBytes readMessage packedOf outputBytes bind
-showing roster stream = shownBy (rules (judgement []) (startOf (rosterOf roster)) stream) (bill (some roster) (some stream) (some []))
+unfoldable pub showing : (roster stream list : List ℕ) → Shown
+unfolding rosterOf readRecords recordTurn isWhole recordStep recordFaults firstOf legalName field littleEndian registryOf lineOf flatten rules rulesFrom rulesWithin start answer finish judge next legalStart oversized judgement noCounts requestOf resultOf refusals oneOf opcodesOf isSome applicationOf applicationNamed indexFrom operated operationOf readBody scanAt scanFrom stepAt itemOf fieldAt contentAt numberAt spanAt fixedAt groupAt varintOf withValue perform performImport performDestroy destroyOf performExport counted exportOf keyNamed ownIn listedIn keyOf shippedKey keysIn listOf pairStep pairsDone listedNamed performListOpcodes success refuse numberField bytesField packedField flatMap varint varintWithin importable importBits legalData legalBits slotNamed keyBytes slotBytes used usedSlot askersSlots verdictOf refusedEarly oversizedStatus responseBytes responseHeader littleEndianOf statusNumber changedBy changed count countServed countRefused increment indexOf slotsOf usesOf slotOf billOf textLine decimal digitsBefore applicationLines keyLine slotLines keyLines refusedLines heldBytes ascii shownBy startOf bill billFor isListRefused wellFormedList refusedRoster faultNumber listed messageBytes readMessage packedOf outputBytes bind
+showing roster stream list = shownBy (rules (judgement list) (startOf (rosterOf roster)) stream) (bill (some roster) (some stream) (some list))
 
 -- ---- a table holds
 
 unfoldable pub Holds : Case → Type 0
-Holds c = showing (c .roster) (c .stream) ≡ c .shown
+Holds c = showing (c .roster) (c .stream) (c .list) ≡ c .shown
 
 abbrev pub AllHold : List Case → Type 0
 AllHold [] = Unit {0}
@@ -78,7 +79,11 @@ holding keys = keys ++ replicate (slotCount - length keys) free
 
 unfoldable pub case-of : (roster stream : List ℕ) (responses : List (List ℕ)) (keys : List Entry) (bill : List ℕ) → Case
 case-of roster stream responses keys bill =
-    record { roster = roster; stream = stream; shown = record { responses = responses; slots = holding keys; bill = bill } }
+    record { roster = roster; stream = stream; list = []; shown = record { responses = responses; slots = holding keys; bill = bill } }
+
+-- the same with a list of keys that we ship
+unfoldable pub with-list : (list : List ℕ) → Case → Case
+with-list list c = record { roster = c .roster; stream = c .stream; list = list; shown = c .shown }
 
 -- a request with session 0; `more` are the bytes past the 22nd of its header
 unfoldable pub longRequest : (more : List ℕ) (major provider opcode authType : ℕ) (body auth : List ℕ) → List ℕ
