@@ -54,7 +54,7 @@ unfolding counted success statusNumber
 use-allowed slots keys name (own slot key) e output = uses name key (own-there name slots keys slot key e) (own-held name slots keys slot key e)
 use-allowed slots keys name (listed key) e output = stays
 
-result-allowed : (list r : List ℕ) (q : Request) → Allowed (askersSlots r (applicationOf r q)) (resultOf list r q .change)
+pub result-allowed : (list r : List ℕ) (q : Request) → Allowed (askersSlots r (applicationOf r q)) (resultOf list r q .change)
 unfolding refuse success
 result-allowed list r q = by-result list r q (λ x. Allowed (askersSlots r (applicationOf r q)) (x .change)) (record {
   refused = λ status. stays;

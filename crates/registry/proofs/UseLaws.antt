@@ -1,26 +1,32 @@
 -- How often the key in a slot was used, where it lies in the registry and after each change (document 02, "Use per key").
 use mathlib.Core.Path.{_≡_, refl, sym, ap, _∙_}
-use mathlib.Core.Bool.{true}
+use mathlib.Core.Bool.{Bool, true, false}
 use mathlib.Core.List.{List, [], map}
 use Prim.Native.Nat.{ℕ, _+_, _-_, _*_, _<_}
 use native.Mathlib.Omega.{arith}
+use borrow.Author.Tests.{eqb-true, eqb-false}
 use lib.ListN.{length, take, drop, getD, set, length-drop, length-replicate}
 use lib.Seq.{getD-set-same, getD-set-other, set-getD}
+use lib.Dec.{eqb}
 use Rattle.wire.specs.Lists.{all, isZero, put, blocks}
 use Rattle.wire.specs.Numbers.{field}
+use Rattle.wire.proofs.TestLaws.{every-at}
 use Rattle.wire.proofs.ListLaws.{map-at, map-set, length-part, all-zeros}
 use Rattle.wire.proofs.PutLaws.{drop-put}
 use Rattle.wire.proofs.NumberLaws.{field-part, zero-field}
 use Rattle.wire.proofs.BlockLaws.{length-blocks, block-at, blocks-put, blocks-put-whole}
 use Rattle.keys.specs.Key.{Key}
-use Rattle.registry.specs.Slots.{free, held, keyBytes, slotBytes, slotOf, slotSize, usesAt, usesIn, used, usedSlot}
+use Rattle.keys.specs.Names.{keyNameMost, legalName}
+use Rattle.keys.proofs.NameLaws.{legal-some}
+use Rattle.registry.specs.Names.{nameIn}
+use Rattle.registry.specs.Slots.{free, held, nameOf, keyBytes, slotBytes, slotOf, slotSize, usesAt, usesIn, used, usedSlot, keyTests, wellFormedSlot}
 use Rattle.registry.specs.Registry.{lineCount, slotCount, lineHead, lineSize, registrySize, linesIn, slotsIn, lineAt, slotsOf, usesOf, place, slotAt, Change, unchanged, fill, clear, addUse, changed}
 use Rattle.registry.specs.WellFormed.{wellFormedRegistry}
 use Rattle.registry.specs.declared.Line.{Line}
 use Rattle.registry.specs.declared.Slot.{Slot}
-use Rattle.registry.proofs.SlotLaws.{Legal, key-length, key-unused, free-slot}
+use Rattle.registry.proofs.SlotLaws.{Legal, name-of, free-slot, key-slot, key-length, key-unused}
 use Rattle.registry.proofs.RegistryLaws.{slot-place, slot-there, slot-below}
-use Rattle.registry.proofs.UsedLaws.{length-used, uses-used, held-named, free-nameless, slot-used}
+use Rattle.registry.proofs.UsedLaws.{length-used, uses-used, held-named, slot-used}
 use Rattle.registry.proofs.WellFormedLaws.{Allowed, stays, fills, clears, uses, good-of, slot-good}
 
 -- the count of slot k of a line, where it lies
@@ -73,6 +79,16 @@ module _ (r : List ℕ) (size : length r ≡ registrySize) (line : Line) (hl : l
 
 -- ---- after a change
 
+nameless-zero : (s : List ℕ) → wellFormedSlot s ≡ true → nameIn s ≡ [] → all isZero s ≡ true
+nameless-zero s good nameless = go (eqb (getD s 0 0) 0) refl
+  where
+    go : (t : Bool) → eqb (getD s 0 0) 0 ≡ t → all isZero s ≡ true
+    go true q = sym (free-slot s (eqb-true _ _ q)) ∙ good
+    go false q =
+        let legal : legalName keyNameMost (nameIn s) ≡ true = every-at (keyTests s) 0 (sym (key-slot s (eqb-false _ _ q)) ∙ good) in
+        let named = legal-some keyNameMost (nameIn s) legal in
+        absurd (omega (arith, ap length nameless))
+
 module _ (r : List ℕ) (w : wellFormedRegistry r ≡ true) (line : Line) (hl : line .0 < lineCount) (slot : Slot) (hk : slot .0 < slotCount) where
   slot-long : length (slotAt r line slot) ≡ slotSize
   slot-long = length-part r (place line slot) slotSize (omega (arith, good-of r w .size))
@@ -109,13 +125,12 @@ module _ (r : List ℕ) (w : wellFormedRegistry r ≡ true) (line : Line) (hl : 
       ∙ ap (set (slotsOf r line) (slot .0)) (same ∙ there)
       ∙ set-getD (slotsOf r line) (slot .0) free
 
-  -- a free slot's count is 0
-  pub free-unused : getD (slotsOf r line) (slot .0) free ≡ free → getD (usesOf r line) (slot .0) 0 ≡ 0
+  -- a slot without a name is free, and its count is 0
+  pub free-unused : nameOf (getD (slotsOf r line) (slot .0) free) ≡ [] → getD (usesOf r line) (slot .0) 0 ≡ 0
   free-unused e =
       let s : List ℕ = slotAt r line slot in
-      let zeros : all isZero s ≡ true
-      = sym (free-slot s (free-nameless s (sym (slot-there r line (slot .0) hk) ∙ e))) ∙ slot-good r w (line .0) (slot .0) hl hk in
-      uses-at r line (slot .0) hk ∙ zero-field usesAt 4 s zeros
+      let nameless : nameIn s ≡ [] = sym (name-of s) ∙ ap nameOf (sym (slot-there r line (slot .0) hk)) ∙ e in
+      uses-at r line (slot .0) hk ∙ zero-field usesAt 4 s (nameless-zero s (slot-good r w (line .0) (slot .0) hl hk) nameless)
 
 -- the other lines stay, keys and counts
 module _ (r : List ℕ) (w : wellFormedRegistry r ≡ true) (line : Line) (hl : line .0 < lineCount) (line′ : Line) (h′ : line′ .0 < lineCount)

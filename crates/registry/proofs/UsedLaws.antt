@@ -4,7 +4,6 @@ use mathlib.Core.Bool.{Bool, true, false, true≢false}
 use mathlib.Core.List.{List, [], _∷_}
 use Prim.Native.Nat.{ℕ, _+_, _-_, _≤_, _<_, min}
 use native.Mathlib.Omega.{arith}
-use borrow.Author.Tests.{eqb-true}
 use lib.ListN.{length, take, drop, getD, length-take, length-drop}
 use lib.Seq.{getD-take}
 use lib.Dec.{eqb, leb}
@@ -103,15 +102,6 @@ held-named slot key e z = true≢false (sym (ap isHeld (sym (ap (λ (n : ℕ). i
     isHeld : Entry → Bool
     isHeld free = false
     isHeld (held key) = true
-
--- and a free one none
-pub free-nameless : (slot : List ℕ) → slotOf slot ≡ free → getD slot 0 0 ≡ 0
-unfolding slotOf
-free-nameless slot e = go (eqb (getD slot 0 0) 0) refl e
-  where
-    go : (t : Bool) → eqb (getD slot 0 0) 0 ≡ t → (let entry : Entry = if t then free else held (keyIn slot) in entry) ≡ free → getD slot 0 0 ≡ 0
-    go true q e = eqb-true _ _ q
-    go false q e = cc
 
 -- of a slot that holds a key
 module _ (slot : List ℕ) (long : length slot ≡ slotSize) (named : getD slot 0 0 ≡ 0 → ⊥) (good : wellFormedSlot slot ≡ true) where
