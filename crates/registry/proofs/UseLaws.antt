@@ -5,7 +5,7 @@ use mathlib.Core.List.{List, [], map}
 use Prim.Native.Nat.{ℕ, _+_, _-_, _*_, _<_}
 use native.Mathlib.Omega.{arith}
 use borrow.Author.Tests.{eqb-true, eqb-false}
-use lib.ListN.{length, take, drop, getD, set, length-drop, length-replicate}
+use lib.ListN.{length, take, drop, getD, set, length-drop, length-map, length-replicate}
 use lib.Seq.{getD-set-same, getD-set-other, set-getD}
 use lib.Dec.{eqb}
 use Rattle.wire.specs.Lists.{all, isZero, put, blocks}
@@ -41,6 +41,11 @@ uses-at registry line k h =
 pub uses-there : (registry : List ℕ) (line : Line) (k : ℕ) → k < slotCount
     → getD (usesOf registry line) k 0 ≡ field (place line (record { 0 = k }) + usesAt) 4 registry
 uses-there registry line k h = uses-at registry line k h ∙ field-part (place line (record { 0 = k })) slotSize usesAt 4 registry (omega arith)
+
+pub length-uses : (registry : List ℕ) (line : Line) → length (usesOf registry line) ≡ slotCount
+unfolding usesOf
+length-uses registry line =
+    length-map (slotsIn (lineAt registry line)) usesIn ∙ length-blocks slotSize slotCount (drop lineHead (lineAt registry line))
 
 -- ---- a slot that is written, and the line that it is in; the other lines stay
 
