@@ -1,0 +1,301 @@
+-- What one request does to the counts of an application: a use adds one to one of them, and any other that destroys no key leaves
+-- them as they are.
+use mathlib.Core.Path.{_≡_, refl, sym, ap, ap₂, _∙_, subst}
+use mathlib.Core.Bool.{Bool, true, false, true≢false, not, _&&_, and-true}
+use mathlib.Core.Option.{Option, none, some, bind}
+use mathlib.Core.List.{List, [], _∷_, map}
+use Prim.Native.Nat.{ℕ, _<_}
+use native.Mathlib.Decide.{ℕ-discrete}
+use native.Mathlib.Omega.{arith}
+use borrow.Author.Tests.{eq-eqb, eqb-true, eqb-false}
+use lib.ListN.{length, getD, set, length-map}
+use lib.Seq.{set-getD}
+use lib.Dec.{ltb, eqb}
+use Rattle.wire.specs.Choice.{if_then_else_, firstOf, isSome}
+use Rattle.wire.specs.Lists.{same}
+use Rattle.wire.specs.Request.{Request, requestOf}
+use Rattle.wire.proofs.TestLaws.{some≢none, not-across, every-at, first-has, AllHave, either}
+use Rattle.wire.proofs.ListLaws.{all-at, map-at, same-refl}
+use Rattle.keys.specs.Key.{Key, importBits}
+use Rattle.keys.specs.Names.{legalName, keyNameMost}
+use Rattle.messages.specs.Protobuf.{protobuf}
+use Rattle.messages.specs.Operations.{Operation, ping, listProviders, listOpcodes, importKey, destroyKey, exportPublicKey, verifySignature, operationOf}
+use Rattle.registry.specs.Names.{isNew}
+use Rattle.registry.specs.Slots.{Entry, free, held, nameOf, used}
+use Rattle.registry.specs.Registry.{lineCount, slotsOf, usesOf, slotNamed, Change, unchanged, fill, addUse, changed}
+use Rattle.registry.specs.WellFormed.{wellFormedRegistry}
+use Rattle.registry.specs.declared.Line.{Line}
+use Rattle.registry.specs.declared.Slot.{Slot}
+use Rattle.registry.specs.declared.Found.{Found}
+use Rattle.registry.specs.declared.Found.the-variants.{At, Nothing}
+use Rattle.registry.proofs.SlotLaws.{Legal}
+use Rattle.registry.proofs.RegistryLaws.{found-below, found-name, found-none, slot-below}
+use Rattle.registry.proofs.WellFormedLaws.{Allowed}
+use Rattle.registry.proofs.UseLaws.{length-uses, filled-uses, added-uses, free-unused, others-uses}
+use Rattle.shipped.specs.Shipped.{ListedKey, keysIn}
+use Rattle.lookup.specs.Lookup.{Source, own, listed, keyOf, ownIn, keyNamed}
+use Rattle.lookup.proofs.LookupLaws.{own-named}
+use Rattle.rsa.specs.Signature.{verification}
+use Rattle.rsa.specs.declared.verify.Outcome.{Outcome}
+use Rattle.rsa.specs.declared.verify.Outcome.the-variants.{ValidSignature, InvalidSignature, InvalidKey}
+use Rattle.stream.specs.Frame.{legalStart, oversized}
+use Rattle.stream.specs.Rules.{Verdict, judge}
+use Rattle.stream.specs.Parts.{verdictOn}
+use Rattle.judgement.specs.Status.{statusNumber}
+use Rattle.judgement.specs.Operations.{Result, success, refuse, importable, performImport, counted, exportOf, performExport, hashSize, checked, verifyWith, performVerify, performListOpcodes, perform, operated}
+use Rattle.judgement.specs.Counts.{Counts, noCounts}
+use Rattle.judgement.specs.Judgement.{applicationOf, refusals, askersSlots, resultOf, changedBy, verdictOf, refusedEarly, judgement}
+use Rattle.judgement.specs.declared.Status.{Status}
+use Rattle.judgement.proofs.SourceLaws.{own-there}
+use Rattle.judgement.proofs.JudgementLaws.{asks, importable-legal, result-allowed, refused-keeps}
+use Rattle.uses.specs.Uses.{asked, keyUsed, keyDestroyed, isFor, isServed, isOwn, isUse, destroysKey, registryAfter}
+
+-- ---- whose key a name stands for
+
+module _ (name : List ℕ) (slots : List Entry) where
+  found-own : (slot : Slot) → slotNamed name slots ≡ At slot → isOwn slots (some name) ≡ true
+  unfolding isOwn
+  found-own slot e = ap not (go (isNew name (map nameOf slots)) refl)
+    where
+      there : same name (getD (map nameOf slots) (slot .0) []) ≡ true
+      there = ap (same name) (map-at nameOf slots (slot .0) free [] (found-below name slots slot e) ∙ found-name name slots slot e) ∙ same-refl name
+
+      go : (t : Bool) → isNew name (map nameOf slots) ≡ t → t ≡ false
+      go false q = refl
+      go true q =
+          let below : slot .0 < length (map nameOf slots) = rw (length-map slots nameOf) (found-below name slots slot e) in
+          absurd (true≢false (sym (all-at (λ y. not (same name y)) [] (map nameOf slots) (slot .0) below q) ∙ ap not there))
+
+  listed-other : (keys : List ListedKey) (key : Key) → keyNamed name slots keys ≡ some (listed key) → isOwn slots (some name) ≡ false
+  unfolding isOwn ownIn
+  listed-other keys key e = go (slotNamed name slots) refl
+    where
+      not-listed : (slot : Slot) (entry : Entry) → ownIn slot entry ≡ some (listed key) → ⊥
+      not-listed slot free w = some≢none (listed key) (sym w)
+      not-listed slot (held k) w = true≢false cc
+
+      go : (f : Found) → slotNamed name slots ≡ f → not (isNew name (map nameOf slots)) ≡ false
+      go (At slot) q = absurd (not-listed slot (getD slots (slot .0) free) (sym (own-named name slots keys slot q) ∙ e))
+      go Nothing q = ap not (found-none name slots q)
+
+-- ---- how an operation ends
+
+data Ended (slots : List Entry) (operation : Option Operation) (x : Result) : Type 0 where
+  refuses : eqb (statusNumber (x .status)) 0 ≡ false → Ended slots operation x
+  destroys : isSome (bind operation keyDestroyed) ≡ true → Ended slots operation x
+  rests : x .change ≡ unchanged → isOwn slots (bind operation keyUsed) ≡ false → Ended slots operation x
+  imports : (slot : Slot) (key : Key) → x .change ≡ fill slot key → Legal key → slotNamed [] slots ≡ At slot
+      → isOwn slots (bind operation keyUsed) ≡ false → Ended slots operation x
+  uses : (slot : Slot) (name : List ℕ) → x .change ≡ addUse slot → slotNamed name slots ≡ At slot
+      → isOwn slots (bind operation keyUsed) ≡ true → Ended slots operation x
+
+Still : Result → Type 0
+Still x = x .change ≡ unchanged
+
+export-still : (key : Key) → Still (exportOf key)
+unfolding exportOf success refuse Still
+export-still key = either Still (key .exportAllowed) (λ _. refl) (λ _. refl)
+
+verify-still : (hash signature : List ℕ) (key : Key) → Still (verifyWith hash signature key)
+unfolding verifyWith checked success refuse Still
+verify-still hash signature key =
+    either Still (not (key .verifyAllowed)) (λ _. refl)
+    (λ _. either Still (not (eqb (length hash) hashSize)) (λ _. refl)
+    (λ _. either Still (not (importBits (key .bits))) (λ _. refl)
+    (λ _. by-outcome (verification (key .bytes) (key .bits) hash signature .outcome))))
+  where
+    by-outcome : (outcome : Outcome) → Still (checked outcome)
+    by-outcome ValidSignature = refl
+    by-outcome InvalidKey = refl
+    by-outcome InvalidSignature = refl
+
+module _ (slots : List Entry) (keys : List ListedKey) where
+  by-source : (operation : Operation) (name : List ℕ) → keyUsed operation ≡ some name → (source : Source) → keyNamed name slots keys ≡ some source
+      → (x : Result) → Still x → Ended slots (some operation) (counted source x)
+  unfolding counted bind Still
+  by-source operation name k (own slot key) e x still =
+      let there = own-there name slots keys slot key e in
+      either (Ended slots (some operation)) (eqb (statusNumber (x .status)) 0)
+      (λ s. uses slot name refl there (ap (isOwn slots) k ∙ found-own name slots slot there))
+      (λ s. refuses s)
+  by-source operation name k (listed key) e x still = rests still (ap (isOwn slots) k ∙ listed-other name slots keys key e)
+
+  by-import : (key : Key) → Ended slots (some (importKey key)) (performImport key slots keys)
+  unfolding performImport statusNumber success refuse bind keyUsed isOwn
+  by-import key = go (importable key) refl
+    where
+      third : importable key ≡ true → keyNamed (key .name) slots keys ≡ none → (f : Found) → slotNamed [] slots ≡ f
+          → Ended slots (some (importKey key)) (performImport key slots keys)
+      third v n Nothing e = rw (v, n, e, performImport) (refuses refl)
+      third v n (At slot) e = rw (v, n, e, performImport) (imports slot key refl (importable-legal key v) e refl)
+
+      second : importable key ≡ true → (o : Option Source) → keyNamed (key .name) slots keys ≡ o
+          → Ended slots (some (importKey key)) (performImport key slots keys)
+      second v (some source) e = rw (v, e, performImport) (refuses refl)
+      second v none e = third v e (slotNamed [] slots) refl
+
+      go : (t : Bool) → importable key ≡ t → Ended slots (some (importKey key)) (performImport key slots keys)
+      go false e = rw (e, performImport) (refuses refl)
+      go true e = second e (keyNamed (key .name) slots keys) refl
+
+  by-export : (name : List ℕ) → Ended slots (some (exportPublicKey name)) (performExport name slots keys)
+  unfolding performExport statusNumber refuse keyUsed
+  by-export name = go (legalName keyNameMost name) refl
+    where
+      second : legalName keyNameMost name ≡ true → (o : Option Source) → keyNamed name slots keys ≡ o
+          → Ended slots (some (exportPublicKey name)) (performExport name slots keys)
+      second v none e = rw (v, e, performExport) (refuses refl)
+      second v (some source) e = rw (v, e, performExport) (by-source (exportPublicKey name) name refl source e _ (export-still (keyOf source)))
+
+      go : (t : Bool) → legalName keyNameMost name ≡ t → Ended slots (some (exportPublicKey name)) (performExport name slots keys)
+      go false e = rw (e, performExport) (refuses refl)
+      go true e = second e (keyNamed name slots keys) refl
+
+  by-verify : (name hash signature : List ℕ) → Ended slots (some (verifySignature name hash signature)) (performVerify name hash signature slots keys)
+  unfolding performVerify statusNumber refuse keyUsed
+  by-verify name hash signature = go (legalName keyNameMost name) refl
+    where
+      second : legalName keyNameMost name ≡ true → (o : Option Source) → keyNamed name slots keys ≡ o
+          → Ended slots (some (verifySignature name hash signature)) (performVerify name hash signature slots keys)
+      second v none e = rw (v, e, performVerify) (refuses refl)
+      second v (some source) e =
+          rw (v, e, performVerify) (by-source (verifySignature name hash signature) name refl source e _ (verify-still hash signature (keyOf source)))
+
+      go : (t : Bool) → legalName keyNameMost name ≡ t → Ended slots (some (verifySignature name hash signature)) (performVerify name hash signature slots keys)
+      go false e = rw (e, performVerify) (refuses refl)
+      go true e = second e (keyNamed name slots keys) refl
+
+  by-operation : (operation : Operation) → Ended slots (some operation) (perform operation slots keys)
+  unfolding perform performListOpcodes statusNumber success refuse bind keyUsed keyDestroyed isOwn isSome
+  by-operation ping = rests refl refl
+  by-operation listProviders = rests refl refl
+  by-operation (listOpcodes provider) = either (Ended slots (some (listOpcodes provider))) (ltb 1 provider) (λ _. refuses refl) (λ _. rests refl refl)
+  by-operation (importKey key) = by-import key
+  by-operation (destroyKey name) = destroys refl
+  by-operation (exportPublicKey name) = by-export name
+  by-operation (verifySignature name hash signature) = by-verify name hash signature
+
+  by-body : (opcode : ℕ) (body : List ℕ) → Ended slots (operationOf protobuf opcode body) (operated opcode body slots keys)
+  unfolding operated statusNumber refuse
+  by-body opcode body = go (operationOf protobuf opcode body) refl
+    where
+      go : (o : Option Operation) → operationOf protobuf opcode body ≡ o → Ended slots (operationOf protobuf opcode body) (operated opcode body slots keys)
+      go none e = rw (e, operated) (refuses refl)
+      go (some operation) e = rw (e, operated) (by-operation operation)
+
+Refusing : Status → Type 0
+Refusing status = eqb (statusNumber status) 0 ≡ false
+
+ended : (list r request : List ℕ) → Ended (askersSlots r (applicationOf r (requestOf request))) (asked request) (resultOf list r (requestOf request))
+unfolding resultOf asked refusals statusNumber refuse Refusing
+ended list r request = go (firstOf (refusals r q)) refl
+  where
+    q : Request
+    q = requestOf request
+
+    refusing : AllHave Refusing (refusals r q)
+    refusing = (refl, (refl, (refl, (refl, (refl, (refl, (refl, (refl, (refl, (refl, tt))))))))))
+
+    go : (o : Option Status) → firstOf (refusals r q) ≡ o → Ended (askersSlots r (applicationOf r q)) (asked request) (resultOf list r q)
+    go (some status) e = rw (e, resultOf) (refuses (first-has Refusing (refusals r q) refusing status e))
+    go none e = rw (e, resultOf) (by-body (askersSlots r (applicationOf r q)) (keysIn list) (q .opcode) (q .body))
+
+-- ---- what it does to the counts
+
+-- of counts, what they become, and whether that is a use
+pub data Step (before after : List ℕ) (use′ : Bool) : Type 0 where
+  stays : after ≡ before → use′ ≡ false → Step before after use′
+  adds : (k : ℕ) → k < length before → after ≡ set before k (used (getD before k 0)) → use′ ≡ true → Step before after use′
+
+module _ (list r : List ℕ) (w : wellFormedRegistry r ≡ true) (line : Line) (hl : line .0 < lineCount) (request : List ℕ) where
+  abbrev q : Request
+  q = requestOf request
+
+  abbrev x : Result
+  x = resultOf list r q
+
+  abbrev after : List ℕ
+  after = registryAfter list r request
+
+  -- a whole one, by the application of the line: it is served if its status is 0
+  by-status : legalStart request ≡ true → oversized request ≡ false → (l : Line) → applicationOf r q ≡ some l → l .0 ≡ line .0
+      → isServed list line r request ≡ eqb (statusNumber (x .status)) 0
+  unfolding isServed isFor
+  by-status a b l c e = rw (a, b, c, eq-eqb (l .0) (line .0) e) (and-true _)
+
+  unserved-stays : isServed list line r request ≡ false → usesOf after line ≡ usesOf r line
+  unfolding registryAfter verdictOn judge judgement refusedEarly verdictOf changedBy askersSlots
+  unserved-stays e =
+      either Same (legalStart request)
+      (λ a. either Same (oversized request) (λ _. refl) (λ b. whole a b (applicationOf r q) refl (result-allowed list r q)))
+      (λ _. refl)
+    where
+      Same : Verdict (List ℕ) Counts (List ℕ) → Type 0
+      Same v = usesOf (v .registry) line ≡ usesOf r line
+
+      whole : legalStart request ≡ true → oversized request ≡ false → (o : Option Line) → applicationOf r q ≡ o
+          → Allowed (askersSlots r o) (x .change) → usesOf (changedBy r o x) line ≡ usesOf r line
+      whole a b none c ok = refl
+      whole a b (some l) c ok = elim (ℕ-discrete (l .0) (line .0)) [
+        | yes same ↦
+            let refused : eqb (statusNumber (x .status)) 0 ≡ false = sym (by-status a b l c same) ∙ e in
+            ap (λ (s : List ℕ). usesOf s line)
+            (ap (λ (o : Option Line). changedBy r o x) (sym c) ∙ refused-keeps list r noCounts request (eqb-false _ _ refused))
+        | no other ↦ others-uses r w l (asks r q l c .there) line hl other (x .change) ok
+      ]
+
+  module _ (served : isServed list line r request ≡ true) where
+    tests : List Bool
+    tests = legalStart request ∷ not (oversized request) ∷ isFor line (applicationOf r q) ∷ eqb (statusNumber (x .status)) 0 ∷ []
+
+    test : (k : ℕ) → getD tests k true ≡ true
+    unfolding tests isServed
+    test k = every-at tests k served
+
+    application : applicationOf r q ≡ some line
+    unfolding isFor tests
+    application = go (applicationOf r q) (test 2)
+      where
+        go : (o : Option Line) → isFor line o ≡ true → o ≡ some line
+        go none e = absurd (true≢false (sym e))
+        go (some l) e = ap some (λ i. record { 0 = eqb-true (l .0) (line .0) e i })
+
+    served-after : after ≡ changed r line (x .change)
+    unfolding registryAfter verdictOn judge judgement verdictOf changedBy tests
+    served-after =
+        let legal : legalStart request ≡ true = test 0 in
+        let small : oversized request ≡ false = not-across (oversized request) true (test 1) in
+        rw (registryAfter, verdictOn, legal, judge, small, changedBy, application)
+
+    served-step : destroysKey list line r request ≡ false → Step (usesOf r line) (usesOf after line) (isUse list line r request)
+    unfolding isUse destroysKey askersSlots tests changed
+    served-step kept = go (subst (λ (o : Option Line). Ended (askersSlots r o) (asked request) x) application (ended list r request))
+      where
+        use-own : (t : Bool) → isOwn (slotsOf r line) (bind (asked request) keyUsed) ≡ t → isUse list line r request ≡ t
+        use-own t e = ap₂ _&&_ served e
+
+        made : (c : Change) → x .change ≡ c → usesOf after line ≡ usesOf (changed r line c) line
+        made c e = ap (λ (s : List ℕ). usesOf s line) (served-after ∙ ap (changed r line) e)
+
+        go : Ended (slotsOf r line) (asked request) x → Step (usesOf r line) (usesOf after line) (isUse list line r request)
+        go (refuses e) = absurd (true≢false (sym (test 3) ∙ e))
+        go (destroys e) = absurd (true≢false (sym (ap₂ _&&_ served e) ∙ kept))
+        go (rests e u) = stays (made unchanged e) (use-own false u)
+        go (imports slot key e legal s u) =
+            let hk = slot-below r line [] slot s in
+            let none-yet = free-unused r w line hl slot hk (found-name [] (slotsOf r line) slot s) in
+            stays
+            (made (fill slot key) e ∙ filled-uses r w line hl slot hk key legal
+            ∙ ap (set (usesOf r line) (slot .0)) (sym none-yet) ∙ set-getD (usesOf r line) (slot .0) 0)
+            (use-own false u)
+        go (uses slot name e s u) =
+            let hk = slot-below r line name slot s in
+            adds (slot .0) (omega (arith, length-uses r line)) (made (addUse slot) e ∙ added-uses r w line hl slot hk) (use-own true u)
+
+  pub request-step : destroysKey list line r request ≡ false → Step (usesOf r line) (usesOf after line) (isUse list line r request)
+  unfolding isUse
+  request-step kept = go (isServed list line r request) refl
+    where
+      go : (t : Bool) → isServed list line r request ≡ t → Step (usesOf r line) (usesOf after line) (isUse list line r request)
+      go true e = served-step e kept
+      go false e = stays (unserved-stays e) (ap (λ (t : Bool). t && isOwn (slotsOf r line) (bind (asked request) keyUsed)) e)
