@@ -298,4 +298,4 @@ module _ (list r : List ℕ) (w : wellFormedRegistry r ≡ true) (line : Line) (
     where
       go : (t : Bool) → isServed list line r request ≡ t → Step (usesOf r line) (usesOf after line) (isUse list line r request)
       go true e = served-step e kept
-      go false e = stays (unserved-stays e) (ap (λ (t : Bool). t && isOwn (slotsOf r line) (bind (asked request) keyUsed)) e)
+      go false e = stays (unserved-stays e) (rw e)
