@@ -1,7 +1,8 @@
--- Document 01's cases marked ★: one table, one claim, computed from the rules on whole streams.
+-- Document 01's cases marked ★, those of a fifth key moved to a ninth (document 02, "Eight keys each"): one table, one claim, computed
+-- from the rules on whole streams.
 use mathlib.Core.Path.{refl}
 use Prim.Native.Nat.{ℕ, _+_}
-use mathlib.Core.List.{List, [], _∷_, _++_}
+use mathlib.Core.List.{List, [], _∷_, _++_, flatMap}
 use lib.ListN.{replicate}
 use Rattle.billing.specs.Ascii.{ascii}
 use Rattle.billing.proofs.Cases.{Case, showing, Holds, AllHold, case-of, longRequest, request, response, key, keyBody, nameBody, imported, holding}
@@ -67,29 +68,33 @@ case-opcode : Case
 case-opcode = case-of [] (request 1 0 0 0 [] []) (response 0 0 9 0 [] ∷ []) []
     (ascii "taken 28\nopen 0\nrefused 9 1\ndropped 0\nheld 0\n")
 
+-- as many keys as an application may hold
+eight : List ℕ
+eight = 0x61 ∷ 0x62 ∷ 0x63 ∷ 0x64 ∷ 0x65 ∷ 0x66 ∷ 0x67 ∷ 0x68 ∷ []
+
 -- 1142 is 0x0476
-case-fifth : Case
-case-fifth = case-of roster-b
-    (imports 0x61 ++ (imports 0x62 ++ (imports 0x63 ++ (imports 0x64 ++ (imports 0x65 ++ (destroys 0x62 ++ imports 0x65))))))
-    (imported ∷ imported ∷ imported ∷ imported ∷ response 1 6 0x76 0x04 [] ∷ response 1 3 0 0 [] ∷ imported ∷ [])
-    (key 0x61 ∷ key 0x65 ∷ key 0x63 ∷ key 0x64 ∷ [])
-    (ascii "taken 278\nline 0 b 6\nkey 0 0 0\nkey 0 1 0\nkey 0 2 0\nkey 0 3 0\nopen 0\nrefused 1142 1\ndropped 0\nheld 0\n")
+case-ninth : Case
+case-ninth = case-of roster-b
+    (flatMap imports eight ++ (imports 0x69 ++ (destroys 0x62 ++ imports 0x69)))
+    (replicate 8 imported ++ (response 1 6 0x76 0x04 [] ∷ response 1 3 0 0 [] ∷ imported ∷ []))
+    (key 0x61 ∷ key 0x69 ∷ key 0x63 ∷ key 0x64 ∷ key 0x65 ∷ key 0x66 ∷ key 0x67 ∷ key 0x68 ∷ [])
+    (ascii "taken 442\nline 0 b 10\nkey 0 0 0\nkey 0 1 0\nkey 0 2 0\nkey 0 3 0\nkey 0 4 0\nkey 0 5 0\nkey 0 6 0\nkey 0 7 0\nopen 0\nrefused 1142 1\ndropped 0\nheld 0\n")
 
 -- 1139 is 0x0473
 case-held : Case
 case-held = case-of roster-b
-    (imports 0x61 ++ (imports 0x62 ++ (imports 0x63 ++ (imports 0x64 ++ imports 0x63))))
-    (imported ∷ imported ∷ imported ∷ imported ∷ response 1 6 0x73 0x04 [] ∷ [])
-    (key 0x61 ∷ key 0x62 ∷ key 0x63 ∷ key 0x64 ∷ [])
-    (ascii "taken 205\nline 0 b 4\nkey 0 0 0\nkey 0 1 0\nkey 0 2 0\nkey 0 3 0\nopen 0\nrefused 1139 1\ndropped 0\nheld 0\n")
+    (flatMap imports eight ++ imports 0x63)
+    (replicate 8 imported ++ (response 1 6 0x73 0x04 [] ∷ []))
+    (key 0x61 ∷ key 0x62 ∷ key 0x63 ∷ key 0x64 ∷ key 0x65 ∷ key 0x66 ∷ key 0x67 ∷ key 0x68 ∷ [])
+    (ascii "taken 369\nline 0 b 8\nkey 0 0 0\nkey 0 1 0\nkey 0 2 0\nkey 0 3 0\nkey 0 4 0\nkey 0 5 0\nkey 0 6 0\nkey 0 7 0\nopen 0\nrefused 1139 1\ndropped 0\nheld 0\n")
 
 pub table : List Case
 table =
     case-ping ∷ case-providers ∷ case-opcodes-0 ∷ case-opcodes-1 ∷ case-import ∷ case-bill ∷ case-oversized
-    ∷ case-version ∷ case-opcode ∷ case-fifth ∷ case-held ∷ []
+    ∷ case-version ∷ case-opcode ∷ case-ninth ∷ case-held ∷ []
 
 -- ---- the claim
 
 pub stars : AllHold table
-unfolding table Holds showing case-of longRequest request response ping pong oversizedRequest roster-b imports destroys key keyBody nameBody imported holding case-ping case-providers case-opcodes-0 case-opcodes-1 case-import case-bill case-oversized case-version case-opcode case-fifth case-held
+unfolding table Holds showing flatMap case-of longRequest request response ping pong oversizedRequest roster-b imports destroys key keyBody nameBody imported holding case-ping case-providers case-opcodes-0 case-opcodes-1 case-import case-bill case-oversized case-version case-opcode eight case-ninth case-held
 stars = (refl, (refl, (refl, (refl, (refl, (refl, (refl, (refl, (refl, (refl, (refl, tt)))))))))))

@@ -24,7 +24,7 @@ abbrev pub lineCount : ℕ
 lineCount = 8
 
 abbrev pub slotCount : ℕ
-slotCount = 4
+slotCount = 8
 
 -- a line: the name's length, the name and zeros, then the slots
 abbrev pub lineHead : ℕ

@@ -28,7 +28,7 @@ pub const SLOT_SIZE: usize = USES_AT + 4;
 // A count of uses stays here.
 pub const USES_MOST: u32 = 4294967295;
 
-pub const SLOTS: usize = 4;
+pub const SLOTS: usize = 8;
 
 // A line: the name's length and the name, then the slots.
 pub const LINE_HEAD: usize = 1 + APPLICATION_NAME_MOST;

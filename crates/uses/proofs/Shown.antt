@@ -1,10 +1,10 @@
 -- A stream, computed: application "a" imports the keys "k" and "m", exports "k" twice and "m" once, and the key "s" that we ship;
 -- a verify with "k", which isn't allowed, is refused, and so is an export of "k" by application "b". Three uses count.
 use mathlib.Core.Path.{_≡_, refl}
-use Prim.Native.Nat.{ℕ}
+use Prim.Native.Nat.{ℕ, _-_}
 use mathlib.Core.Option.{bind}
 use mathlib.Core.List.{List, [], _∷_, _++_, flatMap, flatten}
-use lib.ListN.{length}
+use lib.ListN.{length, replicate}
 use Rattle.wire.specs.Choice.{firstOf, isSome}
 use Rattle.wire.specs.Lists.{oneOf}
 use Rattle.wire.specs.Numbers.{littleEndian, littleEndianOf, field}
@@ -24,7 +24,7 @@ use Rattle.messages.specs.Protobuf.{packedOf}
 use Rattle.messages.specs.Operations.{readBody, operationOf, outputBytes}
 use Rattle.registry.specs.Names.{indexFrom}
 use Rattle.registry.specs.Slots.{keyBytes, slotBytes, slotOf, used, usedSlot}
-use Rattle.registry.specs.Registry.{applicationNamed, slotsOf, usesOf, slotNamed, changed, lineOf, registryOf}
+use Rattle.registry.specs.Registry.{slotCount, applicationNamed, slotsOf, usesOf, slotNamed, changed, lineOf, registryOf}
 use Rattle.registry.specs.declared.Line.{Line}
 use Rattle.records.specs.Records.{isWhole, recordTurn, readRecords}
 use Rattle.shipped.specs.Shipped.{pairStep, pairsDone, listOf, keysIn, listedNamed}
@@ -81,6 +81,6 @@ showing =
       destroyed = countIf (destroysKey shipped line) shipped registry answered;
     }
 
-shown : showing ≡ record { counts = 2 ∷ 1 ∷ 0 ∷ 0 ∷ []; uses = 3; destroyed = 0 }
+shown : showing ≡ record { counts = 2 ∷ 1 ∷ replicate (slotCount - 2) 0; uses = 3; destroyed = 0 }
 unfolding showing requests imports exports verifies request shipped
 shown = refl
