@@ -1,10 +1,10 @@
 //! Little-endian numbers in byte slices, and the test for unused bytes.
 //! Document 01, "Bytes on the wire" and "Roster, registry, connection, tally".
 
-/// As many zeros as the longest stretch that is ever tested, the connection's.
-static ZEROS: [u8; crate::CONNECTION_SIZE] = [0; crate::CONNECTION_SIZE];
+/// No stretch that is tested is longer than the registry, nor is the connection.
+static ZEROS: [u8; crate::REGISTRY_SIZE] = [0; crate::REGISTRY_SIZE];
 
-/// Compares with zeros as a whole, since every call tests some 20,000 unused bytes.
+/// Compares with zeros as a whole, since every call tests some 40,000 unused bytes.
 pub fn is_zero(bytes: &[u8]) -> bool {
     bytes == &ZEROS[..bytes.len()]
 }

@@ -9,7 +9,7 @@ pub const LINES: usize = 8;
 pub const LONGEST_APPLICATION_NAME: usize = 64;
 pub const LONGEST_DATA: usize = 600;
 
-const SLOTS: usize = 4;
+const SLOTS: usize = 8;
 const LONGEST_KEY_NAME: usize = 32;
 
 // A line: its name field, then its slots. A name field is a length byte, the name, then zeros.

@@ -124,12 +124,12 @@ fn key_lines_stand_behind_all_roster_lines_by_line_and_then_slot() {
 }
 
 #[test]
-fn the_highest_counts_of_all_keys_are_billed() {
+fn the_highest_counts_of_all_64_keys_are_billed() {
     let names: [&[u8]; 8] = [b"0", b"1", b"2", b"3", b"4", b"5", b"6", b"7"];
     let mut service = Service::with_roster(&names);
     let mut expected = String::new();
     for (line, name) in names.iter().enumerate() {
-        for slot in 0..4 {
+        for slot in 0..SLOTS {
             let request = import(&key(&[b'a' + slot as u8])).sent_by(name);
             service.expect_status(&request, Status::Success);
             service.set_uses(line, slot, u32::MAX);
@@ -139,7 +139,7 @@ fn the_highest_counts_of_all_keys_are_billed() {
     let text = bill_text(&service.counters, &service.registry, &service.connection);
     let text = String::from_utf8(text).unwrap();
     assert!(
-        text.contains(&format!("\nline 7 7 4\n{expected}open 0\n")),
+        text.contains(&format!("\nline 7 7 {SLOTS}\n{expected}open 0\n")),
         "{text}"
     );
 }

@@ -268,19 +268,21 @@ fn bits_that_16_bits_would_cut_to_2048_are_invalid_argument() {
 }
 
 #[test]
-fn a_fifth_key_is_insufficient_storage_until_one_is_destroyed() {
-    let mut service = Service::with_keys(&[b"a", b"b", b"c", b"d"]);
-    let fifth = import(&key(b"e"));
-    service.expect_status(&fifth, Status::PsaErrorInsufficientStorage);
+fn a_ninth_key_is_insufficient_storage_until_one_is_destroyed() {
+    let mut service = Service::with_keys(&EIGHT);
+    let ninth = import(&key(b"i"));
+    service.expect_status(&ninth, Status::PsaErrorInsufficientStorage);
     service.expect_status(&destroy(b"c"), Status::Success);
-    service.expect_status(&fifth, Status::Success);
-    assert_eq!(service.slot(0, 2), key(b"e").slot());
+    service.expect_status(&ninth, Status::Success);
+    assert_eq!(service.slot(0, 2), key(b"i").slot());
 }
 
 #[test]
-fn a_fifth_import_under_a_held_name_is_already_exists() {
-    let mut service = Service::with_keys(&[b"a", b"b", b"c", b"d"]);
-    service.expect_status(&import(&key(b"d")), Status::PsaErrorAlreadyExists);
+fn a_ninth_import_under_a_held_name_is_already_exists() {
+    for name in EIGHT {
+        let mut service = Service::with_keys(&EIGHT);
+        service.expect_status(&import(&key(name)), Status::PsaErrorAlreadyExists);
+    }
 }
 
 #[test]

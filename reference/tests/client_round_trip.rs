@@ -150,14 +150,14 @@ fn a_key_without_leave_for_export_is_not_permitted() {
 }
 
 #[test]
-fn a_fifth_key_is_insufficient_storage() {
+fn a_ninth_key_is_insufficient_storage() {
     let mut service = Service::new();
-    for name in [b"a", b"b", b"c", b"d"] {
+    for name in EIGHT {
         let import = import_key(name, &[1], true);
         assert_eq!(ask(&mut service, Some(FIRST), &import), DONE);
     }
     assert_eq!(
-        ask(&mut service, Some(FIRST), &import_key(b"e", &[1], true)),
+        ask(&mut service, Some(FIRST), &import_key(b"i", &[1], true)),
         refused(Status::PsaErrorInsufficientStorage)
     );
 }
@@ -294,7 +294,7 @@ impl Model {
                 if find(name).is_some() {
                     return refused(Status::PsaErrorAlreadyExists);
                 }
-                if keys.len() == 4 {
+                if keys.len() == SLOTS {
                     return refused(Status::PsaErrorInsufficientStorage);
                 }
                 keys.push((name.to_vec(), data.to_vec(), export_allowed));
@@ -329,7 +329,7 @@ fn generated_keystore_requests_are_answered_as_the_rules_say() {
     let mut service = Service::new();
     let mut models = [Model::default(), Model::default()];
     for _ in 0..4_000 {
-        let name = [random.pick(b"abcdef")];
+        let name = [random.pick(b"abcdefghij")];
         let length = 1 + random.below(600);
         let data = random.bytes(length);
         let operation = match random.below(5) {

@@ -3,7 +3,7 @@
 
 mod common;
 
-use common::generate::{list, names, requests, Random};
+use common::generate::{filling, list, names, requests, Random};
 use common::listed::{self, Asked, MOST_USES};
 use common::*;
 use reference::rules::{self, ConnectionState, Outcome};
@@ -31,7 +31,10 @@ impl Case {
     fn generate(seed: u64, most_requests: usize) -> Case {
         let random = &mut Random::new(seed);
         let names = names(random);
-        let earlier = requests(random, &names, 16);
+        let mut earlier = requests(random, &names, 16);
+        if random.once_in(4) {
+            earlier.splice(..0, filling(random, &names));
+        }
         let counts = [0, 1, 255, 65_535, MOST_USES - 1, MOST_USES - 1, MOST_USES];
         let uses = (0..3).map(|_| random.pick(&counts)).collect();
         let list = list(random);
@@ -95,7 +98,7 @@ impl Case {
 
 /// Every slot, ascending by line, then slot.
 fn places() -> impl Iterator<Item = (usize, usize)> {
-    (0..8).flat_map(|line| (0..4).map(move |slot| (line, slot)))
+    (0..LINES).flat_map(|line| (0..SLOTS).map(move |slot| (line, slot)))
 }
 
 fn same<T: PartialEq + Debug>(what: &str, call: T, rules: T) -> Result<(), String> {
@@ -312,14 +315,14 @@ fn name_at(registry: &[u8], at: usize) -> &[u8] {
 }
 
 fn line_of(registry: &[u8], application: &[u8]) -> Option<usize> {
-    (0..8).find(|&line| name_at(registry, line_at(line)) == application)
+    (0..LINES).find(|&line| name_at(registry, line_at(line)) == application)
 }
 
 /// The names in the slots of an application; none where there is no such application.
 fn own_names(registry: &[u8], application: &[u8]) -> Vec<Vec<u8>> {
     line_of(registry, application).map_or(Vec::new(), |line| {
         let name = |slot| name_at(registry, slot_at(line, slot)).to_vec();
-        (0..4).map(name).collect()
+        (0..SLOTS).map(name).collect()
     })
 }
 

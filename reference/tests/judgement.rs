@@ -264,8 +264,8 @@ fn a_name_not_held_does_not_exist() {
 
 #[test]
 fn a_full_line_is_insufficient_storage() {
-    let mut service = Service::with_keys(&[b"a", b"b", b"c", b"d"]);
-    service.expect_status(&import(&key(b"e")), Status::PsaErrorInsufficientStorage);
+    let mut service = Service::with_keys(&EIGHT);
+    service.expect_status(&import(&key(b"i")), Status::PsaErrorInsufficientStorage);
 }
 
 // Where two adjacent tests apply, the earlier one gives the status.
@@ -421,17 +421,17 @@ fn invalid_argument_comes_before_already_exists() {
 
 #[test]
 fn invalid_argument_comes_before_insufficient_storage() {
-    let mut service = Service::with_keys(&[b"a", b"b", b"c", b"d"]);
+    let mut service = Service::with_keys(&EIGHT);
     let no_data = Key {
         data: Vec::new(),
-        ..key(b"e")
+        ..key(b"i")
     };
     service.expect_status(&import(&no_data), Status::PsaErrorInvalidArgument);
 }
 
 #[test]
 fn already_exists_comes_before_insufficient_storage() {
-    let mut service = Service::with_keys(&[b"a", b"b", b"c", b"d"]);
+    let mut service = Service::with_keys(&EIGHT);
     service.expect_status(&import(&key(b"a")), Status::PsaErrorAlreadyExists);
 }
 

@@ -204,14 +204,14 @@ fn an_own_name_that_is_listed_too_is_not_imported() {
 
 #[test]
 fn imports_bounds_come_before_a_listed_name_and_that_before_a_full_line() {
-    let mut service = Service::with_keys(&[b"a", b"b", b"c", b"d"]).with_list(&list_with(LISTED));
+    let mut service = Service::with_keys(&EIGHT).with_list(&list_with(LISTED));
     let bad = Key {
         bits: 1_016,
         ..key(b"k")
     };
     service.expect_status(&import(&bad), Status::PsaErrorInvalidArgument);
     service.expect_status(&import(&key(b"k")), Status::PsaErrorAlreadyExists);
-    service.expect_status(&import(&key(b"e")), Status::PsaErrorInsufficientStorage);
+    service.expect_status(&import(&key(b"i")), Status::PsaErrorInsufficientStorage);
 }
 
 #[test]

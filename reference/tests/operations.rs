@@ -48,13 +48,32 @@ fn import_fills_the_slot_and_leaves_the_rest_alone() {
 
 #[test]
 fn import_fills_the_lowest_numbered_free_slot() {
-    let mut service = Service::with_keys(&[b"a", b"b", b"c", b"d"]);
-    service.expect_status(&destroy(b"d"), Status::Success);
+    let mut service = Service::with_keys(&EIGHT);
+    service.expect_status(&destroy(b"h"), Status::Success);
     service.expect_status(&destroy(b"b"), Status::Success);
-    service.expect_status(&import(&key(b"e")), Status::Success);
-    assert_eq!(service.slot(0, 1), key(b"e").slot());
-    service.expect_status(&import(&key(b"f")), Status::Success);
-    assert_eq!(service.slot(0, 3), key(b"f").slot());
+    service.expect_status(&import(&key(b"i")), Status::Success);
+    assert_eq!(service.slot(0, 1), key(b"i").slot());
+    service.expect_status(&import(&key(b"j")), Status::Success);
+    assert_eq!(service.slot(0, 7), key(b"j").slot());
+}
+
+#[test]
+fn every_slot_of_a_line_is_filled_exported_destroyed_and_filled_again() {
+    let mut service = Service::with_keys(&EIGHT);
+    for (slot, name) in EIGHT.into_iter().enumerate() {
+        assert_eq!(service.slot(0, slot), key(name).slot());
+        assert_eq!(service.ask(&export(name)).body, [0x0A, 2, 0xAA, 0xBB]);
+        assert_eq!(service.uses(0, slot), 1);
+    }
+    for name in EIGHT.into_iter().rev() {
+        service.expect_status(&destroy(name), Status::Success);
+        service.expect_status(&export(name), Status::PsaErrorDoesNotExist);
+    }
+    assert_eq!(service.registry, Service::new().registry, "no key is left");
+    for (slot, name) in EIGHT.into_iter().rev().enumerate() {
+        service.expect_status(&import(&key(name)), Status::Success);
+        assert_eq!(service.slot(0, slot), key(name).slot());
+    }
 }
 
 /// A scan that stops at the first free slot would import `b` a second time.
@@ -121,17 +140,17 @@ fn a_key_without_leave_for_export_can_be_destroyed() {
 }
 
 #[test]
-fn eight_applications_hold_four_keys_each() {
+fn eight_applications_hold_eight_keys_each() {
     let names: [&[u8]; 8] = [b"0", b"1", b"2", b"3", b"4", b"5", b"6", b"7"];
     let mut service = Service::with_roster(&names);
     for name in names {
-        for key_name in [b"a", b"b", b"c", b"d"] {
+        for key_name in EIGHT {
             let request = import(&key(key_name)).sent_by(name);
             service.expect_status(&request, Status::Success);
         }
-        let fifth = import(&key(b"e")).sent_by(name);
-        service.expect_status(&fifth, Status::PsaErrorInsufficientStorage);
+        let ninth = import(&key(b"i")).sent_by(name);
+        service.expect_status(&ninth, Status::PsaErrorInsufficientStorage);
     }
     assert!(registry_is_well_formed(&service.registry));
-    assert_eq!(service.counters.served, [4; 8]);
+    assert_eq!(service.counters.served, [SLOTS as u64; LINES]);
 }

@@ -395,7 +395,8 @@ fn a_registry_of_any_used_lines_and_slots_is_well_formed() {
 
 #[test]
 fn a_registry_of_another_size_is_ill_formed() {
-    for size in [0, REGISTRY_SIZE - 1, REGISTRY_SIZE + 1] {
+    // 21,096 is the size with four slots a line, 20,968 that without counts of uses.
+    for size in [0, 20_968, 21_096, REGISTRY_SIZE - 1, REGISTRY_SIZE + 1] {
         expect_ill_formed_registry(vec![0; size]);
     }
 }
@@ -558,7 +559,7 @@ fn a_count_of_uses_in_a_free_slot_is_ill_formed() {
 
 #[test]
 fn one_key_name_twice_in_a_line_is_ill_formed() {
-    for slot in [0, 1, 3] {
+    for slot in [0, 1, 3, 7] {
         let other_data = Key {
             data: vec![1],
             ..key(b"a")
@@ -575,7 +576,7 @@ fn one_key_name_in_two_lines_is_well_formed() {
 
 #[test]
 fn a_used_slot_behind_a_free_one_is_well_formed() {
-    let registry = with_key(two_lines(), 0, 3, &key(b"a"));
+    let registry = with_key(two_lines(), 0, 7, &key(b"a"));
     assert!(registry_is_well_formed(&registry));
 }
 

@@ -137,19 +137,22 @@ fn opcode_0_is_9() {
 }
 
 #[test]
-fn a_fifth_key_is_1142_and_succeeds_once_one_is_destroyed() {
-    let four = b"abcd".map(star_import).concat();
+fn a_ninth_key_is_1142_and_succeeds_once_one_is_destroyed() {
+    let eight = b"abcdefgh".map(star_import).concat();
     let destroy = from_b(3, &[0x0A, 0x01, 0x62]);
-    let stream = [four, star_import(b'e'), destroy, star_import(b'e')].concat();
+    let stream = [eight, star_import(b'i'), destroy, star_import(b'i')].concat();
     let full = Status::PsaErrorInsufficientStorage.number();
     assert_eq!(
         statuses_of(&responses_to(&stream)),
-        [0, 0, 0, 0, full, 0, 0]
+        [0, 0, 0, 0, 0, 0, 0, 0, full, 0, 0]
     );
 }
 
 #[test]
-fn a_fifth_import_under_a_held_name_is_1139() {
-    let stream = b"abcdd".map(star_import).concat();
-    assert_eq!(statuses_of(&responses_to(&stream)), [0, 0, 0, 0, 1_139]);
+fn a_ninth_import_under_a_held_name_is_1139() {
+    let stream = b"abcdefghc".map(star_import).concat();
+    assert_eq!(
+        statuses_of(&responses_to(&stream)),
+        [0, 0, 0, 0, 0, 0, 0, 0, 1_139]
+    );
 }

@@ -184,16 +184,18 @@ fn counts_are_kept_over_imports_and_destroys_of_other_keys() {
     let signed = Signed::short();
     let mut service = signed.service();
     service.set_uses(0, 1, TOP);
-    service.expect_status(&import(&key(b"c")), Status::Success);
-    let full = import(&key(b"d"));
-    service.expect_status(&full, Status::PsaErrorInsufficientStorage);
+    for name in [b"c", b"d", b"e", b"f", b"g"] {
+        service.expect_status(&import(&key(name)), Status::Success);
+    }
+    let ninth = import(&key(b"h"));
+    service.expect_status(&ninth, Status::PsaErrorInsufficientStorage);
     service.expect_status(&destroy(b"a"), Status::Success);
-    service.expect_status(&import(&key(b"d")), Status::Success);
+    service.expect_status(&ninth, Status::Success);
     let by_second = import(&key(b"k")).sent_by(SECOND);
     service.expect_status(&by_second, Status::Success);
     assert_eq!(
-        [0, 1, 2, 3].map(|slot| service.uses(0, slot)),
-        [0, TOP, 6, 0]
+        [0, 1, 2, 3, 4, 5, 6, 7].map(|slot| service.uses(0, slot)),
+        [0, TOP, 6, 0, 0, 0, 0, 0]
     );
     assert_eq!(service.uses(1, 0), 0);
 }

@@ -6,6 +6,9 @@ use super::vectors::blocks;
 use super::*;
 use std::sync::OnceLock;
 
+/// The names that most keys have, one byte each: two more than an application may hold.
+pub const KEY_NAMES: &[u8] = b"abcdefghij";
+
 /// A xorshift generator of 64 bits.
 pub struct Random(u64);
 
@@ -52,7 +55,7 @@ pub fn names(random: &mut Random) -> Vec<Vec<u8>> {
 /// may hold.
 pub fn list(random: &mut Random) -> Vec<u8> {
     let often = random.pick(&[0, 1, 2, 2]);
-    let mut names: Vec<_> = b"abcdef".iter().map(|&letter| vec![letter]).collect();
+    let mut names: Vec<_> = KEY_NAMES.iter().map(|&letter| vec![letter]).collect();
     names.push(vec![b'k'; 32]);
     names.retain(|_| often > 0 && random.once_in(often));
     let mut keys: Vec<_> = names
@@ -87,6 +90,17 @@ pub fn requests(random: &mut Random, names: &[Vec<u8>], most: usize) -> Vec<Vec<
         last.truncate(random.below(last.len() + 1));
     }
     requests
+}
+
+/// Imports that fill the slots of one application, and leave two of the names that keys have.
+pub fn filling(random: &mut Random, names: &[Vec<u8>]) -> Vec<Vec<u8>> {
+    let name = names.get(random.below(names.len().max(1)));
+    let application = name.map_or(FIRST, Vec::as_slice);
+    let first = random.below(KEY_NAMES.len());
+    let names = KEY_NAMES.iter().cycle().skip(first).take(SLOTS);
+    names
+        .map(|&name| import(&key(&[name])).sent_by(application).bytes())
+        .collect()
 }
 
 /// The bytes of one request, good more often than not.
@@ -135,7 +149,7 @@ fn key_name(random: &mut Random) -> Vec<u8> {
     match random.below(20) {
         0 => random.pick(&[Vec::new(), vec![b'k'; 33], b"a b".to_vec()]),
         1 => vec![b'k'; 32],
-        _ => vec![random.pick(b"abcdef")],
+        _ => vec![random.pick(KEY_NAMES)],
     }
 }
 

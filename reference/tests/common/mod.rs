@@ -180,6 +180,9 @@ pub struct Key {
     pub verify_allowed: bool,
 }
 
+/// The names of as many keys as an application may hold.
+pub const EIGHT: [&[u8]; SLOTS] = [b"a", b"b", b"c", b"d", b"e", b"f", b"g", b"h"];
+
 /// A key that Import allows.
 pub fn key(name: &[u8]) -> Key {
     Key {
@@ -276,7 +279,9 @@ pub fn roster_of(names: &[&[u8]]) -> Vec<u8> {
         .collect()
 }
 
-pub const LINE_SIZE: usize = 2_637;
+pub const LINES: usize = 8;
+pub const SLOTS: usize = 8;
+pub const LINE_SIZE: usize = 5_209;
 pub const SLOT_SIZE: usize = 643;
 /// Where a slot has its count of uses.
 pub const USES_AT: usize = 639;
