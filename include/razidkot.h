@@ -40,7 +40,7 @@ extern "C" {
 #endif
 
 /* The one size of registry memory. */
-#define RAZIDKOT_REGISTRY_SIZE 21096
+#define RAZIDKOT_REGISTRY_SIZE 41672
 /* The one size of connection memory. */
 #define RAZIDKOT_CONNECTION_SIZE 4431
 /* A shorter response buffer is refused. */
@@ -50,7 +50,7 @@ extern "C" {
 /* No response is longer. */
 #define RAZIDKOT_LONGEST_RESPONSE 629
 /* A shorter buffer gets no bill; no bill is longer. */
-#define RAZIDKOT_LEAST_BILL_BUFFER 4192
+#define RAZIDKOT_LEAST_BILL_BUFFER 6336
 /* 2^62: a call is refused if any counter is above it. */
 #define RAZIDKOT_HIGHEST_COUNTER (UINT64_C(1) << 62)
 

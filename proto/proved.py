@@ -10,7 +10,7 @@ import struct
 SLICE = [ctypes.c_void_p, ctypes.c_size_t]
 REFUSED = ctypes.c_size_t(-1).value
 
-REGISTRY_SIZE = 21_096
+REGISTRY_SIZE = 41_672
 CONNECTION_SIZE = 4_431
 # taken, answered, dropped; served by 8 lines; unauthenticated; refused by 19 statuses
 COUNTERS = 3 + 8 + 1 + 19

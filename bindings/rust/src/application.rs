@@ -3,7 +3,7 @@
 use crate::{LINES, REGISTRY_SIZE};
 
 /// How many keys an application may have.
-pub const SLOTS: usize = 4;
+pub const SLOTS: usize = 8;
 
 const LINE_SIZE: usize = REGISTRY_SIZE / LINES;
 const SLOTS_START: usize = 65;
@@ -46,7 +46,7 @@ fn application(line: &[u8]) -> Option<Application<'_>> {
     let mut keys = slots.chunks_exact(SLOT_SIZE).map(key);
     Some(Application {
         name: name(head)?,
-        slots: std::array::from_fn(|_| keys.next().expect("a line has four slots")),
+        slots: std::array::from_fn(|_| keys.next().expect("a line has eight slots")),
     })
 }
 
@@ -76,7 +76,7 @@ mod tests {
     fn memory() -> Vec<u8> {
         let registry = Registry::load(b"\x01\x01\x00a\x01\x02\x00bc").expect("a good roster");
         let mut memory = registry.memory().to_vec();
-        let slot = &mut memory[2_637 + 65 + 3 * 643..][..643];
+        let slot = &mut memory[5_209 + 65 + 7 * 643..][..643];
         slot[0] = 32;
         slot[1..33].fill(b'k');
         slot[33..35].copy_from_slice(&600_u16.to_le_bytes());
@@ -94,10 +94,10 @@ mod tests {
         assert_eq!(listed.len(), 2);
         assert_eq!(
             (listed[0].name, &listed[0].slots),
-            (&b"a"[..], &[const { None }; 4])
+            (&b"a"[..], &[const { None }; 8])
         );
         assert_eq!(listed[1].name, b"bc");
-        let [None, None, None, Some(key)] = &listed[1].slots else {
+        let [None, None, None, None, None, None, None, Some(key)] = &listed[1].slots else {
             panic!("{:?}", listed[1]);
         };
         assert_eq!((key.name, key.data), (&[b'k'; 32][..], &[0xD0; 600][..]));
@@ -136,13 +136,13 @@ mod tests {
         );
         // A space in a name, a byte behind one, a third flag, a count in a free slot, a key on an
         // unused line.
-        let slot = 2_637 + 65 + 3 * 643;
+        let slot = 5_209 + 65 + 7 * 643;
         for (place, byte) in [
             (1, b' '),
             (2, b'x'),
             (slot + 637, 2),
             (slot - 1, 1),
-            (2 * 2_637 + 65, 1),
+            (2 * 5_209 + 65, 1),
         ] {
             let mut changed = whole.clone();
             changed[place] = byte;

@@ -67,7 +67,7 @@ pub use razidkot_status::{Status, REFUSED_STATUSES};
 pub use registry::{IllFormed, Registry, RosterFault};
 
 /// The one size of registry memory.
-pub const REGISTRY_SIZE: usize = 21_096;
+pub const REGISTRY_SIZE: usize = 41_672;
 /// The one size of connection memory.
 pub const CONNECTION_SIZE: usize = 4_431;
 /// A shorter response buffer is refused.
@@ -77,7 +77,7 @@ pub const LONGEST_CHUNK: usize = 65_536;
 /// No response is longer.
 pub const LONGEST_RESPONSE: usize = 629;
 /// A shorter buffer gets no bill; no bill is longer.
-pub const LEAST_BILL_BUFFER: usize = 4_192;
+pub const LEAST_BILL_BUFFER: usize = 6_336;
 /// A call is refused if any counter is above it.
 pub const HIGHEST_COUNTER: u64 = 1 << 62;
 /// How many applications a roster may have.
