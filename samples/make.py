@@ -35,7 +35,7 @@ OPERATIONS = {
     EXPORT: "Export",
 }
 STATUSES = [0, 1, 2, 3, 4, 6, 7, 9, 11, 12, 17, 19, 20, 1133, 1134, 1135, 1139, 1140, 1142, 1149]
-SLOTS = 4
+SLOTS = 8
 
 # The roster, in file order: the line's number is the place here.
 APPLICATIONS = ["recon-a", "recon-b", "viewer", "archive"]
