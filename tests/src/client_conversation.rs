@@ -6,7 +6,7 @@ use crate::ask::{record, EXPORT, IMPORT, OPCODES, VERIFY};
 use crate::client_asked::{legal_name, some_session, Asked};
 use crate::client_program::{Program, Said, WAITING};
 use crate::client_states::STATE_SIZE;
-use crate::generate::{name, Random};
+use crate::generate::{name, Random, KEY_NAMES};
 use crate::lent::Lent;
 use crate::oracle::key_name_is_legal;
 use crate::shipped::some_list;
@@ -198,7 +198,7 @@ fn some_asked(random: &mut Random, names: &[Vec<u8>], few: usize) -> Asked {
             _ => IMPORT,
         },
         provider: random.pick(&[0, 0, 1, 1, 2, u32::MAX]),
-        name: vec![random.pick(b"abcdef")],
+        name: vec![random.pick(KEY_NAMES)],
         bits: 1_024 + 8 * random.below(385) as u32,
         ..any.clone()
     };

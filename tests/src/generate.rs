@@ -9,6 +9,9 @@ use crate::unlisted::{whole_field, START_GROUP};
 use reference::rules;
 use reference::REGISTRY_SIZE;
 
+/// The names that many keys have, one byte each: two more than an application may hold.
+pub const KEY_NAMES: &[u8] = b"abcdefghij";
+
 /// A xorshift generator of 64 bits.
 pub struct Random(u64);
 
@@ -110,7 +113,7 @@ pub enum Filling {
     NamesOnly,
     /// Some names, some keys, and free slots anywhere.
     Some,
-    /// Eight names of 64 bytes, and 32 keys of the longest name and data.
+    /// Eight names of 64 bytes, and 64 keys of the longest name and data.
     Full,
 }
 
@@ -167,7 +170,7 @@ pub fn uses(random: &mut Random) -> u32 {
     }
 }
 
-/// The requests that fill an application's slots: four imports, and for holes some destroys.
+/// The requests that fill an application's slots: an import each, and for holes some destroys.
 fn keys_of(random: &mut Random, application: &[u8], filling: Filling) -> Vec<u8> {
     let mut some_key = |slot| {
         let key = key(random, slot);
@@ -239,8 +242,8 @@ impl Damage {
                 line: random.below(LINES),
             },
             _ => Damage::Resize {
-                // 20,968 is the size without counts of uses.
-                size: random.pick(&[0, 1, 2_637, 20_968, 21_095, 21_096, 21_097, 42_192]),
+                // 21,096 is the size with four slots a line, 20,968 that without counts of uses.
+                size: random.pick(&[0, 1, 5_209, 20_968, 21_096, 41_671, 41_672, 41_673, 83_344]),
             },
         }
     }

@@ -1,8 +1,8 @@
 //! Where things lie in registry memory, by docs/LAYOUT.md.
 
 pub const LINES: usize = 8;
-pub const SLOTS: usize = 4;
-pub const LINE_SIZE: usize = 2_637;
+pub const SLOTS: usize = 8;
+pub const LINE_SIZE: usize = 5_209;
 pub const SLOT_SIZE: usize = 643;
 
 // Offsets in a slot.

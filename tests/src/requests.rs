@@ -3,7 +3,7 @@
 //! they are meant to reach all of.
 
 use crate::ask::*;
-use crate::generate::{import_message, key, message, mutated, Random};
+use crate::generate::{import_message, key, message, mutated, Random, KEY_NAMES};
 use crate::layout::{line_at, name_at, slot_at, Key, Place, LINES, SLOTS};
 use crate::signatures::{some_verify_body, with_signed_data};
 use crate::unlisted::{Class, Piece};
@@ -185,7 +185,7 @@ fn key_name(random: &mut Random, application: &Application) -> Vec<u8> {
         0 => random.pick(&[Vec::new(), vec![b'k'; 33], b"a b".to_vec()]),
         1 => vec![b'k'; 32],
         2..12 if !application.keys.is_empty() => random.pick(&application.keys),
-        _ => vec![random.pick(b"abcdef")],
+        _ => vec![random.pick(KEY_NAMES)],
     }
 }
 

@@ -1,25 +1,27 @@
 //! Lists of shipped keys from a seed, for the applications of a registry, and damage to a list.
 //! Document 02, "Keys we ship".
 
-use crate::generate::{mutated, Random};
+use crate::generate::{mutated, Random, KEY_NAMES};
 use crate::layout::{line_at, name_at, slot_at, Place, LINES, LONGEST_DATA, SLOTS};
 use crate::lists::{bad_lists, ends_of_pairs, list_of, pairs, pairs_in, rsa_public_key};
 use crate::lists::{Pair, MOST_PAIRS};
 use crate::signatures::Signed;
 use std::sync::OnceLock;
 
-/// A good list: none, some or all of these names, which are fewer than 50, and of those
-/// that requests have; and now and then as many more as it may hold.
+/// A good list: none, some or, as far as they go onto one, all of these names and of those that
+/// requests have; and now and then as many more as it may hold.
 pub fn some_list(random: &mut Random, mut names: Vec<Vec<u8>>) -> Vec<u8> {
     let often = random.pick(&[0, 1, 2, 2, 4]);
     if often == 0 {
         return Vec::new();
     }
-    names.extend(b"abcdef".iter().map(|&letter| vec![letter]));
+    names.extend(KEY_NAMES.iter().map(|&letter| vec![letter]));
     names.push(vec![b'k'; 32]);
     names.sort();
     names.dedup();
     names.retain(|_| random.once_in(often));
+    random.shuffle(&mut names);
+    names.truncate(MOST_PAIRS - 1);
     let mut keys = some_keys(random, names);
     if random.once_in(8) {
         let count = random.pick(&[MOST_PAIRS - 1, MOST_PAIRS, MOST_PAIRS]);

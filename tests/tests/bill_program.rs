@@ -7,7 +7,7 @@ use razidkot_tests::ask::{
 };
 use razidkot_tests::bill::{letters, ping, printed, printed_from_pipe, roster_of, text, Folder};
 use razidkot_tests::generate::{key, mutated, name, some_roster, Random};
-use razidkot_tests::layout::Key;
+use razidkot_tests::layout::{Key, Place, LINES, SLOTS};
 use razidkot_tests::lists::{list_of, longest_list, pair, pairs};
 use razidkot_tests::requests::{applications, requests, with_lengths};
 use razidkot_tests::run::{for_seeds, shortest, Outcomes};
@@ -149,7 +149,7 @@ fn generated_files_are_billed_alike() {
     );
     let refused = Status::REFUSED.map(|status| format!("refused {}", status.number()));
     outcomes.assert_often(&refused, 5);
-    let keys = [0, 1, 2, 3].map(|slot| format!("key {slot}"));
+    let keys: Vec<_> = (0..SLOTS).map(|slot| format!("key {slot}")).collect();
     outcomes.assert_often(&keys, 5);
 }
 
@@ -286,6 +286,35 @@ fn key_lines_stand_behind_all_roster_lines_by_line_and_then_slot() {
     let expected =
         "\nline 0 a 5\nline 1 b 18\nkey 0 1 1\nkey 1 0 0\nkey 1 2 0\nkey 1 3 12\nopen 0\n";
     assert!(bill.contains(expected), "{bill}");
+}
+
+/// Each key is used as often as its number in the bill says.
+#[test]
+fn all_64_keys_of_eight_applications_are_billed() {
+    let folder = folder("all-keys");
+    let names = letters(LINES as u8);
+    let mut stream = Vec::new();
+    for (line, application) in names.iter().enumerate() {
+        for slot in 0..SLOTS {
+            let key = Key {
+                name: vec![b'a' + slot as u8],
+                export_allowed: true,
+                ..key(&mut Random::new(0), 0)
+            };
+            stream.extend(request(IMPORT, Some(application), &import_body(&key)));
+            let export = request(EXPORT, Some(application), &name_body(&key.name));
+            stream.extend(export.repeat(line * SLOTS + slot));
+        }
+    }
+    let bill = folder.bill(&roster_of(&names), &stream);
+    let keys: Vec<_> = bill
+        .lines()
+        .filter(|line| line.starts_with("key "))
+        .collect();
+    let expected: Vec<_> = Place::all()
+        .map(|Place { line, slot }| format!("key {line} {slot} {}", line * SLOTS + slot))
+        .collect();
+    assert_eq!(keys, expected);
 }
 
 // ---- long streams

@@ -3,12 +3,14 @@
 
 use razidkot::{Connection, Counters, Refusal, Registry};
 use razidkot_tests::ask::*;
-use razidkot_tests::layout::Key;
+use razidkot_tests::layout::{Key, SLOTS};
 use razidkot_tests::requests::{with_header_size, with_lengths};
 use razidkot_tests::service;
 
 const SCANNER: &[u8] = b"scanner";
 const LONGEST_NAME: &[u8] = &[b'n'; 64];
+/// As many keys as an application may hold.
+const EIGHT: [&[u8]; SLOTS] = [b"a", b"b", b"c", b"d", b"e", b"f", b"g", b"h"];
 
 /// The responses of a service with two applications.
 fn responses(requests: &[Vec<u8>]) -> Vec<Vec<u8>> {
@@ -154,13 +156,22 @@ fn key_names_data_and_bits_are_held_up_to_their_bounds() {
 }
 
 #[test]
-fn a_fifth_key_has_no_slot_until_one_is_destroyed() {
-    let mut requests: Vec<_> = [b"a", b"b", b"c", b"d"]
-        .map(|name| import(&key(name)))
-        .into();
-    requests.extend([import(&key(b"e")), import(&key(b"c"))]);
-    requests.extend([destroy(b"b"), import(&key(b"e")), destroy(b"b")]);
-    assert_eq!(statuses(&requests), [0, 0, 0, 0, 1142, 1139, 0, 0, 1140]);
+fn a_ninth_key_has_no_slot_until_one_is_destroyed() {
+    let mut requests: Vec<_> = EIGHT.map(|name| import(&key(name))).into();
+    requests.extend([import(&key(b"i")), import(&key(b"c"))]);
+    requests.extend([destroy(b"b"), import(&key(b"i")), destroy(b"b")]);
+    let (served, rest) = ([0; SLOTS], [1142, 1139, 0, 0, 1140]);
+    assert_eq!(statuses(&requests), [&served[..], &rest].concat());
+}
+
+#[test]
+fn a_ninth_import_under_a_held_name_already_exists() {
+    for held in EIGHT {
+        let names = EIGHT.into_iter().chain([held]);
+        let requests: Vec<_> = names.map(|name| import(&key(name))).collect();
+        let (served, last) = ([0; SLOTS], [1139]);
+        assert_eq!(statuses(&requests), [&served[..], &last].concat());
+    }
 }
 
 #[test]

@@ -43,7 +43,7 @@ fn a_roster_is_loaded_or_refused_with_its_first_fault() {
 fn memory_of_any_other_size_is_refused_before_any_record() {
     for_seeds(2_000, |random| {
         let file = some_roster(random);
-        let size = random.pick(&[0, 1, 2_621, 20_967, 20_969, 41_936]);
+        let size = random.pick(&[0, 1, 5_209, 21_096, 41_671, 41_673, 83_344]);
         assert!(agree(&file, size), "{size} {file:02X?}");
         let mut memory = vec![0xEE; size];
         assert_eq!(foreign::load_roster(&file, &mut memory), Err(0));

@@ -209,6 +209,11 @@ fn core_operations_count_nothing() {
 fn counts_are_kept_while_other_keys_come_and_go() {
     let lent = &mut Lent::fresh(&registry_with(&key(), 7), b"");
     let import = |name: &[u8]| (IMPORT, import_body(&other_key(name)));
+    // Slots 3 to 6, unused; slot 7 is watched with the first three.
+    for name in [b"e", b"f", b"g", b"h"] {
+        let (answered, _) = lent.ask_both(IMPORT, Some(APPLICATION), &import(name).1);
+        assert_eq!(answered, SUCCESS);
+    }
     let steps = [
         (import(b"c"), SUCCESS, [5, 7, MOST_USES, 0]),
         (import(b"d"), 1142, [5, 7, MOST_USES, 0]),
@@ -223,7 +228,7 @@ fn counts_are_kept_while_other_keys_come_and_go() {
     for (asked, status, uses) in steps {
         let (answered, _) = lent.ask_both(asked.0, Some(APPLICATION), &asked.1);
         assert_eq!(answered, status, "{asked:?}");
-        let counted = [0, 1, 2, 3].map(|slot| uses_at(&lent.registry, Place { line: 0, slot }));
+        let counted = [0, 1, 2, 7].map(|slot| uses_at(&lent.registry, Place { line: 0, slot }));
         assert_eq!(counted, uses, "{asked:?}");
     }
 }
