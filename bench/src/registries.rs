@@ -81,7 +81,7 @@ impl Registry {
             return name(&mut Random::new(number as u64), number, length);
         }
         let mut name = vec![b'n'; length];
-        name[length - 1] = b'A' + number as u8;
+        name[length - 1] = b'!' + number as u8;
         name
     }
 
