@@ -7,6 +7,7 @@ use crate::client_asked::{legal_name, some_session, Asked};
 use crate::client_program::{Program, Said, WAITING};
 use crate::client_states::STATE_SIZE;
 use crate::generate::{name, Random, KEY_NAMES};
+use crate::layout::SLOTS;
 use crate::lent::Lent;
 use crate::oracle::key_name_is_legal;
 use crate::shipped::some_list;
@@ -85,9 +86,12 @@ impl Conversation {
             .collect();
         let few = random.pick(&[1, 2, 8]);
         let count = 1 + random.below(40);
-        let asked: Vec<_> = (0..count)
+        let mut asked: Vec<_> = (0..count)
             .map(|_| some_asked(random, &names, few))
             .collect();
+        if random.once_in(4) {
+            asked.splice(..0, filling(random, &names));
+        }
         let key_names = asked.iter().map(|asked| asked.name.clone());
         let key_names = key_names.filter(|name| key_name_is_legal(name)).collect();
         let list = some_list(random, key_names);
@@ -177,6 +181,19 @@ impl Conversation {
         }
         stream
     }
+}
+
+/// Imports that fill the slots of the first application, if there is one.
+fn filling(random: &mut Random, names: &[Vec<u8>]) -> Vec<Asked> {
+    let keys = names.first().into_iter().cycle().zip(KEY_NAMES).take(SLOTS);
+    keys.map(|(application, &name)| Asked {
+        session: some_session(random),
+        application: application.clone(),
+        name: vec![name],
+        data: random.bytes(9),
+        ..Asked::good(IMPORT)
+    })
+    .collect()
 }
 
 /// Most often one that can be served, by one of the first few applications.

@@ -58,6 +58,20 @@ pub fn applications(registry: &[u8]) -> Vec<Application> {
     applications
 }
 
+/// Imports that fill the slots of an application, and leave two of the names that keys have.
+pub fn filling(random: &mut Random, application: &Application) -> Vec<Vec<u8>> {
+    let names = KEY_NAMES.iter().take(SLOTS);
+    names
+        .map(|&name| {
+            let key = Key {
+                name: vec![name],
+                ..key(random, 0)
+            };
+            request(IMPORT, Some(&application.name), &import_body(&key))
+        })
+        .collect()
+}
+
 /// Up to `most` requests; the last one may be cut.
 pub fn requests(random: &mut Random, applications: &[Application], most: usize) -> Vec<Vec<u8>> {
     let count = 1 + random.below(most);

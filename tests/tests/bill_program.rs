@@ -9,7 +9,7 @@ use razidkot_tests::bill::{letters, ping, printed, printed_from_pipe, roster_of,
 use razidkot_tests::generate::{key, mutated, name, some_roster, Random};
 use razidkot_tests::layout::{Key, Place, LINES, SLOTS};
 use razidkot_tests::lists::{list_of, longest_list, pair, pairs};
-use razidkot_tests::requests::{applications, requests, with_lengths};
+use razidkot_tests::requests::{applications, filling, requests, with_lengths};
 use razidkot_tests::run::{for_seeds, shortest, Outcomes};
 use razidkot_tests::shipped::{self, some_list};
 use reference::{bill, Status, REGISTRY_SIZE};
@@ -65,10 +65,16 @@ fn some_files(random: &mut Random) -> Files {
     if random.once_in(6) {
         shipped::damage(random, &mut list);
     }
+    let applications = applications(&registry);
+    let mut requests = requests(random, &applications, 45);
+    if random.once_in(4) {
+        let application = random.below(applications.len());
+        requests.splice(..0, filling(random, &applications[application]));
+    }
     Files {
         roster,
         list,
-        requests: requests(random, &applications(&registry), 45),
+        requests,
     }
 }
 

@@ -16,6 +16,7 @@ fn some_registry(random: &mut Random) -> Vec<u8> {
         Filling::NamesOnly,
         Filling::Some,
         Filling::Some,
+        Filling::Full,
     ]);
     generate::registry(random, filling)
 }
