@@ -135,12 +135,12 @@ fn a_keys_life() {
 
     assert_eq!(asked(words!["destroy", "k"]).printed(), b"");
     refused(words!["destroy", "k"], "PsaErrorDoesNotExist (status 1140)");
-    for name in ["--", "b", "c"] {
+    for name in ["--", "b", "c", "d", "e", "f", "g"] {
         let import = words!["--bits", "1024", "--app", "scanner", "import", "--", name, file];
         assert_eq!(service.ask(import).printed(), b"");
     }
     refused(import, "PsaErrorInsufficientStorage (status 1142)");
-    service.stop(8);
+    service.stop(12);
 }
 
 /// What the tool lists, the service has for everybody, and nobody can change.
