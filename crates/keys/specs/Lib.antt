@@ -1,2 +1,3 @@
 pub mod Names
 pub mod Key
+pub mod code

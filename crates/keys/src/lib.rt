@@ -1,5 +1,6 @@
 // What a name and a key may be ("Operations and their fields"; "Roster, registry, connection, tally").
 pub mod bits;
+pub mod marks;
 pub mod names;
 
 pub const KEY_NAME_MOST: usize = 32;

@@ -1,4 +1,5 @@
 pub mod NameLaws
+pub mod MarkLaws
 pub mod SlotLaws
 pub mod RegistryLaws
 pub mod WellFormedLaws

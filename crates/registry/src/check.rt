@@ -5,6 +5,7 @@ use crate::LINES;
 use crate::REGISTRY_SIZE;
 use crate::SLOT_SIZE;
 use crate::SLOTS;
+use crate::marks::are_keys_distinct;
 use crate::names::are_distinct;
 use crate::names::scan;
 use crate::names::wide;
@@ -91,7 +92,7 @@ fn is_line(line: &[u8], at: usize) -> bool
     if free < 2 {
         return true;
     }
-    are_distinct(line, LINE_HEAD, SLOT_SIZE, SLOTS)
+    are_keys_distinct(line)
 }
 
 // Whether the first n lines are well formed.

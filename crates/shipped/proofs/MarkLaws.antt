@@ -13,8 +13,9 @@ use Rattle.wire.specs.Lists.{all, same}
 use Rattle.wire.proofs.TestLaws.{and-left, and-right}
 use Rattle.wire.proofs.ListLaws.{all-take, same-true}
 use Rattle.registry.specs.Names.{isNew}
+use Rattle.keys.specs.code.Marks.{differsFrom}
 use Rattle.shipped.specs.Shipped.{ListedKey, namesOf, listedMost}
-use Rattle.shipped.specs.code.Marks.{markOf, differsFrom, Marked}
+use Rattle.shipped.specs.code.Marks.{markOf, Marked}
 
 -- names that are the same have the same mark
 marks-apart : (x y : List ℕ) → differsFrom (markOf x) (markOf y) ≡ true → same x y ≡ false

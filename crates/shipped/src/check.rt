@@ -2,9 +2,9 @@
 use crate::LISTED_MOST;
 use crate::Listed;
 use crate::find::find_listed;
-use crate::marks::is_among;
 use crate::marks::mark_of;
 use crate::pairs::pair_length;
+use keys::marks::is_among;
 use records::file::value_in;
 ghost use mathlib.Core.Path.{_≡_};
 ghost use mathlib.Core.Bool.{true, not};

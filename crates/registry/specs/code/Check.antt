@@ -7,6 +7,7 @@ use lib.ListN.{getD, drop}
 use lib.Dec.{eqb}
 use Rattle.wire.specs.Lists.{every, blocks}
 use Rattle.keys.specs.Names.{legalName, applicationNameMost}
+use Rattle.keys.specs.code.Marks.{mixed, fourWords}
 use Rattle.registry.specs.Names.{nameIn, indexFrom}
 use Rattle.keys.specs.Key.{Key}
 use Rattle.registry.specs.Slots.{Entry, free, held}
@@ -19,6 +20,10 @@ use Rattle.registry.specs.declared.Application.the-variants.{Named, Unkn
 -- the names of `count` blocks of `size` bytes behind `head` bytes
 unfoldable pub blockNames : (head size count : ℕ) → List ℕ → List (List ℕ)
 blockNames head size count s = map nameIn (blocks count size (drop head s))
+
+-- the mark of a slot's name, by all bytes that there are for one
+unfoldable pub markIn : (slot : List ℕ) → ℕ
+markIn slot = mixed (fourWords slot 1 5 9 13) (fourWords slot 17 21 25 29)
 
 -- a slot without a name is free
 abbrev pub isFree : (slot : List ℕ) → Bool

@@ -1,19 +1,12 @@
 -- The mark of a name, by which most names are told apart.
-use Prim.Native.Nat.{ℕ, _+_, _-_, _*_, _/_, _%_}
+use Prim.Native.Nat.{ℕ, _+_, _-_, _*_, _/_}
 use mathlib.Core.Path.{_≡_}
-use mathlib.Core.Bool.{Bool, not}
 use mathlib.Core.List.{List, map}
 use lib.ListN.{length, take, getD}
 use lib.Dec.{ltb, eqb}
 use Rattle.wire.specs.Choice.{if_then_else_}
-use Rattle.wire.specs.Numbers.{field}
+use Rattle.keys.specs.code.Marks.{mixed, fourWords}
 use Rattle.shipped.specs.Shipped.{ListedKey, namesOf, listedMost}
-
-unfoldable pub mixed : (a b : ℕ) → ℕ
-mixed a b = (a * 2654435761 + b) % 4294967296
-
-unfoldable pub fourWords : (s : List ℕ) (a b c d : ℕ) → ℕ
-fourWords s a b c d = mixed (mixed (field a 4 s) (field b 4 s)) (mixed (field c 4 s) (field d 4 s))
 
 -- first byte, middle and last
 unfoldable pub threeBytes : (s : List ℕ) → ℕ
@@ -29,9 +22,6 @@ markOf name =
     if ltb n 4 then threeBytes name
     else if ltb n 16 then fourWords name 0 third (last - third) last
     else mixed (fourWords name 0 4 8 12) (fourWords name (n - 16) (n - 12) (n - 8) last)
-
-abbrev pub differsFrom : (mark m : ℕ) → Bool
-differsFrom mark m = not (eqb mark m)
 
 -- the first of the marks are those of the keys' names
 pub record Marked (keys : List ListedKey) (marks : List ℕ) : Type 0 where

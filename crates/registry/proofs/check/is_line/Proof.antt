@@ -11,7 +11,7 @@ use Rattle.keys.specs.Names.{legalName, applicationNameMost}
 use Rattle.registry.specs.Names.{nameIn}
 use Rattle.registry.specs.Registry.{lineHead, slotsIn}
 use Rattle.registry.specs.WellFormed.{zerosBehindName}
-use Rattle.registry.specs.code.Check.{blockNames, lineTests, wellFormedLine}
+use Rattle.registry.specs.code.Check.{lineTests, wellFormedLine}
 use Rattle.keys.proofs.NameLaws.{legal-short}
 use Rattle.registry.proofs.FreeLaws.{distinct-free-from}
 use borrow.Author.Needs.{needs}
@@ -123,12 +123,13 @@ returns-4 c =
     let f = c .before .before .before .free-from in
     sym (rest3 (c .before) ∙ rw (distinct-free-from (slotsIn (bytes (start3 (c .before)))) (f .result) (c .if4 .taken) (f .ensures .1)))
 
-are-distinct-requires : tie.Need-are-distinct-requires
-are-distinct-requires c κs = search needs
+are-keys-distinct-requires : tie.Need-are-keys-distinct-requires
+are-keys-distinct-requires c κs =
+    let e = c .before in
+    (start3 e .pre, sym (e .before .are-all-slots .ensures) ∙ not-false _ (e .if3 .left))
 
 returns-5 : tie.Need-returns-5
-unfolding blockNames
-returns-5 c = c .are-distinct .ensures ∙ sym (rest3 (c .before .before) ∙ and-true _)
+returns-5 c = c .are-keys-distinct .ensures ∙ sym (rest3 (c .before .before) ∙ and-true _)
 
 pub is-line-spec : {M : Type 1} → statement M
 is-line-spec =
@@ -151,5 +152,5 @@ is-line-spec =
     are-all-slots-requires
     returns-3
     returns-4
-    are-distinct-requires
+    are-keys-distinct-requires
     returns-5)

@@ -10,9 +10,10 @@ use lib.Seq.{length-take-le}
 use Rattle.wire.specs.Choice.{isSome}
 use Rattle.wire.specs.Lists.{all}
 use Rattle.registry.specs.Names.{isNew}
+use Rattle.keys.specs.code.Marks.{differsFrom}
 use Rattle.shipped.specs.Shipped.{namesOf, keysIn}
 use Rattle.shipped.specs.code.Pairs.{dataAt}
-use Rattle.shipped.specs.code.Marks.{markOf, differsFrom}
+use Rattle.shipped.specs.code.Marks.{markOf}
 use Rattle.shipped.specs.declared.Listed.{Listed}
 use Rattle.shipped.proofs.ListLaws.{finds-new}
 use Rattle.shipped.proofs.MarkLaws.{unmarked-new}

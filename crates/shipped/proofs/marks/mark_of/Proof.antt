@@ -2,7 +2,8 @@
 use mathlib.Core.Path.{ap₂, _∙_}
 use borrow.Author.Needs.{needs}
 use borrow.Author.Tests.{lt-ltb, le-ltb}
-use Rattle.shipped.specs.code.Marks.{mixed, markOf}
+use Rattle.keys.specs.code.Marks.{mixed}
+use Rattle.shipped.specs.code.Marks.{markOf}
 use Rattle.shipped.proofs.marks.mark_of.Statement.{statement}
 use Rattle.shipped.proofs.marks.mark_of.Tie as tie
 

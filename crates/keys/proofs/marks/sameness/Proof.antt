@@ -1,7 +1,7 @@
--- `shipped::marks::sameness` meets its contract.
+-- `keys::marks::sameness` meets its contract.
 use borrow.Author.Tests.{eq-eqb, ne-eqb}
-use Rattle.shipped.proofs.marks.sameness.Statement.{statement}
-use Rattle.shipped.proofs.marks.sameness.Tie as tie
+use Rattle.keys.proofs.marks.sameness.Statement.{statement}
+use Rattle.keys.proofs.marks.sameness.Tie as tie
 
 returns : tie.Need-returns
 returns c = rw (eq-eqb _ _ (c .if1 .taken))

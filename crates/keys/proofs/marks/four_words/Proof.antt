@@ -1,8 +1,8 @@
--- `shipped::marks::four_words` meets its contract.
+-- `keys::marks::four_words` meets its contract.
 use borrow.Author.Needs.{needs}
-use Rattle.shipped.specs.code.Marks.{fourWords}
-use Rattle.shipped.proofs.marks.four_words.Statement.{statement}
-use Rattle.shipped.proofs.marks.four_words.Tie as tie
+use Rattle.keys.specs.code.Marks.{fourWords}
+use Rattle.keys.proofs.marks.four_words.Statement.{statement}
+use Rattle.keys.proofs.marks.four_words.Tie as tie
 
 read-u32-requires : tie.Need-read-u32-requires
 read-u32-requires c κs = search needs

@@ -1,9 +1,9 @@
--- `shipped::marks::mix` meets its contract.
+-- `keys::marks::mix` meets its contract.
 use mathlib.Core.Path.{refl}
 use borrow.Author.Needs.{needs}
-use Rattle.shipped.specs.code.Marks.{mixed}
-use Rattle.shipped.proofs.marks.mix.Statement.{statement}
-use Rattle.shipped.proofs.marks.mix.Tie as tie
+use Rattle.keys.specs.code.Marks.{mixed}
+use Rattle.keys.proofs.marks.mix.Statement.{statement}
+use Rattle.keys.proofs.marks.mix.Tie as tie
 
 mul-result : tie.Need-mul-result
 mul-result c = search needs
