@@ -17,7 +17,7 @@ use Rattle.wire.specs.code.Header.{headerOf}
 use Rattle.wire.specs.Response.{responseBytes}
 use Rattle.wire.specs.code.Wrote.{Wrote}
 use Rattle.wire.specs.declared.header.Header.{Header}
-use Rattle.wire.proofs.TestLaws.{first-has, some≢none, none-at, first-before, first-behind}
+use Rattle.wire.proofs.TestLaws.{first-has, none-at, first-before, first-behind}
 use Rattle.stream.specs.Frame.{contentMost}
 use Rattle.protobuf.specs.code.Body.{bodyOf}
 use Rattle.protobuf.specs.declared.message.Schema.{Schema}

@@ -9,11 +9,11 @@ use native.Mathlib.Omega.{arith}
 use lib.ListN.{length, take, length-append}
 use lib.Dec.{eqb}
 use Rattle.wire.specs.Choice.{isSome}
-use Rattle.reading.specs.Reader.{Reading, read}
+use Rattle.reading.specs.Reader.{Reading}
 use Rattle.reading.specs.Call.{callRule}
 use Rattle.reading.specs.Calls.{callOn}
 use Rattle.reading.proofs.ReaderLaws.{always, decide}
-use Rattle.reading.proofs.CallLaws.{asRead, call-facts, call-once}
+use Rattle.reading.proofs.CallLaws.{call-facts}
 use Rattle.reading.proofs.DeliveryLaws.{enough, deliveries, delivery, Delivered}
 use Rattle.reading.proofs.CutLaws.{Sound, Cut, cut-theorem}
 use Rattle.client_responses.specs.Reading.{Asked, Reply, found, responseReader}
@@ -41,15 +41,6 @@ module _ (asked : Asked) where
       let more = w .more in
       let few = w .few in
       omega (arith, length-append s (b ∷ []))
-
-  -- a response or a refusal is the reader's end
-  ends : (s : List ℕ) (b : ℕ) (v : Reply) → responseReader asked .byte s b .event ≡ some v → responseReader asked .ended (responseReader asked .byte s b .kept) ≡ true
-  unfolding responseReader isSome
-  ends s b v e = ap isSome e
-
-  -- ONE CALL on uncut bytes is the uncut reading
-  pub read-once : (bytes : List ℕ) → read (responseReader asked) bytes ≡ asRead (callRule (responseReader asked) (responseReader asked .begin) bytes)
-  read-once bytes = call-once (responseReader asked) ends (responseReader asked .begin) bytes
 
   pub call-fits : (s chunk : List ℕ) → Fits s → Fits (callRule (responseReader asked) s chunk .kept)
   call-fits s chunk f =

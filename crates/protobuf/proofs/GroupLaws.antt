@@ -7,7 +7,7 @@ use mathlib.Core.List.{List}
 use lib.ListN.{length, getD}
 use lib.Dec.{eqb}
 use borrow.Author.Tests.{lt-ltb, ne-eqb}
-use Rattle.wire.specs.Scan.{Turn, on, out, follow, scanAt}
+use Rattle.wire.specs.Scan.{Turn, on, out, follow}
 use Rattle.protobuf.specs.Varint.{varintOf}
 use Rattle.protobuf.specs.Field.{contentAt, fieldAt}
 use Rattle.protobuf.specs.Group.{behind, inGroup, groupAt}

@@ -1,11 +1,11 @@
 -- The check of a signature, by the tests that led to each answer.
-use mathlib.Core.Path.{_≡_, refl, sym, ap, _∙_}
-use mathlib.Core.Bool.{Bool, true, false}
+use mathlib.Core.Path.{_≡_, sym, ap, _∙_}
+use mathlib.Core.Bool.{true, false}
 use mathlib.Core.List.{List}
-use Prim.Native.Nat.{ℕ, _+_, _-_, _/_, _%_, _^_, _≤_, _<_}
+use Prim.Native.Nat.{ℕ, _/_, _^_, _≤_, _<_}
 use native.Mathlib.Nat.{mod-lt}
 use native.Mathlib.Omega.{arith}
-use borrow.Author.Tests.{lt-ltb, le-ltb, eq-eqb, ne-eqb, eqb-true, eqb-false}
+use borrow.Author.Tests.{lt-ltb, le-ltb, eq-eqb, ne-eqb, eqb-true}
 use lib.Dec.{eqb}
 use lib.ListN.{length}
 use Rattle.wire.specs.Lists.{same}
@@ -15,12 +15,11 @@ use Rattle.bignum.proofs.Values.{Digits}
 use Rattle.bignum.proofs.ByteLaws.{bytes-back, number-back}
 use Rattle.rsa_key.specs.Octets.{os2ip, i2osp}
 use Rattle.rsa.specs.Primitives.{rsavp1}
-use Rattle.rsa.specs.Power.{Powered, squareAndMultiply}
+use Rattle.rsa.specs.Power.{squareAndMultiply}
 use Rattle.rsa_key.specs.Key.{numberIn, publicKey, supportedBits, hasBits}
-use Rattle.rsa.specs.Signature.{encoded, outcomeOf, report, compared, verified, verifiedBy, verification}
+use Rattle.rsa.specs.Signature.{encoded, outcomeOf, report, verified, verifiedBy, verification}
 use Rattle.rsa_key.specs.declared.key.PublicKey.the-variants.{Valid, Invalid}
 use Rattle.rsa.specs.declared.verify.Outcome.the-variants.{InvalidSignature, InvalidKey}
-use Rattle.rsa.specs.declared.verify.Verification.{Verification}
 
 -- a number's bytes against a list of bytes
 bytes-by-number : (size m : ℕ) (em : List ℕ) → m < 256 ^ size → length em ≡ size → Digits 256 em → same (i2osp size m) em ≡ eqb m (os2ip em)

@@ -8,7 +8,7 @@ use Rattle.wire.specs.Choice.{if_then_else_}
 use Rattle.wire.specs.Lists.{every, same}
 use Rattle.rsa_key.specs.Octets.{os2ip, i2osp}
 use Rattle.rsa.specs.Primitives.{rsavp1}
-use Rattle.rsa.specs.Power.{Powered, squareAndMultiply}
+use Rattle.rsa.specs.Power.{squareAndMultiply}
 use Rattle.rsa_key.specs.Key.{numberIn, publicKey, supportedBits, hasBits}
 use Rattle.rsa_key.specs.declared.key.PublicKey.{PublicKey}
 use Rattle.rsa_key.specs.declared.key.PublicKey.the-variants.{Valid, Invalid}

@@ -1,18 +1,17 @@
 -- Reading an element, by the tests that led to each answer.
-use mathlib.Core.Path.{_≡_, refl, sym, _∙_}
-use mathlib.Core.Bool.{Bool, true, false, _&&_}
+use mathlib.Core.Path.{_≡_}
+use mathlib.Core.Bool.{true, false}
 use mathlib.Core.List.{List}
-use Prim.Native.Nat.{ℕ, _+_, _*_, _-_, _/_, _%_, _^_, _≤_, _<_}
+use Prim.Native.Nat.{ℕ, _+_, _*_, _≤_, _<_}
 use native.Mathlib.Omega.{arith}
 use borrow.Author.Tests.{lt-ltb, le-ltb, le-leb, lt-leb, eq-eqb, ne-eqb, leb-true}
 use lib.Dec.{eqb, leb, ltb}
 use lib.ListN.{length, getD}
-use Rattle.wire.specs.Choice.{if_then_else_}
 use Rattle.wire.proofs.TestLaws.{either}
 use Rattle.bignum.proofs.Values.{Digits}
 use Rattle.rsa_key.specs.declared.der.Element.{Element}
 use Rattle.rsa_key.specs.declared.der.Element.the-variants.{Contents, Unreadable}
-use Rattle.rsa_key.specs.Key.{within, lengthAt, elementAt, unsigned}
+use Rattle.rsa_key.specs.Key.{within, elementAt, unsigned}
 
 module _ (s : List ℕ) (start len : ℕ) where
   pub fits : start + len ≤ length s → Contents start len ≡ within s start len

@@ -11,7 +11,7 @@ use borrow.Author.Tests.{eq-eqb, eqb-true, eqb-false}
 use lib.ListN.{length, getD, set, length-map}
 use lib.Seq.{set-getD}
 use lib.Dec.{ltb, eqb}
-use Rattle.wire.specs.Choice.{if_then_else_, firstOf, isSome}
+use Rattle.wire.specs.Choice.{firstOf, isSome}
 use Rattle.wire.specs.Lists.{same}
 use Rattle.wire.specs.Request.{Request, requestOf}
 use Rattle.wire.proofs.TestLaws.{some≢none, not-across, every-at, first-has, AllHave, either}

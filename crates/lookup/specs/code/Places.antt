@@ -10,7 +10,7 @@ use Rattle.registry.specs.Slots.{Entry, free, held}
 use Rattle.registry.specs.Registry.{slotCount, slotsOf, slotNamed}
 use Rattle.registry.specs.declared.Line.{Line}
 use Rattle.registry.specs.declared.Found.the-variants.{At}
-use Rattle.shipped.specs.Shipped.{ListedKey, keysIn}
+use Rattle.shipped.specs.Shipped.{keysIn}
 use Rattle.shipped.specs.declared.Span.{Span}
 use Rattle.lookup.specs.Lookup.{shippedKey, Source, listed, ownIn, keyNamed}
 use Rattle.lookup.specs.declared.Place.{Place}

@@ -2,7 +2,6 @@
 use Prim.Native.Nat.{ℕ, _+_}
 use mathlib.Core.Path.{_≡_, sym, ap, ap₂, subst, _∙_}
 use mathlib.Core.List.{List, []}
-use native.Mathlib.Omega.{arith}
 use Rattle.wire.specs.Choice.{firstOf}
 use Rattle.wire.specs.Request.{magicNumber, magic, headerSize}
 use Rattle.wire.specs.Response.{responseHeaderSize, responseLeast, responseOf}

@@ -5,7 +5,7 @@ use mathlib.Core.List.{List}
 use native.Mathlib.Omega.{arith}
 use lib.ListN.{length}
 use Rattle.client_responses.specs.State.{askedIn, bytesIn}
-use Rattle.client_responses.specs.code.Looked.{wantedOf, Run}
+use Rattle.client_responses.specs.code.Looked.{Run}
 use Rattle.client_responses.proofs.StateLaws.{well}
 use Rattle.client_responses.proofs.FoundLaws.{run-wanted, run-first}
 use borrow.Author.Needs.{needs}

@@ -1,14 +1,12 @@
 -- `lookup::find::find_key` meets its contract.
-use mathlib.Core.Path.{_≡_, sym, ap, _∙_, subst}
+use mathlib.Core.Path.{_≡_, sym, _∙_, subst}
 use mathlib.Core.List.{List}
 use borrow.Author.Needs.{needs}
 use Rattle.registry.specs.Slots.{Entry}
-use Rattle.registry.specs.Registry.{slotsOf, slotNamed}
-use Rattle.registry.specs.declared.Found.the-variants as found
+use Rattle.registry.specs.Registry.{slotsOf}
 use Rattle.registry.proofs.RegistryLaws.{slot-below}
 use Rattle.shipped.specs.Shipped.{keysIn, listedNamed}
 use Rattle.shipped.specs.code.Pairs.{placeEnd, Finds}
-use Rattle.shipped.specs.declared.Listed.{Listed}
 use Rattle.lookup.specs.Lookup.{listedIn, keyNamed}
 use Rattle.lookup.specs.code.Places.{Within, sourceAt, SlotNamed}
 use Rattle.lookup.proofs.LookupLaws.{own-named, none-own, listed-there, listed-nowhere}

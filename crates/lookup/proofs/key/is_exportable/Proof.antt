@@ -1,5 +1,5 @@
 -- `lookup::key::is_exportable` meets its contract.
-use mathlib.Core.Path.{_≡_, sym, ap, _∙_, subst}
+use mathlib.Core.Path.{sym, ap, _∙_, subst}
 use borrow.Author.Needs.{needs}
 use Rattle.lookup.specs.Lookup.{shippedKey}
 use Rattle.lookup.specs.code.Places.{Within, keyHeld, keyAt}

@@ -1,5 +1,5 @@
 -- `lookup::key::key_bits` meets its contract.
-use mathlib.Core.Path.{_≡_, sym, ap, _∙_, subst}
+use mathlib.Core.Path.{sym, ap, _∙_, subst}
 use borrow.Author.Needs.{needs}
 use Rattle.rsa_key.specs.Key.{modulusBits}
 use Rattle.lookup.specs.Lookup.{shippedKey}

@@ -11,7 +11,6 @@ use borrow.Fn.PlainCycle.{Measures, is, falls, and}
 use denote.Ref.{now}
 use lib.ListN.{length}
 use Rattle.wire.specs.Scan.{follow}
-use Rattle.protobuf.specs.Field.{fieldAt}
 use Rattle.protobuf.specs.Group.{inGroup, groupAt}
 use Rattle.protobuf.proofs.FieldLaws.{Ahead, field-ahead}
 use Rattle.protobuf.proofs.GroupLaws as laws

@@ -1,7 +1,6 @@
 -- `registry::slots::count_use` meets its contract.
 use Prim.Native.Nat.{ℕ}
 use mathlib.Core.Path.{_≡_, ap, _∙_}
-use mathlib.Core.List.{List}
 use lib.ListN.{length}
 use Rattle.wire.specs.Lists.{put}
 use Rattle.wire.specs.Numbers.{littleEndianOf}

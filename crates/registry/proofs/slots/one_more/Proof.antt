@@ -1,8 +1,6 @@
 -- `registry::slots::one_more` meets its contract.
-use mathlib.Core.Path.{_≡_, sym}
 use borrow.Author.Needs.{needs}
 use borrow.Author.Tests.{lt-ltb, le-ltb}
-use native.Mathlib.Omega.{arith}
 use Rattle.registry.specs.Slots.{usesMost, used}
 use Rattle.registry.proofs.slots.one_more.Statement.{statement}
 use Rattle.registry.proofs.slots.one_more.Tie as tie

@@ -1,6 +1,5 @@
 -- `rsa::encoding::encoded_byte` meets its contract.
 use mathlib.Core.Path.{sym}
-use Prim.Native.Nat.{_-_, _/_}
 use native.Mathlib.Omega.{arith}
 use borrow.Author.Needs.{needs}
 use Rattle.rsa.proofs.EncodedLaws.{encoded-fill, encoded-zero, encoded-prefix, encoded-hash}

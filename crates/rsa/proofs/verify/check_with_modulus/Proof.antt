@@ -3,7 +3,7 @@ use Rattle.bignum.proofs.ByteLaws.{part-bound}
 use Rattle.rsa_key.specs.Key.{numberIn}
 use Rattle.rsa.specs.Signature.{verified}
 use mathlib.Core.Path.{_≡_, ap, _∙_}
-use Prim.Native.Nat.{ℕ, _+_, _-_, _/_, _^_, _≤_, _<_}
+use Prim.Native.Nat.{ℕ, _+_, _-_, _^_, _≤_, _<_}
 use native.Mathlib.Omega.{arith}
 use borrow.Author.Needs.{needs}
 use lib.ListN.{length}

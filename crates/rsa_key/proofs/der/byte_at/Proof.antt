@@ -1,8 +1,6 @@
 -- `rsa_key::der::byte_at` meets its contract.
-use Rattle.rsa_key.proofs.ElementLaws as law
 use lib.ListN.{List·getD-eq-default}
 use mathlib.Core.Path.{sym}
-use Prim.Native.Nat.{_-_, _/_}
 use borrow.Author.Needs.{needs}
 use Rattle.rsa_key.proofs.der.byte_at.Statement.{statement}
 use Rattle.rsa_key.proofs.der.byte_at.Tie as tie

@@ -1,6 +1,5 @@
 -- `rsa_key::der::contents` meets its contract.
 use Rattle.rsa_key.proofs.ElementLaws as law
-use Prim.Native.Nat.{_-_, _/_}
 use borrow.Author.Needs.{needs}
 use Rattle.rsa_key.proofs.der.contents.Statement.{statement}
 use Rattle.rsa_key.proofs.der.contents.Tie as tie

@@ -7,7 +7,7 @@ use Rattle.rsa_key.specs.declared.key.PublicKey.the-variants.{Valid}
 use Rattle.rsa_key.specs.Key.{elementAt, withExponent}
 use mathlib.Core.Path.{_≡_, sym, ap, _∙_}
 use mathlib.Core.List.{List}
-use Prim.Native.Nat.{ℕ, _+_, _-_, _/_, _%_, _≤_}
+use Prim.Native.Nat.{ℕ, _+_, _%_, _≤_}
 use native.Mathlib.Omega.{arith}
 use borrow.Author.Needs.{needs}
 use borrow.Author.Tests.{not-true, not-false}

@@ -1,10 +1,9 @@
 -- `rsa_key::key::read_key` meets its contract.
 use Rattle.rsa_key.proofs.KeyLaws as law
 use Rattle.rsa_key.proofs.ElementLaws.{element-bound}
-use Rattle.rsa_key.specs.declared.der.Element.{Element}
 use Rattle.rsa_key.specs.declared.der.Element.the-variants.{Contents}
 use Rattle.rsa_key.specs.Key.{elementAt}
-use mathlib.Core.Path.{_≡_, sym, ap, _∙_}
+use mathlib.Core.Path.{_≡_, sym, _∙_}
 use mathlib.Core.List.{List}
 use Prim.Native.Nat.{ℕ, _+_, _≤_, _<_}
 use native.Mathlib.Omega.{arith}

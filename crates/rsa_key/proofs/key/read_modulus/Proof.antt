@@ -6,7 +6,7 @@ use Rattle.rsa_key.specs.declared.der.Element.the-variants.{Contents}
 use Rattle.rsa_key.specs.Key.{elementAt, withModulus}
 use mathlib.Core.Path.{_≡_, sym, ap, _∙_}
 use mathlib.Core.List.{List}
-use Prim.Native.Nat.{ℕ, _+_, _-_, _/_, _≤_}
+use Prim.Native.Nat.{ℕ, _+_, _≤_}
 use native.Mathlib.Omega.{arith}
 use borrow.Author.Needs.{needs}
 use borrow.Author.Tests.{not-true, not-false}
