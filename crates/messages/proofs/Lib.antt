@@ -1,9 +1,9 @@
 pub mod RoundTrip
+pub mod PackedLaws
 pub mod ProtobufLaws
 pub mod OperationLaws
 pub mod PlacesLaws
 pub mod OpcodeLaws
-pub mod PackedLaws
 pub mod PlacedLaws
 pub mod WriteLaws
 pub mod Cases

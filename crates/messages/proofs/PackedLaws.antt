@@ -32,13 +32,13 @@ packed-turn-ahead n at ns (Read v next) h = h .behind
 packed-turn-ahead n at ns Unreadable h = tt
 
 module _ (s : List ℕ) where
-  abbrev turn : ℕ → List ℕ → Turn (List ℕ) (Option Value)
+  abbrev pub turn : ℕ → List ℕ → Turn (List ℕ) (Option Value)
   turn at ns = packedTurn ns (varintAt s at)
 
-  abbrev scan : ℕ → List ℕ → Option Value
+  abbrev pub scan : ℕ → List ℕ → Option Value
   scan at ns = scanAt turn (λ ns. some (numbers ns)) (length s) at ns
 
-  turn-ahead : (at : ℕ) (ns : List ℕ) → TurnAhead at (turn at ns)
+  pub turn-ahead : (at : ℕ) (ns : List ℕ) → TurnAhead at (turn at ns)
   turn-ahead at ns = packed-turn-ahead (length s) at ns (varintAt s at) (varint-ahead 9 s at)
 
   -- the entries so far, and the rest, give what the whole gives

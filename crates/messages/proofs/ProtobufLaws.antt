@@ -3,34 +3,34 @@ use Prim.Native.Nat.{ℕ, _+_, _-_, _*_, _%_, _^_, _≤_, _<_}
 use native.Mathlib.Omega.{arith}
 use mathlib.Core.Path.{_≡_, refl, ap, _∙_}
 use mathlib.Core.Bool.{Bool, true, false, false≢true}
-use mathlib.Core.Option.{Option, some}
+use mathlib.Core.Option.{some}
 use mathlib.Core.List.{List, [], _∷_, _++_, append-nil, flatMap}
 use lib.ListN.{length, take, drop, length-append, length-drop}
 use lib.Seq.{append-snoc}
 use lib.Dec.{ltb}
 use borrow.Author.Tests.{ltb-true, eq-eqb}
 use Rattle.wire.specs.Choice.{if_then_else_}
-use Rattle.wire.specs.Scan.{Turn, on, scanAt}
+use Rattle.wire.specs.Scan.{on}
 use Rattle.wire.specs.Lists.{all}
 use Rattle.wire.proofs.TestLaws.{either, and-left, and-right}
-use Rattle.wire.proofs.ScanLaws.{TurnAhead, scan-end, scan-on}
+use Rattle.wire.proofs.ScanLaws.{scan-end, scan-on}
 use Rattle.protobuf.specs.Varint.{varintAt}
 use Rattle.protobuf.specs.Field as proto
 use Rattle.protobuf.specs.Group.{depthMost, groupAt}
 use Rattle.protobuf.specs.Written.{varint, numberField, bytesField, packedField}
-use Rattle.protobuf.specs.declared.varint.Varint.{Varint}
-use Rattle.protobuf.specs.declared.varint.Varint.the-variants.{Read, Unreadable as noVarint}
+use Rattle.protobuf.specs.declared.varint.Varint.the-variants.{Read}
 use Rattle.protobuf.specs.declared.field.Field.{Field as ProtoField}
 use Rattle.protobuf.specs.declared.field.Field.the-variants.{Number, Span, Fixed, GroupStart, GroupEnd, Unreadable}
 use Rattle.protobuf.specs.declared.group.Group.{Group}
 use Rattle.protobuf.specs.declared.group.Group.the-variants.{Skipped, Unreadable as noGroup}
-use Rattle.protobuf.proofs.FieldLaws.{Ahead, VarintAhead, FieldAhead as ProtoAhead, varint-ahead, field-ahead}
+use Rattle.protobuf.proofs.FieldLaws.{Ahead, FieldAhead as ProtoAhead, varint-ahead, field-ahead}
 use Rattle.protobuf.proofs.GroupLaws.{GroupAhead, group-ahead}
 use Rattle.protobuf.proofs.WrittenLaws.{varint-short, number-field-none}
 use Rattle.protobuf.proofs.RoundTrip.{behind, reads-varint, reads-number-field, reads-bytes-field}
 use Rattle.messages.specs.Message.{Kind, uint32, bool, bytes, uint32s, Value, number, flag, octets, numbers, kindOf, Schema, kindAt, absent, Fits}
 use Rattle.messages.specs.Format.{Field, field, listed}
-use Rattle.messages.specs.Protobuf.{protobufBytes, ofVarint, packedTurn, packedOf, ofSpan, wireTypeOf, isOfWire, ofGroup, fieldOf, protobuf}
+use Rattle.messages.specs.Protobuf.{protobufBytes, ofVarint, packedOf, ofSpan, wireTypeOf, isOfWire, ofGroup, fieldOf, protobuf}
+use Rattle.messages.proofs.PackedLaws.{turn, scan, turn-ahead}
 use Rattle.messages.proofs.RoundTrip.{Present, FieldAhead, Lawful, listed-value, listed-ahead}
 
 -- ---- a packed list
@@ -43,32 +43,19 @@ unfolding flatMap
 packed-length [] = omega arith
 packed-length (n ∷ ns) = omega (arith, length-append (varint n) (flatMap varint ns), varint-short n, packed-length ns)
 
-turn-ahead : (n at : ℕ) (ns : List ℕ) (v : Varint) → VarintAhead n at v → TurnAhead at (packedTurn ns v)
-turn-ahead n at ns (Read v next) h = h .behind
-turn-ahead n at ns noVarint h = tt
-
 module _ (s : List ℕ) where
-  abbrev turn : ℕ → List ℕ → Turn (List ℕ) (Option Value)
-  turn at ns = packedTurn ns (varintAt s at)
-
-  abbrev scan : ℕ → List ℕ → Option Value
-  scan at ns = scanAt turn (λ ns. some (numbers ns)) (length s) at ns
-
-  packed-ahead : (at : ℕ) (ns : List ℕ) → TurnAhead at (turn at ns)
-  packed-ahead at ns = turn-ahead (length s) at ns (varintAt s at) (varint-ahead 9 s at)
-
-  packed-from : (done ns : List ℕ) (at : ℕ) → all small ns ≡ true → drop at s ≡ flatMap varint ns → scan at done ≡ some (numbers (done ++ ns))
+  packed-from : (done ns : List ℕ) (at : ℕ) → all small ns ≡ true → drop at s ≡ flatMap varint ns → scan s at done ≡ some (numbers (done ++ ns))
   unfolding flatMap
   packed-from done [] at h e =
-      rw append-nil (scan-end turn (λ ns. some (numbers ns)) (length s) at done (omega (arith, length-drop at s, ap length e)))
+      rw append-nil (scan-end (turn s) (λ ns. some (numbers ns)) (length s) at done (omega (arith, length-drop at s, ap length e)))
   packed-from done (n ∷ ns) at h e =
       let low : n < 2 ^ 32 = ltb-true _ _ (and-left (small n) (all small ns) h) in
       let next : ℕ = at + length (varint n) in
       let r : varintAt s at ≡ Read n next = reads-varint s at n (flatMap varint ns) (omega arith) e in
       let a : Ahead (length s) at next = rw r at (varint-ahead 9 s at) in
       let m : n % 2 ^ 32 ≡ n = omega arith in
-      let t : turn at done ≡ on (done ++ (n ∷ [])) next = rw (r, m) in
-      rw t at (scan-on turn (λ ns. some (numbers ns)) (length s) packed-ahead at done (omega arith))
+      let t : turn s at done ≡ on (done ++ (n ∷ [])) next = rw (r, m) in
+      rw t at (scan-on (turn s) (λ ns. some (numbers ns)) (length s) (turn-ahead s) at done (omega arith))
       ∙ rw append-snoc at (packed-from (done ++ (n ∷ [])) ns next (and-right (small n) (all small ns) h) (behind s at (varint n) (flatMap varint ns) e))
 
 packed-back : (ns : List ℕ) → all small ns ≡ true → packedOf (flatMap varint ns) ≡ some (numbers ns)
