@@ -2,7 +2,7 @@
 -- refusal; and so it does the answer with status 17.
 use mathlib.Core.Path.{_≡_, refl, ap, _∙_}
 use Prim.Native.Nat.{ℕ, _+_, _≤_, _<_}
-use mathlib.Core.Bool.{Bool, true, false, _||_}
+use mathlib.Core.Bool.{true, _||_, or-true}
 use mathlib.Core.Option.{none, some}
 use mathlib.Core.List.{List, [], _++_}
 use native.Mathlib.Omega.{arith}
@@ -75,10 +75,6 @@ module _ (asked : Asked) (provider session opcode status : ℕ) (body rest : Lis
       ∙ ap (λ (b : List ℕ). some (bodyReply (asked .opcode) status b)) (response-body provider session opcode status body rest))
 
 -- ---- status 17, whatever was asked
-
-or-true : (t : Bool) → t || true ≡ true
-or-true true = refl
-or-true false = refl
 
 pub invalid-its : (asked : Asked) → Its asked (headerOf 0 0 0 17 [])
 unfolding isInvalidHeader

@@ -5,7 +5,7 @@ use mathlib.Core.Bool.{Bool, true, false}
 use mathlib.Core.Option.{none, some}
 use mathlib.Core.List.{List, [], _∷_, _++_, append-assoc, append-nil}
 use native.Mathlib.Omega.{arith}
-use borrow.Author.Tests.{ltb-true, ltb-false, eq-eqb, lt-ltb, le-ltb}
+use borrow.Author.Tests.{ltb-true, ltb-false, lt-ltb}
 use lib.ListN.{length, length-append}
 use lib.Dec.{ltb}
 use Rattle.wire.specs.Choice.{firstOf, isSome}
@@ -17,6 +17,7 @@ use Rattle.wire.proofs.NumberLaws.{field-append}
 use Rattle.wire.proofs.ResponseLaws.{response-long, response-magic, response-size, response-back}
 use Rattle.reading.specs.Reader.{Reader, Reading, nothing, withEvent, readFrom, read}
 use Rattle.client_responses.specs.Reading.{Asked, Reply, contentMost, headerTests, foundBehind, found, responseReader}
+use Rattle.client_responses.proofs.FoundLaws.{found-short, found-header, found-whole}
 use Rattle.conversation.proofs.Answered.{headerOf, Its, passes}
 
 -- ---- a response's proper beginnings say nothing yet
@@ -31,19 +32,11 @@ module _ (asked : Asked) (provider session opcode status : ℕ) (body : List ℕ
     same-field at width h =
         sym (field-append at width s x h) ∙ ap (field at width) (whole ∙ sym (append-nil response))
 
-    few : length s < 6 → found asked s ≡ none
-    unfolding found
-    few h = rw (lt-ltb (length s) 6 h)
+    is-magic : 6 ≤ length s → magic s ≡ magicNumber
+    is-magic h = same-field 0 4 (omega arith) ∙ response-magic provider session opcode status body []
 
-    in-header : 6 ≤ length s → length s < responseLeast → found asked s ≡ none
-    unfolding found
-    in-header h short =
-        rw (
-          le-ltb (length s) 6 h,
-          eq-eqb (magic s) magicNumber (same-field 0 4 (omega arith) ∙ response-magic provider session opcode status body []),
-          eq-eqb (headerSize s) responseHeaderSize (same-field 4 2 (omega arith) ∙ response-size provider session opcode status body []),
-          lt-ltb (length s) responseLeast short,
-        )
+    is-size : 6 ≤ length s → headerSize s ≡ responseHeaderSize
+    is-size h = same-field 4 2 (omega arith) ∙ response-size provider session opcode status body []
 
     same-header : responseLeast ≤ length s → responseOf s ≡ headerOf provider session opcode status body
     unfolding responseOf
@@ -65,16 +58,10 @@ module _ (asked : Asked) (provider session opcode status : ℕ) (body : List ℕ
     behind-none h e short = rw (e, foundBehind, lt-ltb (length s) (responseLeast + h .«content_length») short)
 
     in-body : responseLeast ≤ length s → length s < responseLeast + length body → found asked s ≡ none
-    unfolding found
     in-body h short =
-        rw (
-          le-ltb (length s) 6 (omega arith),
-          eq-eqb (magic s) magicNumber (same-field 0 4 (omega arith) ∙ response-magic provider session opcode status body []),
-          eq-eqb (headerSize s) responseHeaderSize (same-field 4 2 (omega arith) ∙ response-size provider session opcode status body []),
-          le-ltb (length s) responseLeast h,
-        )
-        (ap (λ (r : ResponseHeader). foundBehind asked r s) (same-header h)
-        ∙ behind-none (headerOf provider session opcode status body) (passes asked _ refl refl refl its small) short)
+        found-whole asked s (omega arith) (is-magic (omega arith)) (is-size (omega arith)) h
+        ∙ ap (λ (r : ResponseHeader). foundBehind asked r s) (same-header h)
+        ∙ behind-none (headerOf provider session opcode status body) (passes asked _ refl refl refl its small) short
 
     begun : length s < length response → found asked s ≡ none
     begun h = size (ltb (length s) 6) refl (ltb (length s) responseLeast) refl
@@ -83,8 +70,8 @@ module _ (asked : Asked) (provider session opcode status : ℕ) (body : List ℕ
         short = omega (arith, h, response-long provider session opcode status body [])
 
         size : (a : Bool) → ltb (length s) 6 ≡ a → (b : Bool) → ltb (length s) responseLeast ≡ b → found asked s ≡ none
-        size true e b f = few (ltb-true _ _ e)
-        size false e true f = in-header (ltb-false _ _ e) (ltb-true _ _ f)
+        size true e b f = found-short asked s (ltb-true _ _ e)
+        size false e true f = let six = ltb-false _ _ e in found-header asked s six (is-magic six) (is-size six) (ltb-true _ _ f)
         size false e false f = in-body (ltb-false _ _ f) short
 
 -- ---- the reader
