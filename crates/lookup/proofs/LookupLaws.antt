@@ -4,7 +4,7 @@ use mathlib.Core.Bool.{Bool, true, false}
 use mathlib.Core.Option.{Option, none, some}
 use mathlib.Core.List.{List, [], _∷_}
 use Prim.Native.Nat.{ℕ}
-use lib.ListN.{take, drop, getD}
+use lib.ListN.{getD}
 use Rattle.wire.specs.Choice.{if_then_else_}
 use Rattle.wire.specs.Lists.{same}
 use Rattle.wire.proofs.TestLaws.{some≢none}
@@ -17,7 +17,7 @@ use Rattle.registry.specs.declared.Line.{Line}
 use Rattle.registry.specs.declared.Slot.{Slot}
 use Rattle.registry.specs.declared.Found.the-variants as found
 use Rattle.shipped.specs.Shipped.{ListedKey, keysIn, listedNamed}
-use Rattle.shipped.specs.code.Pairs.{dataAt, dataOf, Finds}
+use Rattle.shipped.specs.code.Pairs.{partAt, dataAt, dataOf, Finds}
 use Rattle.shipped.specs.declared.Span.{Span}
 use Rattle.shipped.specs.declared.Listed.the-variants as place
 use Rattle.lookup.specs.Lookup.{shippedKey, Source, own, listed, keyOf, ownIn, listedIn, keyNamed}
@@ -50,17 +50,14 @@ named-so name (k ∷ keys) key e = go (λ f. named-so name keys key f) (same nam
     go rest false q f = rest f
 
 module _ (list name : List ℕ) where
-  abbrev part : Span → List ℕ
-  part span = take (span .len) (drop (span .start) list)
-
   pub listed-there : (span : Span) → Finds list name (place.At span) → listedIn (listedNamed name (keysIn list)) ≡ some (listed (listedAt name list span))
   unfolding listedIn dataAt dataOf
   listed-there span f = go (listedNamed name (keysIn list)) refl (f .bytes)
     where
-      go : (o : Option ListedKey) → listedNamed name (keysIn list) ≡ o → some (part span) ≡ dataOf o → listedIn o ≡ some (listed (listedAt name list span))
-      go none q e = absurd (some≢none (part span) e)
+      go : (o : Option ListedKey) → listedNamed name (keysIn list) ≡ o → some (partAt list span) ≡ dataOf o → listedIn o ≡ some (listed (listedAt name list span))
+      go none q e = absurd (some≢none (partAt list span) e)
       go (some key) q e =
-          let d : key .bytes ≡ part span = cc in
+          let d : key .bytes ≡ partAt list span = cc in
           let n : key .name ≡ name = named-so name (keysIn list) key q in
           λ i. some (listed (shippedKey (record { name = n i; bytes = d i })))
 

@@ -7,15 +7,16 @@ use shipped::Span;
 ghost use mathlib.Core.Path.{_≡_};
 ghost use mathlib.Core.Bool.{true};
 ghost use Prim.Native.Nat.{_+_, _≤_, _<_};
-ghost use lib.ListN.{length, take, drop};
+ghost use lib.ListN.{length};
 ghost use Rattle.registry.specs.Registry.{lineCount};
 ghost use Rattle.registry.specs.WellFormed.{wellFormedRegistry};
+ghost use Rattle.shipped.specs.code.Pairs.{partAt};
 ghost use Rattle.lookup.specs.code.Places.{Within, keyAt};
 
 // The bytes of the list at a place.
 fn listed_bytes(list: &[u8], span: Span) -> &[u8]
     requires { ⌜ span .start + span .len ≤ length (now list) ⌝ }
-    ensures { λ r. ⌜ now r ≡ take (span .len) (drop (span .start) (now (list .entry))) ⌝ }
+    ensures { λ r. ⌜ now r ≡ partAt (now (list .entry)) span ⌝ }
 {
     let a = span.start;
     let e = a + span.len;

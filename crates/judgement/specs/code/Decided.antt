@@ -5,7 +5,7 @@ use mathlib.Core.Logic.{_⊎_}
 use mathlib.Core.Bool.{Bool, false, _&&_, not}
 use mathlib.Core.Option.{Option, none, some}
 use mathlib.Core.List.{List, [], _∷_, _++_}
-use lib.ListN.{length, take, drop, getD}
+use lib.ListN.{length, getD}
 use lib.Dec.{ltb, eqb}
 use Rattle.wire.specs.Choice.{if_then_else_}
 use Rattle.wire.specs.Lists.{oneOf}
@@ -22,6 +22,7 @@ use Rattle.registry.specs.Registry.{lineCount, slotCount, Change, unchanged, fi
 use Rattle.registry.specs.code.Check.{keyFrom, bytesIn}
 use Rattle.registry.specs.declared.Line.{Line}
 use Rattle.shipped.specs.Shipped.{ListedKey, keysIn}
+use Rattle.shipped.specs.code.Pairs.{partAt}
 use Rattle.lookup.specs.code.Places.{Within as PlaceWithin}
 use Rattle.lookup.specs.declared.Place.{Place}
 use Rattle.lookup.specs.declared.Place.the-variants.{Own, Listed, Nothing as Nowhere}
@@ -83,7 +84,7 @@ AskerBelow (Named line) = line .0 < lineCount
 -- a key's data where it lies: in one of the slots, or in the list
 unfoldable pub bytesAt : (slots : List Entry) (list : List ℕ) → Place → List ℕ
 bytesAt slots list (Own slot) = bytesIn (getD slots (slot .0) free)
-bytesAt slots list (Listed span) = take (span .len) (drop (span .start) list)
+bytesAt slots list (Listed span) = partAt list span
 bytesAt slots list Nowhere = []
 
 unfoldable pub outputIn : (slots : List Entry) (list : List ℕ) → Output → message.Output

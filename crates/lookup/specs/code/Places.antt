@@ -4,13 +4,14 @@ use mathlib.Core.Path.{_≡_}
 use mathlib.Core.Bool.{false}
 use mathlib.Core.Option.{Option, none, some}
 use mathlib.Core.List.{List, []}
-use lib.ListN.{length, take, drop, getD}
+use lib.ListN.{length, getD}
 use Rattle.keys.specs.Key.{Key}
 use Rattle.registry.specs.Slots.{Entry, free, held}
 use Rattle.registry.specs.Registry.{slotCount, slotsOf, slotNamed}
 use Rattle.registry.specs.declared.Line.{Line}
 use Rattle.registry.specs.declared.Found.the-variants.{At}
 use Rattle.shipped.specs.Shipped.{keysIn}
+use Rattle.shipped.specs.code.Pairs.{partAt}
 use Rattle.shipped.specs.declared.Span.{Span}
 use Rattle.lookup.specs.Lookup.{shippedKey, Source, listed, ownIn, keyNamed}
 use Rattle.lookup.specs.declared.Place.{Place}
@@ -24,7 +25,7 @@ Within list Nothing = Unit {0}
 
 -- a key whose data lies in the list
 abbrev pub listedAt : (name list : List ℕ) → Span → Key
-listedAt n list span = shippedKey (record { name = n; bytes = take (span .len) (drop (span .start) list) })
+listedAt n list span = shippedKey (record { name = n; bytes = partAt list span })
 
 unfoldable pub keyHeld : Entry → Key
 keyHeld (held key) = key

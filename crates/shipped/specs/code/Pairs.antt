@@ -11,6 +11,7 @@ use Rattle.wire.specs.Lists.{every}
 use Rattle.keys.specs.Names.{legalName, keyNameMost}
 use Rattle.records.specs.Records.{recordLength, valueIn, recordIn, isWhole}
 use Rattle.shipped.specs.Shipped.{ListedKey, dataTests, keysIn, listedNamed}
+use Rattle.shipped.specs.declared.Span.{Span}
 use Rattle.shipped.specs.declared.Listed.{Listed}
 use Rattle.shipped.specs.declared.Listed.the-variants.{At, Nothing}
 
@@ -45,8 +46,12 @@ keyIn bytes = record { name = valueIn bytes; bytes = valueIn (behind bytes) }
 
 -- ---- what a search finds
 
+-- the part of the list at a span
+abbrev pub partAt : (list : List ℕ) → Span → List ℕ
+partAt list span = take (span .len) (drop (span .start) list)
+
 unfoldable pub dataAt : (list : List ℕ) → Listed → Option (List ℕ)
-dataAt list (At span) = some (take (span .len) (drop (span .start) list))
+dataAt list (At span) = some (partAt list span)
 dataAt list Nothing = none
 
 unfoldable pub dataOf : Option ListedKey → Option (List ℕ)
