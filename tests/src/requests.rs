@@ -6,7 +6,7 @@ use crate::ask::*;
 use crate::generate::{import_message, key, message, mutated, Random, KEY_NAMES};
 use crate::layout::{line_at, name_at, slot_at, Key, Place, LINES, SLOTS};
 use crate::signatures::{some_verify_body, with_signed_data};
-use crate::unlisted::{Class, Piece};
+use crate::unlisted::{Class, Sample};
 
 // Where a header has its fields.
 const H_AT: usize = 4;
@@ -211,9 +211,9 @@ fn with_unlisted_fields(random: &mut Random, mut body: Vec<u8>) -> Vec<u8> {
             0 => random.pick(&classes),
             _ => Class::Depth(random.pick(&[0, 0, 1, 2, 16])),
         };
-        let piece = Piece::of(random, class).bytes;
+        let sample = Sample::of(random, class).bytes;
         let at = random.pick(&[0, body.len()]);
-        body.splice(at..at, piece);
+        body.splice(at..at, sample);
     }
     body
 }

@@ -213,7 +213,7 @@ impl Class {
 
 /// Bytes that may stand between the fields of a message.
 #[derive(Clone, Debug)]
-pub struct Piece {
+pub struct Sample {
     pub bytes: Vec<u8>,
     /// Where in them the tag of the message's own field that is unreadable starts.
     pub unreadable_at: Option<usize>,
@@ -223,25 +223,25 @@ pub struct Piece {
     pub undamaged: Vec<u8>,
 }
 
-impl Piece {
-    pub fn of(random: &mut Random, class: Class) -> Piece {
+impl Sample {
+    pub fn of(random: &mut Random, class: Class) -> Sample {
         match class {
-            Class::Depth(0) => Piece::skipped(unlisted_field(random)),
+            Class::Depth(0) => Sample::skipped(unlisted_field(random)),
             Class::Depth(depth) if class.is_skipped() => {
                 let field = plain_field(random);
-                Piece::skipped(Groups::some(random, depth).with(&field))
+                Sample::skipped(Groups::some(random, depth).with(&field))
             }
             Class::Depth(depth) => {
                 let groups = Groups::some(random, DEEPEST_GROUP);
                 let deeper = Groups::inside(random, depth - DEEPEST_GROUP, DEEPEST_GROUP).with(&[]);
-                Piece::damaged(&groups, &deeper)
+                Sample::damaged(&groups, &deeper)
             }
             Class::Damaged(damage, depth) => damaged(random, damage, depth),
         }
     }
 
-    fn skipped(bytes: Vec<u8>) -> Piece {
-        Piece {
+    fn skipped(bytes: Vec<u8>) -> Sample {
+        Sample {
             undamaged: bytes.clone(),
             bytes,
             unreadable_at: None,
@@ -249,8 +249,8 @@ impl Piece {
         }
     }
 
-    fn damaged(groups: &Groups, damage: &[u8]) -> Piece {
-        Piece {
+    fn damaged(groups: &Groups, damage: &[u8]) -> Sample {
+        Sample {
             bytes: groups.with(damage),
             unreadable_at: Some(0),
             is_cut: false,
@@ -259,24 +259,24 @@ impl Piece {
     }
 }
 
-fn damaged(random: &mut Random, damage: Damage, depth: usize) -> Piece {
+fn damaged(random: &mut Random, damage: Damage, depth: usize) -> Sample {
     let groups = Groups::some(random, depth);
     match damage {
         Damage::Cut => cut(random, &groups),
         Damage::StrayEnd => stray_end(random, depth),
         _ => {
             let field = damaged_field(random, damage, &groups.numbers);
-            Piece::damaged(&groups, &field)
+            Sample::damaged(&groups, &field)
         }
     }
 }
 
 /// A whole group may be lacking its end alone; of a field outside of groups there is a byte at least.
-fn cut(random: &mut Random, groups: &Groups) -> Piece {
+fn cut(random: &mut Random, groups: &Groups) -> Sample {
     let field = unlisted_field(random);
     let least = usize::from(groups.numbers.is_empty());
     let length = least + random.below(field.len() - least);
-    Piece {
+    Sample {
         bytes: [&groups.before, &field[..length]].concat(),
         unreadable_at: Some(0),
         is_cut: true,
@@ -285,12 +285,12 @@ fn cut(random: &mut Random, groups: &Groups) -> Piece {
 }
 
 /// One end more than groups, all of one number: the last is the stray one, and a field of its own.
-fn stray_end(random: &mut Random, depth: usize) -> Piece {
+fn stray_end(random: &mut Random, depth: usize) -> Sample {
     let number = some_number(random);
     let groups = Groups::around(random, vec![number; depth], 0);
     let undamaged = groups.with(&[]);
     let end = tag(random, number, END_GROUP);
-    Piece {
+    Sample {
         bytes: [&undamaged[..], &end].concat(),
         unreadable_at: Some(undamaged.len()),
         is_cut: false,

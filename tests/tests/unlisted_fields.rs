@@ -13,15 +13,15 @@ use razidkot_tests::layout::Key;
 use razidkot_tests::oracle::{bytes_field, number_field};
 use razidkot_tests::run::{assert_agree, for_seeds, shortest, Outcomes};
 use razidkot_tests::service;
-use razidkot_tests::unlisted::{whole_field, Class, Piece, DEEPEST_GROUP, WIRE_TYPES};
+use razidkot_tests::unlisted::{whole_field, Class, Sample, DEEPEST_GROUP, WIRE_TYPES};
 
 const APPLICATION: &[u8] = b"application";
 const KEY_NAME: &[u8] = b"k";
 const SESSION: u64 = 0x0102_0304_0506_0708;
 
-// ---- messages with a piece between their fields
+// ---- messages with a sample between their fields
 
-/// Where the piece stands among a message's own fields.
+/// Where the sample stands among a message's own fields.
 struct Mixed {
     /// The message's own fields alone.
     plain: Vec<u8>,
@@ -31,17 +31,17 @@ struct Mixed {
 }
 
 impl Mixed {
-    fn of(random: &mut Random, own: &[Vec<u8>], piece: &Piece) -> Mixed {
-        let place = match piece.is_cut {
+    fn of(random: &mut Random, own: &[Vec<u8>], sample: &Sample) -> Mixed {
+        let place = match sample.is_cut {
             true => own.len(),
             false => random.below(own.len() + 1),
         };
         let (before, behind) = (own[..place].concat(), own[place..].concat());
         Mixed {
             plain: own.concat(),
-            body: [&before, &piece.bytes, &behind[..]].concat(),
-            undamaged: [&before, &piece.undamaged, &behind[..]].concat(),
-            unreadable_at: piece.unreadable_at.map(|at| before.len() + at),
+            body: [&before, &sample.bytes, &behind[..]].concat(),
+            undamaged: [&before, &sample.undamaged, &behind[..]].concat(),
+            unreadable_at: sample.unreadable_at.map(|at| before.len() + at),
         }
     }
 }
@@ -201,13 +201,13 @@ fn compare_by_client(random: &mut Random, mixed: &Mixed, opcode: u16) -> bool {
 // ---- every class
 
 /// Makes pieces of each class, and sees that both sides of each bound were reached: `compare` says
-/// whether the body with the piece was read.
-fn compare_each_class(seeds: u64, mut compare: impl FnMut(&mut Random, &Piece) -> Option<bool>) {
+/// whether the body with the sample was read.
+fn compare_each_class(seeds: u64, mut compare: impl FnMut(&mut Random, &Sample) -> Option<bool>) {
     let mut outcomes = Outcomes::default();
     for class in Class::all() {
         for_seeds(seeds, |random| {
-            let piece = Piece::of(random, class);
-            if let Some(was_read) = compare(random, &piece) {
+            let sample = Sample::of(random, class);
+            if let Some(was_read) = compare(random, &sample) {
                 outcomes.count(format!("{class}, read {was_read}"));
             }
         });
@@ -222,9 +222,9 @@ fn compare_each_class(seeds: u64, mut compare: impl FnMut(&mut Random, &Piece) -
 #[test]
 fn the_leaf_skips_or_refuses_each_class_in_each_message() {
     for schema in Schema::ALL {
-        compare_each_class(200, |random, piece| {
+        compare_each_class(200, |random, sample| {
             let own = own_fields(random, schema);
-            let mixed = Mixed::of(random, &own, piece);
+            let mixed = Mixed::of(random, &own, sample);
             Some(compare_by_leaf(&mixed, schema))
         });
     }
@@ -233,9 +233,9 @@ fn the_leaf_skips_or_refuses_each_class_in_each_message() {
 #[test]
 fn the_service_skips_or_refuses_each_class_in_each_request() {
     for schema in Schema::ALL {
-        compare_each_class(20, |random, piece| {
+        compare_each_class(20, |random, sample| {
             let own = own_fields(random, schema);
-            let mixed = Mixed::of(random, &own, piece);
+            let mixed = Mixed::of(random, &own, sample);
             Some(compare_by_service(random, &mixed, schema))
         });
     }
@@ -245,9 +245,9 @@ fn the_service_skips_or_refuses_each_class_in_each_request() {
 #[test]
 fn the_client_skips_or_refuses_each_class_in_each_response() {
     for opcode in OPCODES {
-        compare_each_class(40, |random, piece| {
+        compare_each_class(40, |random, sample| {
             let own = own_output(random, opcode);
-            let mixed = Mixed::of(random, &own, piece);
+            let mixed = Mixed::of(random, &own, sample);
             let longest = mixed.body.len().max(mixed.undamaged.len());
             (longest <= LONGEST_CONTENT).then(|| compare_by_client(random, &mixed, opcode))
         });
@@ -325,12 +325,12 @@ fn cut_everywhere(seeds: u64, mut compare: impl FnMut(&mut Random, &[u8]) -> boo
     let mut outcomes = Outcomes::default();
     for depth in 0..=DEEPEST_GROUP {
         for_seeds(seeds, |random| {
-            let piece = Piece::of(random, Class::Depth(depth));
-            let fields = [&piece.bytes[..], &bytes_field(1, b"k")].concat();
+            let sample = Sample::of(random, Class::Depth(depth));
+            let fields = [&sample.bytes[..], &bytes_field(1, b"k")].concat();
             for length in 0..=fields.len() {
                 let was_read = compare(random, &fields[..length]);
                 outcomes.count(format!("depth {depth}, read {was_read}"));
-                let is_between = [0, piece.bytes.len(), fields.len()].contains(&length);
+                let is_between = [0, sample.bytes.len(), fields.len()].contains(&length);
                 assert_eq!(was_read, is_between, "{length} of {fields:02X?}");
             }
         });

@@ -16,7 +16,7 @@ use Rattle.wire.specs.declared.response.ResponseHeader.{ResponseHeader}
 use Rattle.wire.proofs.TestLaws.{none-at, some≢none}
 use Rattle.wire.proofs.NumberLaws.{field-append}
 use Rattle.reading.proofs.ReaderLaws.{decide}
-use Rattle.client_responses.specs.Reading.{Asked, contentMost, refused, headerTests, bodyReply, foundBehind, found}
+use Rattle.client_responses.specs.Reading.{Asked, responseContentMost, refused, headerTests, bodyReply, foundBehind, found}
 use Rattle.client_responses.specs.State.{responseMost}
 use Rattle.client_responses.specs.code.Looked.{wantedOf, Run}
 use Rattle.client_responses.specs.declared.ReadRefusal.{ReadRefusal}
@@ -69,7 +69,7 @@ module _ (asked : Asked) (h : ResponseHeader) (s : List ℕ) where
     unfolding foundBehind
     behind-whole l = rw (e, le-ltb (length s) (responseLeast + h .«content_length») l, foundBehind)
 
-    pub content-few : h .«content_length» ≤ contentMost
+    pub content-few : h .«content_length» ≤ responseContentMost
     unfolding headerTests
     content-few = ltb-false _ _ (none-at (headerTests asked h) 3 ContentTooLong e)
 

@@ -19,7 +19,7 @@ use Rattle.messages.specs.declared.read.Span.{Span}
 use Rattle.messages.specs.declared.read.Output.{Output as OutputPlaces}
 use Rattle.messages.specs.declared.read.Output.the-variants.{Nothing, Version, Providers, Opcodes, Data}
 use Rattle.messages.specs.declared.read.OutputRead.the-variants.{Read, Unreadable}
-use Rattle.client_responses.specs.Reading.{contentMost, Reply, answered, refused, ofOutput, bodyReply}
+use Rattle.client_responses.specs.Reading.{responseContentMost, Reply, answered, refused, ofOutput, bodyReply}
 use Rattle.client_responses.specs.State.{countAt, bytesAt, stateSize, bytesIn, saidOf, said}
 use Rattle.client_responses.specs.code.Looked.{bodyAt, spanMoved, outputMoved, checkOf, Looked}
 use Rattle.client_responses.specs.declared.ReadRefusal.{ReadRefusal}
@@ -105,7 +105,7 @@ module _ (opcode status : ℕ) (body : List ℕ) where
   unfolding bodyReply
   reply-some n e = rw (ne-eqb status 0 n, ne-eqb (length body) 0 e, bodyReply)
 
-module _ (m : List ℕ) (size : length m ≡ stateSize) (opcode status content : ℕ) (few : content ≤ contentMost) where
+module _ (m : List ℕ) (size : length m ≡ stateSize) (opcode status content : ℕ) (few : content ≤ responseContentMost) where
   abbrev body : List ℕ
   body = take content (drop bodyAt m)
 

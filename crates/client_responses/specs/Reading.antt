@@ -34,8 +34,8 @@ pub data Reply : Type 0 where
 
 -- ---- the header, once it is whole
 
-abbrev pub contentMost : ℕ
-contentMost = 998
+abbrev pub responseContentMost : ℕ
+responseContentMost = 998
 
 -- its opcode, session and provider are its request's
 unfoldable pub isIts : Asked → ResponseHeader → Bool
@@ -52,7 +52,7 @@ headerTests asked h =
     (not (eqb (h .major) 1 && eqb (h .minor) 0), WrongVersion)
     ∷ (not (eqb (h .«content_type») 1), WrongContentType)
     ∷ (not (isIts asked h || isInvalidHeader h), NotItsRequests)
-    ∷ (ltb contentMost (h .«content_length»), ContentTooLong)
+    ∷ (ltb responseContentMost (h .«content_length»), ContentTooLong)
     ∷ []
 
 -- ---- the body, once it is whole

@@ -11,7 +11,7 @@ use Rattle.wire.specs.Numbers.{littleEndianOf, field}
 use Rattle.wire.specs.Response.{responseLeast}
 use Rattle.reading.specs.Calls.{Call, Layout, callOn}
 use Rattle.messages.specs.Opcodes.{coreOpcodes, keystoreOpcodes}
-use Rattle.client_responses.specs.Reading.{Asked, contentMost, Reply, found, responseReader}
+use Rattle.client_responses.specs.Reading.{Asked, responseContentMost, Reply, found, responseReader}
 use Rattle.client_responses.specs.declared.Begun.{Begun}
 use Rattle.client_responses.specs.declared.Begun.the-variants.{Fresh, WrongSize, UnlistedOpcode}
 
@@ -19,7 +19,7 @@ use Rattle.client_responses.specs.declared.Begun.the-variants.{Fresh, Wr
 
 -- the longest response
 abbrev pub responseMost : ℕ
-responseMost = responseLeast + contentMost
+responseMost = responseLeast + responseContentMost
 
 abbrev pub sessionAt : ℕ
 sessionAt = 2

@@ -26,7 +26,7 @@ ghost use lib.ListN.{length, take, drop};
 ghost use Rattle.wire.specs.Choice.{firstOf};
 ghost use Rattle.wire.specs.Numbers.{field};
 ghost use Rattle.messages.specs.Placed.{OutputWithin, SpanWithin};
-ghost use Rattle.client_responses.specs.Reading.{providerFor, contentMost, isIts, isInvalidHeader, headerTests, bodyReply, foundBehind, found};
+ghost use Rattle.client_responses.specs.Reading.{providerFor, responseContentMost, isIts, isInvalidHeader, headerTests, bodyReply, foundBehind, found};
 ghost use Rattle.client_responses.specs.State.{countAt, bytesAt, responseMost, stateSize, askedIn, bytesIn, wellFormedState};
 ghost use Rattle.client_responses.specs.code.Looked.{bodyAt, spanMoved, outputMoved, checkOf, wantedOf, Looked, Run};
 
@@ -131,7 +131,7 @@ fn check_header(opcode: u16, session: u64, h: ResponseHeader) -> HeaderCheck
 
 // A place in the body, as a place in the state's memory.
 fn move_span(span: Span) -> Span
-    requires { ⌜ SpanWithin contentMost span ⌝ }
+    requires { ⌜ SpanWithin responseContentMost span ⌝ }
     ensures { λ r. ⌜ r ≡ spanMoved bodyAt span ⌝ }
 {
     Span {
@@ -141,7 +141,7 @@ fn move_span(span: Span) -> Span
 }
 
 fn move_output(output: Output) -> Output
-    requires { ⌜ OutputWithin contentMost output ⌝ }
+    requires { ⌜ OutputWithin responseContentMost output ⌝ }
     ensures { λ r. ⌜ r ≡ outputMoved bodyAt output ⌝ }
 {
     match output {
@@ -155,7 +155,7 @@ fn move_output(output: Output) -> Output
 
 // What a whole body is read as.
 fn read_reply(memory: &[u8], opcode: u16, status: u16, content: usize) -> Said
-    requires { ⌜ (length (now memory) ≡ stateSize) × (content ≤ contentMost) ⌝ }
+    requires { ⌜ (length (now memory) ≡ stateSize) × (content ≤ responseContentMost) ⌝ }
     ensures { λ r. ⌜ Looked (now (memory .entry)) (some (bodyReply opcode status (take content (drop bodyAt (now (memory .entry)))))) r ⌝ }
 {
     if status != 0 {

@@ -19,7 +19,7 @@ use Rattle.judgement.specs.Operations.{Result}
 use Rattle.judgement.specs.Judgement.{resultOf, verdictOf, judgement}
 use Rattle.judgement.proofs.ResponseLaws.{judge-short}
 use Rattle.client_requests.specs.Writing.{Sender, requestFor}
-use Rattle.client_responses.specs.Reading.{answered, contentMost, found}
+use Rattle.client_responses.specs.Reading.{answered, responseContentMost, found}
 use Rattle.conversation.proofs.Asked.{Writable, read-as-written}
 use Rattle.conversation.proofs.Answered.{askedFor, result-read}
 use Rattle.conversation.proofs.Results.{result-sound}
@@ -45,7 +45,7 @@ module _ (list registry : List ℕ) (counts : Counts) (good : wellFormedRegistry
   unfolding verdictOf requestFor
   response-is = ap (λ (v : Verdict (List ℕ) Counts (List ℕ)). v .response) verdict-is
 
-  pub short-output : length (outputBytes protobuf (result .output)) ≤ contentMost
+  pub short-output : length (outputBytes protobuf (result .output)) ≤ responseContentMost
   short-output =
       let s = judge-short list registry counts (requestBytes q) good in
       let e = ap length response-is in

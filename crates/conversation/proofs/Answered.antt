@@ -20,7 +20,7 @@ use Rattle.messages.proofs.OperationLaws.{nothing-bytes, answered-back}
 use Rattle.judgement.specs.Status.{statusNumber}
 use Rattle.judgement.specs.Operations.{Result}
 use Rattle.wire.specs.Lists.{oneOf}
-use Rattle.client_responses.specs.Reading.{Asked, providerFor, answered, contentMost, isIts, isInvalidHeader, headerTests, bodyReply, foundBehind, found}
+use Rattle.client_responses.specs.Reading.{Asked, providerFor, answered, responseContentMost, isIts, isInvalidHeader, headerTests, bodyReply, foundBehind, found}
 
 -- ---- a response of any status and body that is for the request
 
@@ -43,10 +43,10 @@ Its asked h = isIts asked h || isInvalidHeader h ≡ true
 
 -- a header that passes
 pub passes : (asked : Asked) (h : ResponseHeader) → h .major ≡ 1 → h .minor ≡ 0 → h .«content_type» ≡ 1
-    → Its asked h → h .«content_length» ≤ contentMost → firstOf (headerTests asked h) ≡ none
+    → Its asked h → h .«content_length» ≤ responseContentMost → firstOf (headerTests asked h) ≡ none
 unfolding headerTests firstOf
 passes asked h major minor type its short =
-    rw (eq-eqb (h .major) 1 major, eq-eqb (h .minor) 0 minor, eq-eqb (h .«content_type») 1 type, its, le-ltb contentMost (h .«content_length») short)
+    rw (eq-eqb (h .major) 1 major, eq-eqb (h .minor) 0 minor, eq-eqb (h .«content_type») 1 type, its, le-ltb responseContentMost (h .«content_length») short)
 
 -- and then the body decides
 behind : (asked : Asked) (h : ResponseHeader) (bytes : List ℕ) → firstOf (headerTests asked h) ≡ none → responseLeast + h .«content_length» ≤ length bytes
@@ -58,7 +58,7 @@ module _ (asked : Asked) (provider session opcode status : ℕ) (body rest : Lis
   abbrev written : List ℕ
   written = responseBytes provider session opcode status body ++ rest
 
-  pub found-whole : Its asked (headerOf provider session opcode status body) → length body ≤ contentMost
+  pub found-whole : Its asked (headerOf provider session opcode status body) → length body ≤ responseContentMost
       → found asked written ≡ some (bodyReply (asked .opcode) status body)
   unfolding found
   found-whole its short =
@@ -121,7 +121,7 @@ unfolding bodyReply
 served-reply opcode status output z a f = rw (z, answered-back opcode output a f)
 
 -- a response with a sound result is read as it
-pub result-read : (session : ℕ) (operation : Operation) (r : Result) (rest : List ℕ) → Sound operation r → length (outputBytes protobuf (r .output)) ≤ contentMost
+pub result-read : (session : ℕ) (operation : Operation) (r : Result) (rest : List ℕ) → Sound operation r → length (outputBytes protobuf (r .output)) ≤ responseContentMost
     → found (askedFor session operation) (responseBytes (providerOf operation) session (opcodeOf operation) (statusNumber (r .status)) (outputBytes protobuf (r .output)) ++ rest)
     ≡ some (answered (statusNumber (r .status)) (r .output))
 result-read session operation r rest s short =

@@ -16,14 +16,14 @@ use Rattle.wire.specs.declared.response.ResponseHeader.{ResponseHeader}
 use Rattle.wire.proofs.NumberLaws.{field-append}
 use Rattle.wire.proofs.ResponseLaws.{response-long, response-magic, response-size, response-back}
 use Rattle.reading.specs.Reader.{Reader, Reading, nothing, withEvent, readFrom, read}
-use Rattle.client_responses.specs.Reading.{Asked, Reply, contentMost, headerTests, foundBehind, found, responseReader}
+use Rattle.client_responses.specs.Reading.{Asked, Reply, responseContentMost, headerTests, foundBehind, found, responseReader}
 use Rattle.client_responses.proofs.FoundLaws.{found-short, found-header, found-whole}
 use Rattle.conversation.proofs.Answered.{headerOf, Its, passes}
 
 -- ---- a response's proper beginnings say nothing yet
 
 module _ (asked : Asked) (provider session opcode status : ℕ) (body : List ℕ)
-    (its : Its asked (headerOf provider session opcode status body)) (small : length body ≤ contentMost) where
+    (its : Its asked (headerOf provider session opcode status body)) (small : length body ≤ responseContentMost) where
   abbrev response : List ℕ
   response = responseBytes provider session opcode status body
 
@@ -118,7 +118,7 @@ module _ (asked : Asked) where
 
 -- A RESPONSE AND WHATEVER FOLLOWS IT: the response is taken and kept, and what it is read as is the one event
 pub response-read : (asked : Asked) (provider session opcode status : ℕ) (body : List ℕ) → Its asked (headerOf provider session opcode status body)
-    → length body ≤ contentMost → (y : Reply) → found asked (responseBytes provider session opcode status body) ≡ some y → (rest : List ℕ)
+    → length body ≤ responseContentMost → (y : Reply) → found asked (responseBytes provider session opcode status body) ≡ some y → (rest : List ℕ)
     → read (responseReader asked) (responseBytes provider session opcode status body ++ rest)
     ≡ record {
       taken = length (responseBytes provider session opcode status body);

@@ -64,7 +64,7 @@ pub enum Output {
     Data(Place),
 }
 
-// What becomes of the asker's slots.
+// What becomes of the asker's slots: the definitions' `Change`, the key itself left in the body.
 pub enum Edit {
     Stays,
     Fills(Slot),

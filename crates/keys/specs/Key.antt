@@ -19,7 +19,7 @@ dataMost = 600
 unfoldable pub legalData : List ℕ → Bool
 legalData bytes = every (leb 1 (length bytes) ∷ leb (length bytes) dataMost ∷ [])
 
--- 1,024 to 4,096 in multiples of 8: the registry's rule; Import has its own
+-- 1,024 to 4,096 in multiples of 8: what a registry may hold
 abbrev pub bitsLeast : ℕ
 bitsLeast = 1024
 
@@ -29,6 +29,6 @@ bitsMost = 4096
 unfoldable pub legalBits : ℕ → Bool
 legalBits bits = every (leb bitsLeast bits ∷ leb bits bitsMost ∷ eqb (bits % 8) 0 ∷ [])
 
--- Import's own rule for bits; what a registry may hold is `legalBits`
+-- Import's own rule
 unfoldable pub importBits : ℕ → Bool
 importBits bits = legalBits bits

@@ -17,7 +17,7 @@ use Rattle.registry.specs.declared.Line.{Line}
 use Rattle.registry.specs.declared.Slot.{Slot}
 use Rattle.registry.specs.declared.Found.the-variants as found
 use Rattle.shipped.specs.Shipped.{ListedKey, keysIn, listedNamed}
-use Rattle.shipped.specs.code.Pairs.{partAt, dataAt, dataOf, Finds}
+use Rattle.shipped.specs.code.Pairs.{partAt, dataFound, dataOf, Finds}
 use Rattle.shipped.specs.declared.Span.{Span}
 use Rattle.shipped.specs.declared.Listed.the-variants as place
 use Rattle.lookup.specs.Lookup.{shippedKey, Source, own, listed, keyOf, ownIn, listedIn, keyNamed}
@@ -51,7 +51,7 @@ named-so name (k ∷ keys) key e = go (λ f. named-so name keys key f) (same nam
 
 module _ (list name : List ℕ) where
   pub listed-there : (span : Span) → Finds list name (place.At span) → listedIn (listedNamed name (keysIn list)) ≡ some (listed (listedAt name list span))
-  unfolding listedIn dataAt dataOf
+  unfolding listedIn dataFound dataOf
   listed-there span f = go (listedNamed name (keysIn list)) refl (f .bytes)
     where
       go : (o : Option ListedKey) → listedNamed name (keysIn list) ≡ o → some (partAt list span) ≡ dataOf o → listedIn o ≡ some (listed (listedAt name list span))
@@ -62,7 +62,7 @@ module _ (list name : List ℕ) where
           λ i. some (listed (shippedKey (record { name = n i; bytes = d i })))
 
   pub listed-nowhere : Finds list name place.Nothing → listedIn (listedNamed name (keysIn list)) ≡ none
-  unfolding listedIn dataAt dataOf
+  unfolding listedIn dataFound dataOf
   listed-nowhere f = go (listedNamed name (keysIn list)) (f .bytes)
     where
       go : (o : Option ListedKey) → none ≡ dataOf o → listedIn o ≡ none

@@ -14,10 +14,9 @@ use Rattle.wire.proofs.TestLaws.{both}
 use Rattle.bignum.proofs.Values.{Digits}
 use Rattle.bignum.proofs.ByteLaws.{bytes-back, number-back}
 use Rattle.rsa_key.specs.Octets.{os2ip, i2osp}
-use Rattle.rsa.specs.Primitives.{rsavp1}
 use Rattle.rsa.specs.Power.{squareAndMultiply}
 use Rattle.rsa_key.specs.Key.{numberIn, publicKey, supportedBits, hasBits}
-use Rattle.rsa.specs.Signature.{encoded, outcomeOf, report, verified, verifiedBy, verification}
+use Rattle.rsa.specs.Signature.{rsavp1, encoded, outcomeOf, report, verified, verifiedBy, verification}
 use Rattle.rsa_key.specs.declared.key.PublicKey.the-variants.{Valid, Invalid}
 use Rattle.rsa.specs.declared.verify.Outcome.the-variants.{InvalidSignature, InvalidKey}
 

@@ -1,4 +1,3 @@
-pub mod Primitives
 pub mod Power
 pub mod Signature
 pub mod code

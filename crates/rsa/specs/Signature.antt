@@ -1,5 +1,5 @@
--- RSASSA-PKCS1-v1_5 with SHA-256, the hash handed in (RFC 8017, sections 8.2.2 and 9.2).
-use Prim.Native.Nat.{ℕ, _-_, _/_}
+-- RSASSA-PKCS1-v1_5 with SHA-256, the hash handed in (RFC 8017, sections 5.2.2, 8.2.2 and 9.2).
+use Prim.Native.Nat.{ℕ, _-_, _/_, _%_, _^_}
 use mathlib.Core.Bool.{Bool, _&&_}
 use mathlib.Core.List.{List, [], _∷_, _++_}
 use lib.ListN.{length, replicate}
@@ -7,7 +7,6 @@ use lib.Dec.{eqb, ltb}
 use Rattle.wire.specs.Choice.{if_then_else_}
 use Rattle.wire.specs.Lists.{every, same}
 use Rattle.rsa_key.specs.Octets.{os2ip, i2osp}
-use Rattle.rsa.specs.Primitives.{rsavp1}
 use Rattle.rsa.specs.Power.{squareAndMultiply}
 use Rattle.rsa_key.specs.Key.{numberIn, publicKey, supportedBits, hasBits}
 use Rattle.rsa_key.specs.declared.key.PublicKey.{PublicKey}
@@ -15,6 +14,10 @@ use Rattle.rsa_key.specs.declared.key.PublicKey.the-variants.{Valid, Invalid}
 use Rattle.rsa.specs.declared.verify.Outcome.{Outcome}
 use Rattle.rsa.specs.declared.verify.Outcome.the-variants.{ValidSignature, InvalidSignature, InvalidKey}
 use Rattle.rsa.specs.declared.verify.Verification.{Verification}
+
+-- the verification primitive (section 5.2.2), for a representative below n
+abbrev pub rsavp1 : (n e s : ℕ) → ℕ
+rsavp1 n e s = s ^ e % n
 
 -- the DigestInfo of SHA-256 up to the hash (section 9.2, note 1); its NULL parameter is there
 abbrev pub digestPrefix : List ℕ

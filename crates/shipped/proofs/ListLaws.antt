@@ -18,7 +18,7 @@ use Rattle.registry.specs.Names.{isNew}
 use Rattle.records.specs.Records.{Record, recordLength, valueIn, next, stop}
 use Rattle.records.proofs.RecordLaws.{StepHas, records-empty, records-have, records-append}
 use Rattle.shipped.specs.Shipped.{ListedKey, namesOf, listedMost, Pairs, whole, named, nameTests, dataTests, pairStep, pairsDone, listOf, wellFormedList, keysIn, listedNamed}
-use Rattle.shipped.specs.code.Pairs.{behind, isPair, pairLength, keyIn, dataAt, dataOf, Finds}
+use Rattle.shipped.specs.code.Pairs.{behind, isPair, pairLength, keyIn, dataFound, dataOf, Finds}
 use Rattle.shipped.specs.declared.Listed.{Listed}
 use Rattle.shipped.proofs.PairLaws.{readPairs, pair-long, pair-room, pairs-none, pairs-over, pairs-repeated, pairs-on, front-pair, front-key, front-long}
 
@@ -223,7 +223,7 @@ module _ (list : List ℕ) (at n m : ℕ) (first : n ≡ recordLength (drop at l
   data-end e = omega (arith, first, second, pair-long (drop at list) e)
 
 -- a search finds something where the name is not new
-pub finds-new : (list name : List ℕ) (found : Listed) → Finds list name found → isNew name (namesOf (keysIn list)) ≡ not (isSome (dataAt list found))
+pub finds-new : (list name : List ℕ) (found : Listed) → Finds list name found → isNew name (namesOf (keysIn list)) ≡ not (isSome (dataFound list found))
 unfolding dataOf isSome
 finds-new list name found f =
     new-named name (keysIn list) ∙ ap not (some-data (listedNamed name (keysIn list)) ∙ ap isSome (sym (f .bytes)))

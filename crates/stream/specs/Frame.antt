@@ -6,10 +6,8 @@ use lib.ListN.{length, take}
 use lib.Dec.{leb, ltb, eqb}
 use Rattle.wire.specs.Choice.{if_then_else_}
 use Rattle.wire.specs.Request.{magicNumber, magic, headerSize, contentLength, authLength, headerLength, requestLength}
-
 -- the bounds of H, C and A
-abbrev pub headerLeast : ℕ
-headerLeast = 22
+pub use Rattle.wire.specs.Request.{headerLeast}
 
 abbrev pub headerMost : ℕ
 headerMost = 64

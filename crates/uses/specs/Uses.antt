@@ -1,4 +1,4 @@
--- Document 02, "Use per key", so that finance's lines add up: which requests of a stream use an application's own keys.
+-- Which requests of a stream use an application's own keys (document 02, "Use per key").
 use Prim.Native.Nat.{ℕ, _+_}
 use mathlib.Core.Bool.{Bool, false, not, _&&_}
 use mathlib.Core.Option.{Option, none, some, bind}

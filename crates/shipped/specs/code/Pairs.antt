@@ -50,9 +50,9 @@ keyIn bytes = record { name = valueIn bytes; bytes = valueIn (behind bytes) }
 abbrev pub partAt : (list : List ℕ) → Span → List ℕ
 partAt list span = take (span .len) (drop (span .start) list)
 
-unfoldable pub dataAt : (list : List ℕ) → Listed → Option (List ℕ)
-dataAt list (At span) = some (partAt list span)
-dataAt list Nothing = none
+unfoldable pub dataFound : (list : List ℕ) → Listed → Option (List ℕ)
+dataFound list (At span) = some (partAt list span)
+dataFound list Nothing = none
 
 unfoldable pub dataOf : Option ListedKey → Option (List ℕ)
 dataOf (some key) = some (key .bytes)
@@ -64,5 +64,5 @@ placeEnd Nothing = 0
 
 -- the part at the place is the data of the key with the name, and lies within the list
 pub record Finds (list name : List ℕ) (found : Listed) : Type 0 where
-  pub bytes : dataAt list found ≡ dataOf (listedNamed name (keysIn list))
+  pub bytes : dataFound list found ≡ dataOf (listedNamed name (keysIn list))
   pub within : placeEnd found ≤ length list

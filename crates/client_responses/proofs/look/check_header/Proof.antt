@@ -7,7 +7,7 @@ use lib.ListN.{drop}
 use lib.Dec.{ltb}
 use mathlib.Core.List.{[]}
 use Rattle.wire.specs.Choice.{firstOf}
-use Rattle.client_responses.specs.Reading.{Asked, contentMost, headerTests}
+use Rattle.client_responses.specs.Reading.{Asked, responseContentMost, headerTests}
 use Rattle.client_responses.specs.code.Looked.{checkOf}
 use Rattle.client_responses.specs.declared.ReadRefusal.the-variants.{ContentTooLong}
 use Rattle.client_responses.specs.declared.look.HeaderCheck.{HeaderCheck}
@@ -75,7 +75,7 @@ returns-6 : tie.Need-returns-6
 unfolding headerTests firstOf
 returns-6 c =
     let h = s4 (c .before .before) .args .h in
-    sym (left4 (c .before .before) ∙ passes (ltb contentMost (h .«content_length»)) ContentTooLong [] (le-ltb _ _ (c .if5 .left)))
+    sym (left4 (c .before .before) ∙ passes (ltb responseContentMost (h .«content_length»)) ContentTooLong [] (le-ltb _ _ (c .if5 .left)))
 
 pub check-header-spec : {M : Type 1} → statement M
 check-header-spec =

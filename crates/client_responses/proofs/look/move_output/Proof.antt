@@ -2,7 +2,7 @@
 use mathlib.Core.Path.{sym, ap, subst, _∙_}
 use Rattle.messages.specs.Placed.{OutputWithin}
 use Rattle.messages.specs.declared.read.Output.the-variants.{Providers, Opcodes, Data}
-use Rattle.client_responses.specs.Reading.{contentMost}
+use Rattle.client_responses.specs.Reading.{responseContentMost}
 use Rattle.client_responses.specs.code.Looked.{bodyAt, outputMoved}
 use borrow.Author.Needs.{needs}
 use Rattle.client_responses.proofs.look.move_output.Statement.{statement}
@@ -18,19 +18,19 @@ enum-known-output-2 : tie.Need-enum-known-output-2
 enum-known-output-2 c = search needs
 
 move-span-requires : tie.Need-move-span-requires
-move-span-requires c κs = subst (OutputWithin contentMost) (c .before .output2 .given .1) (c .before .before .before .pre)
+move-span-requires c κs = subst (OutputWithin responseContentMost) (c .before .output2 .given .1) (c .before .before .before .pre)
 
 enum-known-output-3 : tie.Need-enum-known-output-3
 enum-known-output-3 c = search needs
 
 move-span-requires-2 : tie.Need-move-span-requires-2
-move-span-requires-2 c κs = subst (OutputWithin contentMost) (c .before .output3 .given .1) (c .before .before .before .pre)
+move-span-requires-2 c κs = subst (OutputWithin responseContentMost) (c .before .output3 .given .1) (c .before .before .before .pre)
 
 enum-known-output-4 : tie.Need-enum-known-output-4
 enum-known-output-4 c = search needs
 
 move-span-requires-3 : tie.Need-move-span-requires-3
-move-span-requires-3 c κs = subst (OutputWithin contentMost) (c .before .output4 .given .1) (c .before .before .before .pre)
+move-span-requires-3 c κs = subst (OutputWithin responseContentMost) (c .before .output4 .given .1) (c .before .before .before .pre)
 
 returns : tie.Need-returns
 returns c = search needs

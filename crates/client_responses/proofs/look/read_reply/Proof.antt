@@ -10,7 +10,7 @@ use Rattle.messages.specs.Operations.{outputOf}
 use Rattle.messages.specs.Placed.{readIn, OutputWithin, ReadWithin}
 use Rattle.messages.specs.declared.read.Output.{Output as OutputPlaces}
 use Rattle.messages.specs.declared.read.OutputRead.{OutputRead}
-use Rattle.client_responses.specs.Reading.{contentMost, bodyReply}
+use Rattle.client_responses.specs.Reading.{responseContentMost, bodyReply}
 use Rattle.client_responses.specs.code.Looked.{bodyAt, Looked}
 use Rattle.client_responses.specs.declared.look.Said.the-variants.{Response}
 use Rattle.client_responses.proofs.LookLaws.{within-more, body-long, said-status, said-body, said-output, said-unreadable}
@@ -72,7 +72,7 @@ enum-known-output c = search needs
 move-output-requires : tie.Need-move-output-requires
 move-output-requires c κs =
     let s = c .before .before .before .before .before .before .before in
-    within-more (s .args .content) contentMost (s .pre .1) (c .before .output .given .0 .0) (output-within c)
+    within-more (s .args .content) responseContentMost (s .pre .1) (c .before .output .given .0 .0) (output-within c)
 
 enum-told : tie.Need-enum-told
 enum-told c = search needs

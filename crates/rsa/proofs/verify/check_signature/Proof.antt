@@ -9,9 +9,8 @@ use lib.Dec.{eqb}
 use lib.ListN.{length}
 use Rattle.bignum.specs.Numbers.{valueOf}
 use Rattle.rsa_key.specs.Octets.{os2ip}
-use Rattle.rsa.specs.Primitives.{rsavp1}
 use Rattle.rsa.specs.Power.{Powered, powered, squareAndMultiply}
-use Rattle.rsa.specs.Signature.{outcomeOf, report}
+use Rattle.rsa.specs.Signature.{rsavp1, outcomeOf, report}
 use Rattle.rsa.specs.declared.verify.Outcome.{Outcome}
 use Rattle.rsa.proofs.PowerLaws.{power-right}
 use Rattle.rsa.proofs.SignatureLaws.{wrong-hash, wrong-length, too-large, judged}

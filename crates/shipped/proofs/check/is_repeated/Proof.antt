@@ -12,7 +12,7 @@ use Rattle.wire.specs.Lists.{all}
 use Rattle.registry.specs.Names.{isNew}
 use Rattle.keys.specs.code.Marks.{differsFrom}
 use Rattle.shipped.specs.Shipped.{namesOf, keysIn}
-use Rattle.shipped.specs.code.Pairs.{dataAt}
+use Rattle.shipped.specs.code.Pairs.{dataFound}
 use Rattle.shipped.specs.code.Marks.{markOf}
 use Rattle.shipped.specs.declared.Listed.{Listed}
 use Rattle.shipped.proofs.ListLaws.{finds-new}
@@ -29,11 +29,11 @@ start c = c .before .before .before .before .before
 -- what was found says whether the name is new
 new : (c : tie.After-find-listed) (found : Listed) → c .find-listed .result ≡ found
     → let s = start (c .before .before) in
-    not (isNew (s .args .name .now) (namesOf (keysIn (before s)))) ≡ not (not (isSome (dataAt (before s) found)))
+    not (isNew (s .args .name .now) (namesOf (keysIn (before s)))) ≡ not (not (isSome (dataFound (before s) found)))
 new c found e =
     let s = start (c .before .before) in
     ap not (finds-new (before s) (s .args .name .now) (c .find-listed .result) (c .find-listed .ensures)
-    ∙ ap (λ (l : Listed). not (isSome (dataAt (before s) l))) e)
+    ∙ ap (λ (l : Listed). not (isSome (dataFound (before s) l))) e)
 
 is-among-requires : tie.Need-is-among-requires
 is-among-requires c κs = search needs
@@ -60,11 +60,11 @@ enum-told-2 : tie.Need-enum-told-2
 enum-told-2 c = search needs
 
 returns-2 : tie.Need-returns-2
-unfolding dataAt isSome
+unfolding dataFound isSome
 returns-2 c = sym (new (c .before .before) _ (c .enum-told .given .1))
 
 returns-3 : tie.Need-returns-3
-unfolding dataAt isSome
+unfolding dataFound isSome
 returns-3 c = sym (new (c .before .before) _ (c .enum-told2 .given .1))
 
 pub is-repeated-spec : {M : Type 1} → statement M

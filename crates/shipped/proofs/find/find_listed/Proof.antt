@@ -15,7 +15,7 @@ use Rattle.registry.specs.Names.{isNew}
 use Rattle.records.specs.Records.{recordLength, valueIn, isWhole}
 use Rattle.records.proofs.RecordLaws.{whole-room}
 use Rattle.shipped.specs.Shipped.{ListedKey, namesOf, whole, listOf, keysIn, listedNamed}
-use Rattle.shipped.specs.code.Pairs.{behind, isPair, pairLength, keyIn, dataAt, dataOf, placeEnd}
+use Rattle.shipped.specs.code.Pairs.{behind, isPair, pairLength, keyIn, dataFound, dataOf, placeEnd}
 use Rattle.shipped.proofs.PairLaws.{readPairs, pair-long, pair-room, pair-whole, behind-whole}
 use Rattle.shipped.proofs.ListLaws.{good-list, pairs-end, next-pair, next-on, begins, named-here, named-none, some-same, new-more, data-there, data-end}
 use Rattle.shipped.proofs.find.find_listed.Statement.{statement}
@@ -149,7 +149,7 @@ equal-requires : tie.Need-equal-requires Inv-loop μ-loop
 equal-requires c κs = search needs
 
 returns : tie.Need-returns Inv-loop μ-loop
-unfolding dataAt dataOf placeEnd
+unfolding dataFound dataOf placeEnd
 returns c =
     let s = c .before .before .before in
     let t = turn s in
@@ -187,7 +187,7 @@ loop-again c =
     )
 
 returns-2 : tie.Need-returns-2 Inv-loop μ-loop
-unfolding dataAt dataOf placeEnd
+unfolding dataFound dataOf placeEnd
 returns-2 c =
     let s = c .before .before .before .before .args in
     let l = c .before .loop in
