@@ -137,3 +137,27 @@ slot-there registry line k h =
     let l : List ℕ = lineAt registry line in
     map-at slotOf (slotsIn l) k [] free (rw (length-blocks slotSize slotCount (drop lineHead l)) h)
     ∙ ap slotOf (block-at slotSize slotCount (drop lineHead l) k h ∙ slot-place registry (line .0) k h)
+
+-- ---- an application and its name
+
+-- the name that an application was found by is its line's
+pub found-line : (registry name : List ℕ) (line : Line) → applicationNamed registry name ≡ some line → getD (namesIn registry) (line .0) [] ≡ name
+unfolding applicationNamed lineNumber
+found-line registry name line e = go (ltb 0 (length name) && ltb i lineCount) refl e
+  where
+    i : ℕ
+    i = indexFrom name (namesIn registry) 0
+
+    go : (t : Bool) → ltb 0 (length name) && ltb i lineCount ≡ t
+        → (let found : Option Line = if t then some (record { 0 = i }) else none in found) ≡ some line → getD (namesIn registry) (line .0) [] ≡ name
+    go false q w = absurd (some≢none line (sym w))
+    go true q w =
+        let n : i ≡ line .0 = ap lineNumber w in
+        let below : i < lineCount = ltb-true _ _ (and-right (ltb 0 (length name)) _ q) in
+        let at : i - 0 ≡ line .0 = omega arith in
+        sym (same-true name _ (subst (λ (m : ℕ). same name (getD (namesIn registry) m []) ≡ true) at (index-same name (namesIn registry) 0 below)))
+
+-- it is found by the names alone
+pub found-by-names : (r s name : List ℕ) → namesIn r ≡ namesIn s → applicationNamed r name ≡ applicationNamed s name
+unfolding applicationNamed
+found-by-names r s name e = rw e

@@ -19,12 +19,12 @@ use Rattle.keys.specs.Key.{Key}
 use Rattle.keys.specs.Names.{keyNameMost, legalName}
 use Rattle.keys.proofs.NameLaws.{legal-some}
 use Rattle.registry.specs.Names.{nameIn}
-use Rattle.registry.specs.Slots.{free, held, nameOf, keyBytes, slotBytes, slotOf, slotSize, usesAt, usesIn, used, usedSlot, keyTests, wellFormedSlot}
+use Rattle.registry.specs.Slots.{Entry, free, held, nameOf, keyBytes, slotBytes, slotOf, slotSize, usesAt, usesIn, used, usedSlot, keyTests, wellFormedSlot}
 use Rattle.registry.specs.Registry.{lineCount, slotCount, lineHead, lineSize, registrySize, linesIn, slotsIn, lineAt, slotsOf, usesOf, place, slotAt, Change, unchanged, fill, clear, addUse, changed}
 use Rattle.registry.specs.WellFormed.{wellFormedRegistry}
 use Rattle.registry.specs.declared.Line.{Line}
 use Rattle.registry.specs.declared.Slot.{Slot}
-use Rattle.registry.proofs.SlotLaws.{Legal, name-of, free-slot, key-slot, key-length, key-unused}
+use Rattle.registry.proofs.SlotLaws.{Legal, name-of, free-slot, key-slot, key-length, key-unused, short-name, short-data, slot-back}
 use Rattle.registry.proofs.RegistryLaws.{slot-place, slot-there, slot-below}
 use Rattle.registry.proofs.UsedLaws.{length-used, uses-used, held-named, slot-used}
 use Rattle.registry.proofs.WellFormedLaws.{Allowed, stays, fills, clears, uses, good-of, slot-good}
@@ -159,3 +159,41 @@ module _ (r : List ℕ) (w : wellFormedRegistry r ≡ true) (line : Line) (hl : 
   pub others-uses : (c : Change) → Allowed (slotsOf r line) c → usesOf (changed r line c) line′ ≡ usesOf r line′
   unfolding usesOf
   others-uses c a = ap (λ (l : List ℕ). map usesIn (slotsIn l)) (change-apart c a)
+
+-- ---- what a change makes of its line: it goes by the line's slots and counts alone
+
+unfoldable pub changedSlots : List Entry → Change → List Entry
+changedSlots slots unchanged = slots
+changedSlots slots (fill slot key) = set slots (slot .0) (held key)
+changedSlots slots (clear slot) = set slots (slot .0) free
+changedSlots slots (addUse slot) = slots
+
+unfoldable pub changedUses : List ℕ → Change → List ℕ
+changedUses counts unchanged = counts
+changedUses counts (fill slot key) = set counts (slot .0) 0
+changedUses counts (clear slot) = set counts (slot .0) 0
+changedUses counts (addUse slot) = set counts (slot .0) (used (getD counts (slot .0) 0))
+
+module _ (r : List ℕ) (w : wellFormedRegistry r ≡ true) (line : Line) (hl : line .0 < lineCount) where
+  -- a slot that is written: the others stay
+  set-slots : (slot : Slot) → slot .0 < slotCount → (v : List ℕ) → length v ≡ slotSize
+      → slotsOf (put r (place line slot) v) line ≡ set (slotsOf r line) (slot .0) (slotOf v)
+  unfolding slotsOf
+  set-slots slot hk v long =
+      ap (map slotOf) (slots-put r (good-of r w .size) line hl slot hk v long) ∙ map-set slotOf (slotsIn (lineAt r line)) (slot .0) v
+
+  pub own-slots : (c : Change) → Allowed (slotsOf r line) c → slotsOf (changed r line c) line ≡ changedSlots (slotsOf r line) c
+  unfolding changed changedSlots slotBytes slotOf
+  own-slots unchanged stays = refl
+  own-slots (fill slot key) (fills legal n e) =
+      set-slots slot (slot-below r line [] slot e) (keyBytes key) (key-length key legal)
+      ∙ ap (set (slotsOf r line) (slot .0)) (slot-back key (short-name key legal) (short-data key legal) (legal-some keyNameMost (key .name) (legal .name)))
+  own-slots (clear slot) (clears name e) = set-slots slot (slot-below r line name slot e) (slotBytes free) (length-replicate {A = ℕ} slotSize 0)
+  own-slots (addUse slot) (uses name key e q) = added-slots r w line hl slot (slot-below r line name slot e) key q
+
+  pub own-uses : (c : Change) → Allowed (slotsOf r line) c → usesOf (changed r line c) line ≡ changedUses (usesOf r line) c
+  unfolding changedUses
+  own-uses unchanged stays = unfold changed in refl
+  own-uses (fill slot key) (fills legal n e) = filled-uses r w line hl slot (slot-below r line [] slot e) key legal
+  own-uses (clear slot) (clears name e) = cleared-uses r w line hl slot (slot-below r line name slot e)
+  own-uses (addUse slot) (uses name key e q) = added-uses r w line hl slot (slot-below r line name slot e)
