@@ -7,3 +7,6 @@ pub mod NamesLaws
 pub mod ResponseLaws
 pub mod DecidedLaws
 pub mod OrderLaws
+pub mod CountLaws
+pub mod AskerLaws
+pub mod VerdictLaws
