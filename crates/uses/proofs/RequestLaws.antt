@@ -1,20 +1,19 @@
 -- What one request does to the counts of an application: a use adds one to one of them, and any other that destroys no key leaves
 -- them as they are.
 use mathlib.Core.Path.{_≡_, refl, sym, ap, ap₂, _∙_, subst}
-use mathlib.Core.Bool.{Bool, true, false, true≢false, not, _&&_, and-true}
+use mathlib.Core.Bool.{Bool, true, false, true≢false, not, _&&_}
 use mathlib.Core.Option.{Option, none, some, bind}
 use mathlib.Core.List.{List, [], _∷_, map}
 use Prim.Native.Nat.{ℕ, _<_}
-use native.Mathlib.Decide.{ℕ-discrete}
 use native.Mathlib.Omega.{arith}
-use borrow.Author.Tests.{eq-eqb, eqb-true, eqb-false}
+use borrow.Author.Tests.{eq-eqb, eqb-true}
 use lib.ListN.{length, getD, set, length-map}
 use lib.Seq.{set-getD}
 use lib.Dec.{ltb, eqb}
 use Rattle.wire.specs.Choice.{firstOf, isSome}
 use Rattle.wire.specs.Lists.{same}
 use Rattle.wire.specs.Request.{Request, requestOf}
-use Rattle.wire.proofs.TestLaws.{some≢none, not-across, every-at, first-has, AllHave, either}
+use Rattle.wire.proofs.TestLaws.{some≢none, not-across, every-at, first-has, either}
 use Rattle.wire.proofs.ListLaws.{all-at, map-at, same-refl}
 use Rattle.keys.specs.Key.{Key, importBits}
 use Rattle.keys.specs.Names.{legalName, keyNameMost}
@@ -30,8 +29,7 @@ use Rattle.registry.specs.declared.Found.{Found}
 use Rattle.registry.specs.declared.Found.the-variants.{At, Nothing}
 use Rattle.registry.proofs.SlotLaws.{Legal}
 use Rattle.registry.proofs.RegistryLaws.{found-below, found-name, found-none, slot-below}
-use Rattle.registry.proofs.WellFormedLaws.{Allowed}
-use Rattle.registry.proofs.UseLaws.{length-uses, filled-uses, added-uses, free-unused, others-uses}
+use Rattle.registry.proofs.UseLaws.{length-uses, filled-uses, added-uses, free-unused}
 use Rattle.shipped.specs.Shipped.{ListedKey, keysIn}
 use Rattle.lookup.specs.Lookup.{Source, own, listed, keyOf, ownIn, keyNamed}
 use Rattle.lookup.proofs.LookupLaws.{own-named}
@@ -39,15 +37,15 @@ use Rattle.rsa.specs.Signature.{verification}
 use Rattle.rsa.specs.declared.verify.Outcome.{Outcome}
 use Rattle.rsa.specs.declared.verify.Outcome.the-variants.{ValidSignature, InvalidSignature, InvalidKey}
 use Rattle.stream.specs.Frame.{legalStart, oversized}
-use Rattle.stream.specs.Rules.{Verdict, judge}
-use Rattle.stream.specs.Parts.{verdictOn}
 use Rattle.judgement.specs.Status.{statusNumber}
 use Rattle.judgement.specs.Operations.{Result, success, refuse, importable, performImport, counted, exportOf, performExport, hashSize, checked, verifyWith, performVerify, performListOpcodes, perform, operated}
-use Rattle.judgement.specs.Counts.{Counts, noCounts}
-use Rattle.judgement.specs.Judgement.{applicationOf, refusals, askersSlots, resultOf, changedBy, verdictOf, refusedEarly, judgement}
+use Rattle.judgement.specs.Counts.{noCounts}
+use Rattle.judgement.specs.Judgement.{applicationOf, refusals, askersSlots, resultOf}
 use Rattle.judgement.specs.declared.Status.{Status}
 use Rattle.judgement.proofs.SourceLaws.{own-there}
-use Rattle.judgement.proofs.JudgementLaws.{asks, importable-legal, result-allowed, refused-keeps}
+use Rattle.judgement.proofs.JudgementLaws.{importable-legal}
+use Rattle.judgement.proofs.AskerLaws.{Refusing, all-refusing}
+use Rattle.judgement.proofs.VerdictLaws.{ServedFor, untouched, asked-registry}
 use Rattle.uses.specs.Uses.{asked, keyUsed, keyDestroyed, isFor, isServed, isOwn, isUse, destroysKey, registryAfter}
 
 -- ---- whose key a name stands for
@@ -183,21 +181,15 @@ module _ (slots : List Entry) (keys : List ListedKey) where
       go none e = rw (e, operated) (refuses refl)
       go (some operation) e = rw (e, operated) (by-operation operation)
 
-Refusing : Status → Type 0
-Refusing status = eqb (statusNumber status) 0 ≡ false
-
 ended : (list r request : List ℕ) → Ended (askersSlots r (applicationOf r (requestOf request))) (asked request) (resultOf list r (requestOf request))
-unfolding resultOf asked refusals statusNumber refuse Refusing
+unfolding resultOf asked refuse
 ended list r request = go (firstOf (refusals r q)) refl
   where
     q : Request
     q = requestOf request
 
-    refusing : AllHave Refusing (refusals r q)
-    refusing = (refl, (refl, (refl, (refl, (refl, (refl, (refl, (refl, (refl, (refl, tt))))))))))
-
     go : (o : Option Status) → firstOf (refusals r q) ≡ o → Ended (askersSlots r (applicationOf r q)) (asked request) (resultOf list r q)
-    go (some status) e = rw (e, resultOf) (refuses (first-has Refusing (refusals r q) refusing status e))
+    go (some status) e = rw (e, resultOf) (refuses (first-has Refusing (refusals r q) (all-refusing r q) status e))
     go none e = rw (e, resultOf) (by-body (askersSlots r (applicationOf r q)) (keysIn list) (q .opcode) (q .body))
 
 -- ---- what it does to the counts
@@ -217,32 +209,13 @@ module _ (list r : List ℕ) (w : wellFormedRegistry r ≡ true) (line : Line) (
   abbrev after : List ℕ
   after = registryAfter list r request
 
-  -- a whole one, by the application of the line: it is served if its status is 0
-  by-status : legalStart request ≡ true → oversized request ≡ false → (l : Line) → applicationOf r q ≡ some l → l .0 ≡ line .0
-      → isServed list line r request ≡ eqb (statusNumber (x .status)) 0
+  served-is : ServedFor list r line request → isServed list line r request ≡ true
   unfolding isServed isFor
-  by-status a b l c e = rw (a, b, c, eq-eqb (l .0) (line .0) e) (and-true _)
+  served-is s = rw (s .legal, s .small, s .asker, eq-eqb (line .0) (line .0) refl, eq-eqb (statusNumber (x .status)) 0 (s .status))
 
   unserved-stays : isServed list line r request ≡ false → usesOf after line ≡ usesOf r line
-  unfolding registryAfter verdictOn judge judgement refusedEarly verdictOf changedBy askersSlots
-  unserved-stays e =
-      either Same (legalStart request)
-      (λ a. either Same (oversized request) (λ _. refl) (λ b. whole a b (applicationOf r q) refl (result-allowed list r q)))
-      (λ _. refl)
-    where
-      Same : Verdict (List ℕ) Counts (List ℕ) → Type 0
-      Same v = usesOf (v .registry) line ≡ usesOf r line
-
-      whole : legalStart request ≡ true → oversized request ≡ false → (o : Option Line) → applicationOf r q ≡ o
-          → Allowed (askersSlots r o) (x .change) → usesOf (changedBy r o x) line ≡ usesOf r line
-      whole a b none c ok = refl
-      whole a b (some l) c ok = elim (ℕ-discrete (l .0) (line .0)) [
-        | yes same ↦
-            let refused : eqb (statusNumber (x .status)) 0 ≡ false = sym (by-status a b l c same) ∙ e in
-            ap (λ (s : List ℕ). usesOf s line)
-            (ap (λ (o : Option Line). changedBy r o x) (sym c) ∙ refused-keeps list r noCounts request (eqb-false _ _ refused))
-        | no other ↦ others-uses r w l (asks r q l c .there) line hl other (x .change) ok
-      ]
+  unfolding registryAfter
+  unserved-stays e = untouched list r w noCounts line hl request (λ s. true≢false (sym (served-is s) ∙ e)) .uses
 
   module _ (served : isServed list line r request ≡ true) where
     tests : List Bool
@@ -261,11 +234,8 @@ module _ (list r : List ℕ) (w : wellFormedRegistry r ≡ true) (line : Line) (
         go (some l) e = ap some (λ i. record { 0 = eqb-true (l .0) (line .0) e i })
 
     served-after : after ≡ changed r line (x .change)
-    unfolding registryAfter verdictOn judge judgement verdictOf changedBy tests
-    served-after =
-        let legal : legalStart request ≡ true = test 0 in
-        let small : oversized request ≡ false = not-across (oversized request) true (test 1) in
-        rw (registryAfter, verdictOn, legal, judge, small, changedBy, application)
+    unfolding registryAfter tests
+    served-after = asked-registry list r w noCounts line hl request (test 0) (not-across (oversized request) true (test 1)) application
 
     served-step : destroysKey list line r request ≡ false → Step (usesOf r line) (usesOf after line) (isUse list line r request)
     unfolding isUse destroysKey askersSlots tests changed

@@ -9,20 +9,20 @@ use lib.ListN.{getD, set}
 use lib.Dec.{ltb}
 use Rattle.wire.specs.Choice.{if_then_else_}
 use Rattle.wire.specs.Lists.{all}
-use Rattle.wire.proofs.TestLaws.{and-left, and-right, either}
+use Rattle.wire.proofs.TestLaws.{and-left, and-right}
 use Rattle.wire.proofs.ListLaws.{all-at}
 use Rattle.registry.specs.Slots.{usesMost, used}
 use Rattle.registry.specs.Registry.{lineCount, usesOf}
 use Rattle.registry.specs.WellFormed.{wellFormedRegistry}
 use Rattle.registry.specs.declared.Line.{Line}
 use Rattle.stream.specs.Frame.{legalStart, oversized}
-use Rattle.stream.specs.Rules.{Verdict, judge, rules}
+use Rattle.stream.specs.Rules.{judge, rules}
 use Rattle.stream.specs.Parts.{partsOf, verdictOn}
 use Rattle.stream.specs.Calls.{Call, takenStream}
 use Rattle.stream.proofs.PartsLaws.{registryFrom, rules-registry}
 use Rattle.judgement.specs.Counts.{Counts, noCounts, sum, increment}
 use Rattle.judgement.specs.Judgement.{refusedEarly, verdictOf, judgement}
-use Rattle.judgement.proofs.JudgementLaws.{judge-good}
+use Rattle.judgement.proofs.VerdictLaws.{verdict-kept}
 use Rattle.counters.proofs.RequestLaws.{sum-increment}
 use Rattle.service.specs.Call.{Memory, memoryOf, fresh}
 use Rattle.service.proofs.CodeDemand3.{Ran, Runs, answersIn, leftAfter, code-demand3}
@@ -75,10 +75,8 @@ module _ (list : List ℕ) where
       go true p false q = rw (registryAfter, verdictOn, p, judge, q)
 
   after-good : (r : List ℕ) → wellFormedRegistry r ≡ true → (request : List ℕ) → wellFormedRegistry (registryAfter list r request) ≡ true
-  unfolding registryAfter verdictOn judgement refusedEarly
-  after-good r w request =
-      either (λ (v : Verdict (List ℕ) Counts (List ℕ)). wellFormedRegistry (v .registry) ≡ true) (legalStart request)
-      (λ _. judge-good list r noCounts request w) (λ _. w)
+  unfolding registryAfter
+  after-good r w request = verdict-kept list r noCounts request w .0
 
   module _ (line : Line) (hl : line .0 < lineCount) where
     abbrev left : (r : List ℕ) → Counts → (requests : List (List ℕ)) → List ℕ
