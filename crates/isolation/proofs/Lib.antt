@@ -1,0 +1,6 @@
+pub mod CallLaws
+pub mod Replay
+pub mod SerialLaws
+pub mod Projections
+pub mod Isolation
+pub mod CodeIsolation
