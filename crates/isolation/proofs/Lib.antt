@@ -4,3 +4,4 @@ pub mod SerialLaws
 pub mod Projections
 pub mod Isolation
 pub mod CodeIsolation
+pub mod Shown
