@@ -1,5 +1,7 @@
 //! Where things lie in registry memory, by docs/LAYOUT.md.
 
+use std::ops::Range;
+
 pub const LINES: usize = 8;
 pub const SLOTS: usize = 8;
 pub const LINE_SIZE: usize = 5_209;
@@ -46,6 +48,11 @@ pub fn line_at(line: usize) -> usize {
 
 pub fn slot_at(place: Place) -> usize {
     line_at(place.line) + 65 + place.slot * SLOT_SIZE
+}
+
+/// All slots of a line.
+pub fn slots_of(line: usize) -> Range<usize> {
+    slot_at(Place { line, slot: 0 })..line_at(line + 1)
 }
 
 pub fn slot_bytes(registry: &[u8], place: Place) -> &[u8] {

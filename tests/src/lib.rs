@@ -19,6 +19,9 @@ pub mod differential;
 #[allow(unsafe_code)]
 pub mod foreign;
 pub mod generate;
+pub mod histories;
+pub mod isolation;
+pub mod isolation_reached;
 pub mod layout;
 pub mod lent;
 pub mod listed;
@@ -27,6 +30,7 @@ pub mod oracle;
 pub mod reached;
 pub mod requests;
 pub mod run;
+pub mod senders;
 pub mod service;
 pub mod sha256;
 pub mod shipped;

@@ -17,7 +17,7 @@ pub const MOST_USES: u32 = 4_294_967_295;
 pub struct Asked<'a> {
     opcode: u16,
     pub application: &'a [u8],
-    name: &'a [u8],
+    pub name: &'a [u8],
 }
 
 impl Asked<'_> {

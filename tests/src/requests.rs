@@ -16,9 +16,9 @@ const PROVIDER_AT: usize = 8;
 const SESSION_AT: usize = 9;
 const CONTENT_TYPE_AT: usize = 17;
 const ACCEPT_TYPE_AT: usize = 18;
-const AUTH_TYPE_AT: usize = 19;
+pub(crate) const AUTH_TYPE_AT: usize = 19;
 const CONTENT_LENGTH_AT: usize = 20;
-const AUTH_LENGTH_AT: usize = 24;
+pub(crate) const AUTH_LENGTH_AT: usize = 24;
 const OPCODE_AT: usize = 26;
 /// 6 + H for H = 22.
 const SHORTEST_HEADER: usize = 28;
@@ -32,6 +32,14 @@ pub struct Application {
 impl Application {
     pub fn name(&self) -> &[u8] {
         &self.name
+    }
+
+    /// The same one, which asks for the other's keys as often as for its own.
+    pub fn asking_for_keys_of(&self, other: &Application) -> Application {
+        Application {
+            name: self.name.clone(),
+            keys: [&self.keys[..], &other.keys].concat(),
+        }
     }
 }
 
@@ -94,7 +102,7 @@ pub fn requests(random: &mut Random, applications: &[Application], most: usize) 
 
 /// One request, good more often than not. Few are out of step with the next one, since what follows
 /// those is dropped.
-fn some_request(random: &mut Random, application: &Application) -> Vec<u8> {
+pub fn some_request(random: &mut Random, application: &Application) -> Vec<u8> {
     let request = whole_request(random, application);
     match random.below(200) {
         0..140 => request,
@@ -272,7 +280,7 @@ fn with_auth(random: &mut Random, mut request: Vec<u8>) -> Vec<u8> {
 }
 
 /// Status 17, and closed.
-fn with_bad_start(random: &mut Random, mut request: Vec<u8>) -> Vec<u8> {
+pub fn with_bad_start(random: &mut Random, mut request: Vec<u8>) -> Vec<u8> {
     let header_size = random.pick(&[0_u16, 21, 65, 22 + 256]);
     match random.below(6) {
         0 | 1 => set(&mut request, H_AT, &header_size.to_le_bytes()),
