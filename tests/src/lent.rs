@@ -48,6 +48,11 @@ impl Lent {
         &self.response[..self.response.len() - GUARD]
     }
 
+    pub fn response_mut(&mut self) -> &mut [u8] {
+        let length = self.response.len() - GUARD;
+        &mut self.response[..length]
+    }
+
     pub fn call_proved(&mut self, chunk: &[u8]) -> Answer {
         let length = self.response.len() - GUARD;
         raw::call(

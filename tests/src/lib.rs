@@ -37,6 +37,7 @@ pub mod shipped;
 pub mod signatures;
 pub mod unlisted;
 pub mod vectors;
+pub mod wrong_services;
 
 // Each block stands by itself, and compiles without a warning.
 #[cfg(doctest)]
