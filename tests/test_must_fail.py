@@ -83,6 +83,14 @@ class MustFail(unittest.TestCase):
         self.assertEqual(status, 1)
         self.assertIn("must-fail a: it is not proved as it is", text)
 
+    def test_a_prover_that_goes_on_refusing_what_was_undone(self):
+        rt = RT.replace("at=$(", 'at=$(ls ../../refused 2>/dev/null; ').replace('echo "logic=not-proved"', 'touch ../../refused; echo "logic=not-proved"')
+        (self.root / "bin/rt").write_text(rt)
+        self.edit("code", "file: src/x.rt\nold: good here\nnew: wrong\n")
+        status, text = self.said()
+        self.assertEqual(status, 1)
+        self.assertIn("must-fail a: it is not proved any more with nothing edited", text)
+
     def test_no_edits(self):
         self.assertEqual(self.said(), (1, "0 refused, 0 not\n"))
         self.edit("code", "file: src/x.rt\nold: good here\nnew: wrong\n")
