@@ -7,6 +7,7 @@ use lib.ListN.{length}
 use lib.Dec.{ltb}
 use Rattle.wire.specs.Choice.{firstOf}
 use Rattle.wire.specs.Lists.{over}
+use Rattle.keys.specs.Names.{applicationNameMost}
 use Rattle.connection.specs.Connection.{wellFormedConnection}
 use Rattle.registry.specs.Registry.{lineCount, slotCount, namesIn}
 use Rattle.registry.specs.WellFormed.{wellFormedRegistry}
@@ -19,13 +20,17 @@ use Rattle.billing.specs.declared.Billed.the-variants.{Written, BufferTo
 abbrev pub digitsMost : ℕ
 digitsMost = 20
 
+-- "line", a number, a name and a number
+abbrev pub applicationLineMost : ℕ
+applicationLineMost = 4 + (1 + digitsMost) + (1 + applicationNameMost) + (1 + digitsMost) + 1
+
 -- "key" and three numbers
 abbrev pub keyLineMost : ℕ
 keyLineMost = 3 + (1 + digitsMost) + (1 + digitsMost) + (1 + digitsMost) + 1
 
--- a buffer of so many bytes has room for every bill
+-- a buffer of so many bytes has room for every bill: the lines of totals and statuses, and those of each application and its keys
 abbrev pub billMost : ℕ
-billMost = 2048 + lineCount * (slotCount * keyLineMost)
+billMost = 1152 + lineCount * (applicationLineMost + slotCount * keyLineMost)
 
 -- the names of the used lines, which come first
 unfoldable pub usedNames : (names : List (List ℕ)) → List (List ℕ)

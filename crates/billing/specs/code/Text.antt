@@ -6,7 +6,6 @@ use lib.ListN.{length}
 use lib.Dec.{eqb}
 use Rattle.wire.specs.Choice.{if_then_else_}
 use Rattle.wire.specs.Lists.{put}
-use Rattle.keys.specs.Names.{applicationNameMost}
 use Rattle.billing.specs.Ascii.{ascii}
 use Rattle.billing.specs.Bill.{decimal, textLine}
 use Rattle.billing.specs.Outcome.{digitsMost}
@@ -20,10 +19,6 @@ wordMost = 7
 -- a word and a number
 abbrev pub countLineMost : ℕ
 countLineMost = wordMost + (1 + digitsMost) + 1
-
--- "line", a number, a name and a number
-abbrev pub applicationLineMost : ℕ
-applicationLineMost = 4 + (1 + digitsMost) + (1 + applicationNameMost) + (1 + digitsMost) + 1
 
 -- "refused" and two numbers
 abbrev pub refusedLineMost : ℕ

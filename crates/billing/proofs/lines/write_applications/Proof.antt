@@ -9,7 +9,7 @@ use lib.ListN.{length, getD}
 use Rattle.registry.specs.Registry.{lineCount, lineSize, registrySize}
 use Rattle.registry.specs.WellFormed.{wellFormedRegistry}
 use Rattle.registry.proofs.WellFormedLaws.{good-of}
-use Rattle.billing.specs.code.Text.{applicationLineMost}
+use Rattle.billing.specs.Outcome.{applicationLineMost}
 use Rattle.billing.proofs.PlacedLaws.{Leaves, leaves-all, leaves-rest, leaves-none}
 use Rattle.billing.proofs.LineLaws.{linesFrom, lines-end, lines-none, lines-next, name-short}
 use Rattle.billing.proofs.lines.write_applications.Statement.{statement}
