@@ -64,6 +64,18 @@ class MustFail(unittest.TestCase):
         self.edit("moved", "file: src/x.rt\nold: good here\nnew: wrong elsewhere\n")
         self.assertEqual(self.said(), (1, "must-fail a/moved: refused, but of no function of the edited file\n0 refused, 1 not\n"))
 
+    def test_a_constant_that_a_function_of_another_file_needs(self):
+        (self.root / "crates/a/src/x.rt").write_text("pub const MOST: usize = 7;\ngood there\n")
+        self.edit("constant", "file: src/x.rt\nold: pub const MOST: usize = 7;\nnew: wrong elsewhere\n")
+        self.assertEqual(self.said(), (0, "must-fail a/constant: refused\n1 refused, 0 not\n"))
+
+    def test_what_is_said_of_proved_crates_is_written_to_the_copy(self):
+        (self.root / "target/log/b.res").write_text("proved\n")
+        (self.root / "bin/rt").write_text(RT.replace("#!/bin/sh\n", "#!/bin/sh\necho failed >target/log/b.res\n"))
+        self.edit("code", "file: src/x.rt\nold: good here\nnew: wrong\n")
+        self.assertEqual(self.said()[0], 0)
+        self.assertEqual((self.root / "target/log/b.res").read_text(), "proved\n")
+
     def test_text_that_stands_twice_or_nowhere(self):
         self.edit("nowhere", "file: src/x.rt\nold: absent\nnew: wrong\n")
         self.edit("twice", "file: src/x.rt\nold: good\nnew: wrong\n")
