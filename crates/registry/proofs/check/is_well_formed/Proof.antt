@@ -9,7 +9,7 @@ use lib.ListN.{length, drop, length-drop}
 use lib.Seq.{take-all}
 use mathlib.Core.Bool.{and-true}
 use Rattle.wire.specs.Lists.{all, every, isZero, blocks}
-use Rattle.registry.specs.Registry.{lineSize, registrySize}
+use Rattle.registry.specs.Registry.{lineCount, lineSize, registrySize}
 use Rattle.registry.specs.WellFormed.{wellFormedRegistry}
 use Rattle.registry.specs.code.Check.{blockNames, wellFormedLine, usedLines}
 use Rattle.registry.proofs.CheckLaws.{registryChecks, used-few, same-test}
@@ -29,7 +29,7 @@ used : (c : tie.After-scan) → c .scan .result ≡ usedLines (bytes (start c))
 unfolding usedLines blockNames
 used c = c .scan .ensures
 
-few : (c : tie.After-scan) → c .scan .result ≤ 8
+few : (c : tie.After-scan) → c .scan .result ≤ lineCount
 few c = omega (arith, used c, used-few (bytes (start c)))
 
 -- the tests that are left, behind each test that passed
