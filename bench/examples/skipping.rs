@@ -4,7 +4,7 @@
 
 use razidkot_tests::foreign::{read_body, Schema};
 use razidkot_tests::generate::{long_varint, Random};
-use razidkot_tests::unlisted::{whole_field, Class, Piece, WIRE_TYPES};
+use razidkot_tests::unlisted::{whole_field, Class, Sample, WIRE_TYPES};
 use std::hint::black_box;
 use std::process::ExitCode;
 use std::time::{Duration, Instant};
@@ -151,20 +151,20 @@ fn generated(seed: u64) -> Shape {
     let random = &mut Random::new(seed);
     let mut body = Vec::new();
     loop {
-        let piece = match random.below(2) {
+        let sample = match random.below(2) {
             0 => {
                 let depth = random.below(DEEPEST_GROUP + 1);
-                Piece::of(random, Class::Depth(depth)).bytes
+                Sample::of(random, Class::Depth(depth)).bytes
             }
             _ => {
                 let wire_type = random.pick(&WIRE_TYPES);
                 whole_field(random, 6, wire_type)
             }
         };
-        if body.len() + piece.len() > LENGTH - 2 {
+        if body.len() + sample.len() > LENGTH - 2 {
             return shape(format!("generated {seed}"), filled(body));
         }
-        body.extend(piece);
+        body.extend(sample);
     }
 }
 
