@@ -1,22 +1,21 @@
 -- Laws of marks: slots with one name have one mark, so that a slot whose mark is none of those before it has a new name.
 use mathlib.Core.Path.{_≡_, refl, sym, ap, ap₂, _∙_, subst}
-use mathlib.Core.Bool.{Bool, true, false, true≢false, not}
+use mathlib.Core.Bool.{Bool, true, false}
 use mathlib.Core.List.{List, [], _∷_, _++_, map, map-append}
 use Prim.Native.Nat.{ℕ, zero, suc, _+_, _-_, _≤_, _<_, min}
 use native.Mathlib.Numerals.{add-one}
 use native.Mathlib.Nat.{le-of-suc-le-suc, not-suc-le-zero}
 use native.Mathlib.Omega.{arith}
-use borrow.Author.Tests.{eq-eqb, not-true}
 use lib.ListN.{length, take, drop, getD, set, replicate, length-take, length-drop}
 use lib.Seq.{take-add, drop-drop, take-suc, take-suc-set}
-use lib.Dec.{eqb}
-use Rattle.wire.specs.Lists.{all, same, every, isZero, padded}
+use Rattle.wire.specs.Lists.{all, same, every, padded}
 use Rattle.wire.proofs.TestLaws.{and-left, and-right, every-at}
 use Rattle.wire.proofs.ListLaws.{all-take, same-true, length-part, zeros-back}
 use Rattle.wire.proofs.BlockLaws.{Sized}
-use Rattle.keys.specs.Names.{legalName, keyNameMost}
+use Rattle.keys.specs.Names.{keyNameMost}
 use Rattle.keys.specs.code.Marks.{differsFrom}
 use Rattle.keys.proofs.NameLaws.{legal-short}
+use Rattle.keys.proofs.MarkLaws.{differs}
 use Rattle.registry.specs.Names.{nameIn, isNew, distinct}
 use Rattle.registry.specs.Slots.{dataLengthAt, slotSize, keyTests, wellFormedSlot}
 use Rattle.registry.specs.code.Check.{markIn}
@@ -98,7 +97,7 @@ marks-new s p h (t ∷ slots) (q, rest) e =
   where
     apart : (b : Bool) → same (nameIn s) (nameIn t) ≡ b → b ≡ false
     apart false w = refl
-    apart true w = absurd (true≢false (sym (eq-eqb (markOf s) (markOf t) (ap markIn (same-part s t p q h w))) ∙ not-true (eqb (markOf s) (markOf t)) (and-left (differsFrom (markOf s) (markOf t)) _ e)))
+    apart true w = absurd (differs (markOf s) (markOf t) (and-left (differsFrom (markOf s) (markOf t)) _ e) (ap markIn (same-part s t p q h w)))
 
 -- ---- slot by slot
 

@@ -1,12 +1,10 @@
 -- Laws of marks: a name whose mark is not among those of the names is new, and one mark more.
 use mathlib.Core.Path.{_≡_, refl, sym, ap, _∙_}
-use mathlib.Core.Bool.{Bool, true, false, true≢false}
+use mathlib.Core.Bool.{Bool, true, false}
 use mathlib.Core.List.{List, [], _∷_, _++_, map, map-append}
 use Prim.Native.Nat.{ℕ, _+_, _<_}
 use native.Mathlib.Numerals.{add-one}
 use native.Mathlib.Omega.{arith}
-use borrow.Author.Tests.{eq-eqb, not-true}
-use lib.Dec.{eqb}
 use lib.ListN.{length, set, length-append, length-set}
 use lib.Seq.{take-suc-set}
 use Rattle.wire.specs.Lists.{all, same}
@@ -14,6 +12,7 @@ use Rattle.wire.proofs.TestLaws.{and-left, and-right}
 use Rattle.wire.proofs.ListLaws.{all-take, same-true}
 use Rattle.registry.specs.Names.{isNew}
 use Rattle.keys.specs.code.Marks.{differsFrom}
+use Rattle.keys.proofs.MarkLaws.{differs}
 use Rattle.shipped.specs.Shipped.{ListedKey, namesOf, listedMost}
 use Rattle.shipped.specs.code.Marks.{markOf, Marked}
 
@@ -23,7 +22,7 @@ marks-apart x y e = go (same x y) refl
   where
     go : (t : Bool) → same x y ≡ t → t ≡ false
     go false q = refl
-    go true q = absurd (true≢false (sym (eq-eqb (markOf x) (markOf y) (ap markOf (same-true x y q))) ∙ not-true (eqb (markOf x) (markOf y)) e))
+    go true q = absurd (differs (markOf x) (markOf y) e (ap markOf (same-true x y q)))
 
 marks-new : (x : List ℕ) (ys : List (List ℕ)) → all (differsFrom (markOf x)) (map markOf ys) ≡ true → isNew x ys ≡ true
 marks-new x [] e = refl
