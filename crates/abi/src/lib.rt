@@ -17,10 +17,9 @@ ghost use Rattle.roster.specs.Roster.{loadRoster};
 ghost use Rattle.connection.specs.Connection.{openConnection};
 ghost use Rattle.counters.specs.Counters.{zeroCounters};
 ghost use Rattle.service.specs.Refusals.{refusalNumber};
-ghost use Rattle.service.specs.Call.{callOutcome};
-ghost use Rattle.service.specs.Contract.{lentMemory, callWith, codeNumber, outcomeWith};
+ghost use Rattle.service.specs.Contract.{lentMemory, callWith, codeNumber};
 ghost use Rattle.billing.specs.Outcome.{billOutcome};
-ghost use Rattle.abi.specs.Numbers.{loadedWith, openedWith, numbered, billNumbered, billedWith};
+ghost use Rattle.abi.specs.Numbers.{loadedWith, openedWith, numbered, Called, billNumbered, billedWith};
 
 // What a call says: 0 if it was taken, else the C number; how many bytes of the chunk it took, and how many it wrote.
 #[repr(C)]
@@ -108,7 +107,7 @@ pub extern "C" fn razidkot_call(
     counters: &mut Counters,
     response: &mut [u8],
 ) -> Answer
-    ensures { λ r. ⌜ outcomeWith (r .code) (r .taken) (r .written) (lentMemory (now (connection .exit)) (now (registry .exit)) (now (counters .exit))) (now (response .exit)) ≡ callOutcome (now (list .entry)) (lentMemory (now (connection .entry)) (now (registry .entry)) (now (counters .entry))) (callWith (now (chunk .entry)) (now (response .entry))) ⌝ }
+    ensures { λ r. ⌜ Called (now (list .entry)) (lentMemory (now (connection .entry)) (now (registry .entry)) (now (counters .entry))) (callWith (now (chunk .entry)) (now (response .entry))) r (lentMemory (now (connection .exit)) (now (registry .exit)) (now (counters .exit))) (now (response .exit)) ⌝ }
 {
     number(call(chunk, connection, registry, list, counters, response))
 }

@@ -1,5 +1,5 @@
 -- A chunk handed over until it is taken whole leaves in memory what the rules leave, and so does a stream read chunk by chunk.
-use mathlib.Core.Path.{_≡_, sym, ap, _∙_, subst}
+use mathlib.Core.Path.{_≡_, refl, sym, ap, _∙_, subst}
 use mathlib.Core.Bool.{true}
 use mathlib.Core.List.{List, [], _∷_, _++_, append-assoc, append-nil}
 use Prim.Native.Nat.{ℕ, _+_, _≤_, _<_}
@@ -7,20 +7,21 @@ use native.Mathlib.Omega.{arith}
 use borrow.Author.Tests.{eq-eqb}
 use lib.ListN.{length, take, drop, length-append, length-take, length-drop}
 use lib.Seq.{take-add, take-all}
+use Rattle.reading.specs.Call.{callRule}
+use Rattle.reading.specs.Calls.{took}
+use Rattle.reading.proofs.CallLaws.{call-facts}
+use Rattle.reading.proofs.DeliveryLaws.{call-takes}
 use Rattle.stream.specs.Rules as rulesOf
 use Rattle.stream.specs.Rules.{rules}
 use Rattle.stream.specs.Call as stream
-use Rattle.stream.specs.Call.{callRule}
-use Rattle.stream.specs.Calls.{Call, CallOutcome, took}
-use Rattle.stream.proofs.CallLaws.{call-facts}
-use Rattle.stream.proofs.CallsLaws.{took-taken, call-took, fresh-memory}
-use Rattle.stream.proofs.DeliveryLaws.{call-takes}
+use Rattle.stream.specs.Call.{reader}
+use Rattle.stream.proofs.CallsLaws.{rules-took, fresh-memory}
 use Rattle.connection.specs.Connection.{connectionSize, connectionBytes, Opening, openConnection}
 use Rattle.registry.specs.WellFormed.{wellFormedRegistry}
 use Rattle.shipped.specs.Shipped.{wellFormedList}
 use Rattle.judgement.specs.Judgement.{judgement}
 use Rattle.counters.specs.Counters.{zeroCounters, counterMost}
-use Rattle.service.specs.Call.{Memory, memoryOf, layout, fresh, bufferLeast, chunkMost, refusalOf, callOutcome}
+use Rattle.service.specs.Call.{Memory, memoryOf, layout, Call, CallOutcome, fresh, bufferLeast, chunkMost, refusalOf, callOutcome}
 use Rattle.service.specs.Contract.{lentMemory, callWith}
 use Rattle.service.proofs.Demand3.{lawful, accepts}
 use Rattle.counters.specs.declared.Counters.{Counters}
@@ -50,32 +51,32 @@ record Handed (list registry seen chunk : List ℕ) (n : ℕ) (m : Memory) : Typ
   pub memory : m ≡ leftBy list registry (seen ++ take n chunk)
 
 takes-some : (list registry seen chunk : List ℕ) → 1 ≤ length chunk
-    → 1 ≤ callRule (judgement list) (rules (judgement list) registry seen .state) chunk .taken
+    → 1 ≤ callRule (reader (judgement list)) (rules (judgement list) registry seen .state) chunk .taken
 takes-some list registry seen [] h = absurd (omega arith)
-takes-some list registry seen (b ∷ chunk) h = call-takes (judgement list) (rules (judgement list) registry seen .state) b chunk
+takes-some list registry seen (b ∷ chunk) h = call-takes (reader (judgement list)) (rules (judgement list) registry seen .state) b chunk refl
 
 module _ (list registry seen : List ℕ) (good : wellFormedRegistry registry ≡ true) (listed : wellFormedList list ≡ true)
     (short : length seen ≤ counterMost) (chunk buffer : List ℕ) (some : 1 ≤ length chunk) (few : length chunk ≤ chunkMost) (room : bufferLeast ≤ length buffer) where
   abbrev n : ℕ
-  n = callRule (judgement list) (rules (judgement list) registry seen .state) chunk .taken
+  n = callRule (reader (judgement list)) (rules (judgement list) registry seen .state) chunk .taken
 
   abbrev call : Call
   call = callWith chunk buffer
 
   call-leaves : callOutcome list (leftBy list registry seen) call
-      ≡ record { answer = took n (callRule (judgement list) (rules (judgement list) registry seen .state) chunk .response) call; memory = leftBy list registry (seen ++ take n chunk) }
+      ≡ record { answer = took layout n (callRule (reader (judgement list)) (rules (judgement list) registry seen .state) chunk .event) call; memory = leftBy list registry (seen ++ take n chunk) }
   unfolding callOutcome layout
-  call-leaves = call-took (judgement list) layout lawful (refusalOf list) registry seen call (accepts list registry good listed seen call short few room)
+  call-leaves = rules-took (judgement list) layout lawful (refusalOf list) registry seen call (accepts list registry good listed seen call short few room)
 
-  call-hands : (o : CallOutcome Memory) → o ≡ callOutcome list (leftBy list registry seen) call → Handed list registry seen chunk (o .answer .taken) (o .memory)
+  call-hands : (o : CallOutcome) → o ≡ callOutcome list (leftBy list registry seen) call → Handed list registry seen chunk (o .answer .taken) (o .memory)
   call-hands o e =
       let all = e ∙ call-leaves in
       let taken : o .answer .taken ≡ n
-      = ap (λ (x : CallOutcome Memory). x .answer .taken) all ∙ took-taken n (callRule (judgement list) (rules (judgement list) registry seen .state) chunk .response) call in
+      = ap (λ (x : CallOutcome). x .answer .taken) all in
       record {
         some = omega (arith, taken, takes-some list registry seen chunk some);
-        fits = omega (arith, taken, call-facts (judgement list) registry seen chunk .fits);
-        memory = ap (λ (x : CallOutcome Memory). x .memory) all ∙ ap (λ (k : ℕ). leftBy list registry (seen ++ take k chunk)) (sym taken);
+        fits = omega (arith, taken, call-facts (reader (judgement list)) (rules (judgement list) registry seen .state) chunk .fits);
+        memory = ap (λ (x : CallOutcome). x .memory) all ∙ ap (λ (k : ℕ). leftBy list registry (seen ++ take k chunk)) (sym taken);
       }
 
 -- ---- what is left of a chunk handed over again
@@ -88,7 +89,7 @@ pub takes-all : (list chunk : List ℕ) (at : ℕ) (before after : Memory) → l
     → Takes list (take at chunk) before after → Takes list chunk before after
 takes-all list chunk at before after h t = subst (λ (x : List ℕ). Takes list x before after) (take-all at chunk h) t
 
-module _ (list chunk : List ℕ) (at : ℕ) (before after : Memory) (buffer : List ℕ) (o : CallOutcome Memory)
+module _ (list chunk : List ℕ) (at : ℕ) (before after : Memory) (buffer : List ℕ) (o : CallOutcome)
     (few : length chunk ≤ chunkMost) (more : at < length chunk) (room : bufferLeast ≤ length buffer)
     (taken : Takes list (take at chunk) before after) (called : o ≡ callOutcome list after (callWith (drop at chunk) buffer)) where
   handed : (registry stream : List ℕ) → wellFormedRegistry registry ≡ true → wellFormedList list ≡ true → length stream + at ≤ counterMost

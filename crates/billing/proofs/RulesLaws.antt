@@ -8,9 +8,9 @@ use native.Mathlib.Omega.{arith}
 use lib.ListN.{length, replicate}
 use Rattle.wire.specs.Lists.{all}
 use Rattle.wire.proofs.TestLaws.{and-left, and-right}
+use Rattle.reading.specs.Calls.{takenStream}
 use Rattle.stream.specs.Rules.{heldBytes, rules}
 use Rattle.stream.specs.Parts.{partsOf}
-use Rattle.stream.specs.Calls.{Call, takenStream}
 use Rattle.stream.proofs.KeptLaws.{rules-connection}
 use Rattle.stream.proofs.CallsLaws.{Lawful}
 use Rattle.keys.specs.Names.{applicationNameMost}
@@ -22,7 +22,7 @@ use Rattle.roster.proofs.RosterLaws.{roster-legal}
 use Rattle.judgement.specs.Judgement.{judgement}
 use Rattle.judgement.proofs.NamesLaws.{rules-names}
 use Rattle.counters.specs.Counters.{totalsOf}
-use Rattle.service.specs.Call.{Memory, stateIn, memoryOf, layout, fresh}
+use Rattle.service.specs.Call.{Memory, stateIn, memoryOf, layout, fresh, Call}
 use Rattle.service.proofs.Demand3.{lawful}
 use Rattle.service.proofs.CodeDemand3.{Ran, Runs, answersIn, leftAfter, code-demand3}
 use Rattle.billing.specs.Bill.{billOf, requestsOn, billFor}

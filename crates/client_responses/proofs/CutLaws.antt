@@ -49,7 +49,7 @@ module _ (asked : Asked) where
       (always (responseReader asked) Fits goes-on s f (take (callRule (responseReader asked) s chunk .taken) chunk))
 
   module _ (listed : isListed (asked .opcode) ≡ true) where
-    pub sound : Sound (responseReader asked) (layout asked) refusal (λ _. true) Fits
+    pub sound : Sound (responseReader asked) [] (layout asked) refusal (λ _. true) Fits
     unfolding responseReader layout refusal
     sound = record {
       begins = omega arith;
@@ -58,13 +58,13 @@ module _ (asked : Asked) where
       accepts = λ s call f _. rw (well-there asked s f listed);
     }
 
-    pub response-cut : Cut (responseReader asked) (layout asked) refusal (λ _. true)
+    pub response-cut : Cut (responseReader asked) [] (layout asked) refusal (λ _. true)
     response-cut = cut-theorem sound
 
     -- a response handed over in any chunks, with a call for each byte and each chunk, is read as if uncut
     pub response-whole : (chunks : List (List ℕ))
-        → Delivered (responseReader asked) (layout asked) chunks (deliveries (responseReader asked) (layout asked) refusal (enough chunks) (λ _. tt) chunks)
-        (delivery (responseReader asked) (layout asked) refusal (enough chunks) (λ _. tt) chunks)
+        → Delivered (responseReader asked) [] (layout asked) chunks (deliveries (responseReader asked) [] (layout asked) refusal (enough chunks) (λ _. tt) chunks)
+        (delivery (responseReader asked) [] (layout asked) refusal (enough chunks) (λ _. tt) chunks)
     response-whole chunks = response-cut .whole (enough chunks) (λ _. tt) chunks (omega arith) (response-cut .welcome (enough chunks) (λ _. tt) chunks (λ _ _. refl))
 
     -- these are the calls that the code makes: it takes what was asked from the state

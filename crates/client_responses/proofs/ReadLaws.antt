@@ -81,7 +81,7 @@ module _ (m chunk : List ℕ) where
   abbrev call : Call (Unit {0})
   call = record { chunk = chunk; lent = tt }
 
-  abbrev ofCall : CallOutcome (List ℕ) (Unit {0}) Reply → ReadOutcome
+  abbrev ofCall : CallOutcome (List ℕ) (Unit {0}) (Option Reply) → ReadOutcome
   ofCall o = elim (o .answer .refusal) [
     | some code ↦ record { said = illFormed; taken = 0; memory = m }
     | none ↦ record { said = saidOf (found asked (bytesIn (o .memory))); taken = o .answer .taken; memory = o .memory }
@@ -91,7 +91,7 @@ module _ (m chunk : List ℕ) where
   unfolding readOutcome
   by-call = refl
 
-  refuses : wellFormedState m ≡ false → callOn (responseReader asked) (layout asked) refusal m call ≡ record { answer = refused tt; memory = m }
+  refuses : wellFormedState m ≡ false → callOn (responseReader asked) (layout asked) refusal m call ≡ record { answer = refused (layout asked) tt call; memory = m }
   unfolding callOn refusal
   refuses w = rw (w, callOn)
 
@@ -100,7 +100,7 @@ module _ (m chunk : List ℕ) where
 
   takes : wellFormedState m ≡ true
       → callOn (responseReader asked) (layout asked) refusal m call
-      ≡ record { answer = took (effect .taken) (effect .event); memory = stateBytes asked (effect .kept) }
+      ≡ record { answer = took (layout asked) (effect .taken) (effect .event) call; memory = stateBytes asked (effect .kept) }
   unfolding callOn refusal layout
   takes w = rw (w, callOn)
 

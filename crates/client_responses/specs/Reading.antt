@@ -87,10 +87,9 @@ found asked bytes =
     else if ltb (length bytes) responseLeast then none
     else foundBehind asked (responseOf bytes) bytes
 
--- THE UNCUT READER: it keeps the bytes, and ends with a response or a refusal
+-- THE READER: it keeps the bytes, and ends with a response or a refusal
 unfoldable pub responseReader : Asked → Reader (List ℕ) Reply
 responseReader asked = record {
-  begin = [];
   byte = λ bytes b. record { kept = bytes ++ (b ∷ []); event = found asked (bytes ++ (b ∷ [])) };
   ended = λ bytes. isSome (found asked bytes);
 }

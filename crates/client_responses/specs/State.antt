@@ -46,8 +46,8 @@ askedIn memory = record { opcode = field 0 2 memory; session = field sessionAt 8
 unfoldable pub bytesIn : (memory : List ℕ) → List ℕ
 bytesIn memory = take (field countAt 2 memory) (drop bytesAt memory)
 
-unfoldable pub layout : Asked → Layout (List ℕ) (List ℕ)
-layout asked = record { load = bytesIn; store = stateBytes asked }
+unfoldable pub layout : Asked → Layout (List ℕ) (List ℕ) Reply (Unit {0}) (Option Reply)
+layout asked = record { load = bytesIn; store = stateBytes asked; give = λ reply _. reply }
 
 -- ---- which memory is a state: of the one exact size, for a listed opcode, with at most the longest response and zeros behind
 

@@ -57,7 +57,7 @@ requests-framed (ask ∷ asks) (w, ws) =
 -- the response is read to its end, whatever follows it, as this
 pub record Hears (asked : Asked) (response : List ℕ) (reply : Reply) : Type 0 where
   pub said : found asked response ≡ some reply
-  pub reads : (rest : List ℕ) → read (responseReader asked) (response ++ rest) ≡ record { taken = length response; events = reply ∷ []; kept = response }
+  pub reads : (rest : List ℕ) → read (responseReader asked) [] (response ++ rest) ≡ record { taken = length response; events = reply ∷ []; kept = response }
 
 abbrev pub AllHeard : List Ask → (responses : List (List ℕ)) → List Reply → Type 0
 AllHeard [] [] [] = Unit {0}
@@ -84,7 +84,7 @@ module _ (list registry : List ℕ) (counts : Counts) (good : wellFormedRegistry
         said = e;
         reads = λ rest.
             subst
-            (λ (b : List ℕ). read (responseReader (askedFor ask)) (b ++ rest) ≡ record { taken = length b; events = answered (statusNumber (r .status)) (r .output) ∷ []; kept = b })
+            (λ (b : List ℕ). read (responseReader (askedFor ask)) [] (b ++ rest) ≡ record { taken = length b; events = answered (statusNumber (r .status)) (r .output) ∷ []; kept = b })
             (sym is)
             (response-read (askedFor ask) (providerOf (ask .operation)) (ask .session) (opcodeOf (ask .operation)) (statusNumber (r .status)) (outputBytes protobuf (r .output))
             (its-own (ask .session) (ask .operation) (statusNumber (r .status)) (outputBytes protobuf (r .output)))

@@ -15,7 +15,7 @@ use Rattle.wire.specs.Response.{responseHeaderSize, responseLeast, responseOf, 
 use Rattle.wire.specs.declared.response.ResponseHeader.{ResponseHeader}
 use Rattle.wire.proofs.NumberLaws.{field-append}
 use Rattle.wire.proofs.ResponseLaws.{response-long, response-magic, response-size, response-back}
-use Rattle.reading.specs.Reader.{Reader, Reading, nothing, withEvent, readFrom, read}
+use Rattle.reading.specs.Reader.{Reader, Reading, nothing, withEvent, read}
 use Rattle.client_responses.specs.Reading.{Asked, Reply, responseContentMost, headerTests, foundBehind, found, responseReader}
 use Rattle.client_responses.proofs.FoundLaws.{found-short, found-header, found-whole}
 use Rattle.conversation.proofs.Answered.{headerOf, Its, passes}
@@ -81,8 +81,8 @@ module _ (asked : Asked) where
   R = responseReader asked
 
   -- a reader that has ended takes nothing
-  ended-still : (s : List ℕ) (y : Reply) → found asked s ≡ some y → (rest : List ℕ) → readFrom R s rest ≡ nothing s
-  unfolding readFrom responseReader isSome
+  ended-still : (s : List ℕ) (y : Reply) → found asked s ≡ some y → (rest : List ℕ) → read R s rest ≡ nothing s
+  unfolding read responseReader isSome
   ended-still s y e [] = refl
   ended-still s y e (b ∷ rest) = rw e
 
@@ -91,15 +91,15 @@ module _ (asked : Asked) where
   oneMore r = record { taken = suc (r .taken); events = r .events; kept = r .kept }
 
   quiet-byte : (s : List ℕ) (b : ℕ) (rest : List ℕ) → found asked s ≡ none → found asked (s ++ (b ∷ [])) ≡ none
-      → readFrom R s (b ∷ rest) ≡ oneMore (readFrom R (s ++ (b ∷ [])) rest)
-  unfolding readFrom responseReader isSome withEvent
+      → read R s (b ∷ rest) ≡ oneMore (read R (s ++ (b ∷ [])) rest)
+  unfolding read responseReader isSome withEvent
   quiet-byte s b rest z n = rw (z, n)
 
   -- bytes t behind s, of which only the last brings something
   reads-up : (t s : List ℕ) (y : Reply) (rest : List ℕ) → 0 < length t
       → ((u v : List ℕ) → u ++ v ≡ s ++ t → length u < length (s ++ t) → found asked u ≡ none)
-      → found asked (s ++ t) ≡ some y → readFrom R s (t ++ rest) ≡ record { taken = length t; events = y ∷ []; kept = s ++ t }
-  unfolding readFrom responseReader isSome withEvent
+      → found asked (s ++ t) ≡ some y → read R s (t ++ rest) ≡ record { taken = length t; events = y ∷ []; kept = s ++ t }
+  unfolding read responseReader isSome withEvent
   reads-up [] s y rest h quiet e = absurd (omega arith)
   reads-up (b ∷ []) s y rest h quiet e =
       let l = length-append s (b ∷ []) in
@@ -119,7 +119,7 @@ module _ (asked : Asked) where
 -- A RESPONSE AND WHATEVER FOLLOWS IT: the response is taken and kept, and what it is read as is the one event
 pub response-read : (asked : Asked) (provider session opcode status : ℕ) (body : List ℕ) → Its asked (headerOf provider session opcode status body)
     → length body ≤ responseContentMost → (y : Reply) → found asked (responseBytes provider session opcode status body) ≡ some y → (rest : List ℕ)
-    → read (responseReader asked) (responseBytes provider session opcode status body ++ rest)
+    → read (responseReader asked) [] (responseBytes provider session opcode status body ++ rest)
     ≡ record {
       taken = length (responseBytes provider session opcode status body);
       events = y ∷ [];

@@ -5,11 +5,11 @@ use Prim.Native.Nat.{ℕ}
 use mathlib.Core.Bool.{true}
 use mathlib.Core.List.{List, map, flatten}
 use Rattle.stream.specs.Parts.{Parts, partsOf, responsesTo}
-use Rattle.stream.specs.Calls.{Call, responsesIn, takenStream}
+use Rattle.reading.specs.Calls.{takenStream}
 use Rattle.registry.specs.WellFormed.{wellFormedRegistry}
 use Rattle.judgement.specs.Counts.{noCounts}
 use Rattle.judgement.specs.Judgement.{judgement}
-use Rattle.service.specs.Call.{fresh}
+use Rattle.service.specs.Call.{Call, fresh, responsesIn}
 use Rattle.service.proofs.CodeDemand3.{Ran, Runs, answersIn, code-demand3}
 use Rattle.conversation.specs.Conversation.{Ask, written, repliesTo}
 use Rattle.conversation.proofs.HeardLaws.{AllWritable, requests-framed, AllHeard, all-heard}

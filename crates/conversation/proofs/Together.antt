@@ -4,6 +4,7 @@
 use mathlib.Core.Path.{_≡_, refl, sym, ap, ap₂, _∙_, subst}
 use Prim.Native.Nat.{ℕ, zero, suc, _+_, _≤_}
 use mathlib.Core.Bool.{true}
+use mathlib.Core.Option.{Option}
 use mathlib.Core.List.{List, [], _∷_, _++_, map, flatten}
 use native.Mathlib.Omega.{arith}
 use lib.ListN.{length, take, drop, length-append}
@@ -14,10 +15,8 @@ use Rattle.reading.specs.Call.{Effect, callRule}
 use Rattle.reading.specs.Calls.{Call, CallOutcome, CallsOutcome, took, callOn, callsOn, leaving, handOver, takenStream}
 use Rattle.reading.proofs.CallLaws.{call-facts}
 use Rattle.reading.proofs.DeliveryLaws.{enough}
-use Rattle.stream.specs.Calls.{responsesIn, takenStream as takenOf}
-use Rattle.stream.specs.Calls as stream
 use Rattle.registry.specs.WellFormed.{wellFormedRegistry}
-use Rattle.service.specs.Call.{fresh}
+use Rattle.service.specs.Call.{Call as ServiceCall, fresh, responsesIn}
 use Rattle.service.proofs.CodeDemand3.{Ran, Runs, answersIn}
 use Rattle.messages.specs.Operations.{Operation, ping, listProviders, listOpcodes, importKey, destroyKey, exportPublicKey, verifySignature, opcodeOf}
 use Rattle.client_responses.specs.Reading.{Asked, Reply, found, responseReader}
@@ -71,14 +70,14 @@ module _ (asked : Asked) (listed : isListed (asked .opcode) ≡ true) where
   abbrev lone : (chunk : List ℕ) → Call (Unit {0})
   lone chunk = record { chunk = chunk; lent = tt }
 
-  abbrev onCall : (s chunk : List ℕ) → CallOutcome (List ℕ) (Unit {0}) Reply
+  abbrev onCall : (s chunk : List ℕ) → CallOutcome (List ℕ) (Unit {0}) (Option Reply)
   onCall s chunk = callOn R (layout asked) refusal (stateBytes asked s) (lone chunk)
 
   abbrev effect : (s chunk : List ℕ) → Effect (List ℕ) Reply
   effect s chunk = callRule R s chunk
 
   on-call : (s chunk : List ℕ) → Fits s
-      → onCall s chunk ≡ record { answer = took (effect s chunk .taken) (effect s chunk .event); memory = stateBytes asked (effect s chunk .kept) }
+      → onCall s chunk ≡ record { answer = took (layout asked) (effect s chunk .taken) (effect s chunk .event) (lone chunk); memory = stateBytes asked (effect s chunk .kept) }
   unfolding callOn refusal layout
   on-call s chunk f = rw (well-there asked s f listed, callOn, held-back asked s)
 
@@ -87,13 +86,13 @@ module _ (asked : Asked) (listed : isListed (asked .opcode) ≡ true) where
       → handed (r .memory) (r .says) ≡ record { said = saidOf (found asked (effect s chunk .kept)); taken = effect s chunk .taken; memory = stateBytes asked (effect s chunk .kept) }
   one s chunk f r e =
       e ∙ outcome-is asked listed s chunk f
-      ∙ ap (λ (o : CallOutcome (List ℕ) (Unit {0}) Reply). record { said = saidOf (found asked (bytesIn (o .memory))); taken = o .answer .taken; memory = o .memory }) (on-call s chunk f)
+      ∙ ap (λ (o : CallOutcome (List ℕ) (Unit {0}) (Option Reply)). record { said = saidOf (found asked (bytesIn (o .memory))); taken = o .answer .taken; memory = o .memory }) (on-call s chunk f)
       ∙ ap (λ (b : List ℕ). record { said = saidOf (found asked b); taken = effect s chunk .taken; memory = stateBytes asked (effect s chunk .kept) }) (held-back asked (effect s chunk .kept))
 
   abbrev calls : (most : ℕ) (s : List ℕ) (chunks : List (List ℕ)) → List (Call (Unit {0}))
   calls most s chunks = handOver R (layout asked) refusal most (λ _. tt) (stateBytes asked s) chunks
 
-  abbrev after : (most : ℕ) (s : List ℕ) (chunks : List (List ℕ)) → CallsOutcome (List ℕ) (Unit {0}) Reply
+  abbrev after : (most : ℕ) (s : List ℕ) (chunks : List (List ℕ)) → CallsOutcome (List ℕ) (Unit {0}) (Option Reply)
   after most s chunks = callsOn R (layout asked) refusal (stateBytes asked s) (calls most s chunks)
 
   -- the first call, and the others on what it left
@@ -110,16 +109,16 @@ module _ (asked : Asked) (listed : isListed (asked .opcode) ≡ true) where
     calls-step : calls (suc most) s (chunk ∷ chunks) ≡ lone chunk ∷ calls most k rest
     unfolding handOver
     calls-step =
-        ap (λ (o : CallOutcome (List ℕ) (Unit {0}) Reply).
+        ap (λ (o : CallOutcome (List ℕ) (Unit {0}) (Option Reply)).
         lone chunk ∷ handOver R (layout asked) refusal most (λ _. tt) (o .memory) (leaving (drop (o .answer .taken) chunk) chunks)) (on-call s chunk f)
 
     after-step : after (suc most) s (chunk ∷ chunks)
-        ≡ record { answers = took n (effect s chunk .event) ∷ after most k rest .answers; memory = after most k rest .memory }
+        ≡ record { answers = took (layout asked) n (effect s chunk .event) (lone chunk) ∷ after most k rest .answers; memory = after most k rest .memory }
     unfolding callsOn
     after-step =
         ap (callsOn R (layout asked) refusal (stateBytes asked s)) calls-step
-        ∙ ap (λ (o : CallOutcome (List ℕ) (Unit {0}) Reply).
-        (let x : CallsOutcome (List ℕ) (Unit {0}) Reply = record {
+        ∙ ap (λ (o : CallOutcome (List ℕ) (Unit {0}) (Option Reply)).
+        (let x : CallsOutcome (List ℕ) (Unit {0}) (Option Reply) = record {
           answers = o .answer ∷ callsOn R (layout asked) refusal (o .memory) (calls most k rest) .answers;
           memory = callsOn R (layout asked) refusal (o .memory) (calls most k rest) .memory;
         } in x)) (on-call s chunk f)
@@ -131,7 +130,7 @@ module _ (asked : Asked) (listed : isListed (asked .opcode) ≡ true) where
         let fits : n ≤ length chunk = call-facts R s chunk .fits in
         let cut = length-take-le n chunk fits in
         let all = length-append (take n chunk) (takenStream (calls most k rest) (after most k rest .answers)) in
-        ap₂ (λ (cs : List (Call (Unit {0}))) (o : CallsOutcome (List ℕ) (Unit {0}) Reply). length (takenStream cs (o .answers))) calls-step after-step
+        ap₂ (λ (cs : List (Call (Unit {0}))) (o : CallsOutcome (List ℕ) (Unit {0}) (Option Reply)). length (takenStream cs (o .answers))) calls-step after-step
         ∙ (let x : length (take n chunk ++ takenStream (calls most k rest) (after most k rest .answers)) ≡ n + length (takenStream (calls most k rest) (after most k rest .answers)) = omega arith in x)
 
   -- what the runs leave, take and say, against the definition's calls
@@ -159,7 +158,7 @@ module _ (asked : Asked) (listed : isListed (asked .opcode) ≡ true) where
       let more = ih .taken in
       let step = taken-step most s chunk chunks f in
       record {
-        memory = ap (λ (m : List ℕ). leftBy m runs) left ∙ ih .memory ∙ sym (ap (λ (x : CallsOutcome (List ℕ) (Unit {0}) Reply). x .memory) (after-step most s chunk chunks f));
+        memory = ap (λ (m : List ℕ). leftBy m runs) left ∙ ih .memory ∙ sym (ap (λ (x : CallsOutcome (List ℕ) (Unit {0}) (Option Reply)). x .memory) (after-step most s chunk chunks f));
         taken = omega arith;
         last = ap (λ (d : Said). lastSaid d runs) says ∙ ih .last ∙ ap (λ (m : List ℕ). saidOf (found asked (bytesIn (leftBy m runs)))) (sym left);
       }
@@ -183,8 +182,8 @@ unfolding responseReader layout
 hearing asked listed response rest reply h chunks runs e p =
     let d = response-whole asked listed chunks in
     let s = same asked listed (enough chunks) [] (omega arith) chunks runs p in
-    let uncut : read (responseReader asked) (flatten chunks) ≡ record { taken = length response; events = reply ∷ []; kept = response }
-    = ap (read (responseReader asked)) e ∙ h .reads rest in
+    let uncut : read (responseReader asked) [] (flatten chunks) ≡ record { taken = length response; events = reply ∷ []; kept = response }
+    = ap (read (responseReader asked) []) e ∙ h .reads rest in
     let left : leftBy (stateBytes asked []) runs ≡ stateBytes asked response
     = s .memory ∙ d .memory ∙ ap (λ (x : Reading (List ℕ) Reply). stateBytes asked (x .kept)) uncut in
     record {
@@ -237,7 +236,7 @@ listening (ask ∷ asks) (r ∷ rs) (y ∷ ys) (h, hs) = (
 
 -- from a fresh connection, zero counters and a well-formed registry, under any list of keys that we ship
 pub together : (list registry : List ℕ) → wellFormedRegistry registry ≡ true → (asks : List Ask) → AllWritable asks
-    → (calls : List stream.Call) (runs : List Ran) → Runs list (fresh registry) calls runs → takenOf calls (answersIn runs) ≡ flatten (map written asks)
+    → (calls : List ServiceCall) (runs : List Ran) → Runs list (fresh registry) calls runs → takenStream calls (answersIn runs) ≡ flatten (map written asks)
     → Listening asks (responsesIn (answersIn runs)) (repliesTo list registry asks)
 together list registry good asks w calls runs p all =
     listening asks (responsesIn (answersIn runs)) (repliesTo list registry asks) (service-heard list registry good asks w calls runs p all)

@@ -12,7 +12,8 @@ use lib.Seq.{take-length, take-append-add, length-take-le}
 use Rattle.wire.specs.Request.{requestLength}
 use Rattle.stream.specs.Frame.{legalStart, Next, unfinished, badStart, skipped, whole, next}
 use Rattle.stream.specs.Rules.{Judgement, Connection, opened, skipping, closed, State, judge, start, finish, rules}
-use Rattle.stream.specs.Call.{isBeginning, wellFormed, Effect, callRule}
+use Rattle.reading.specs.Call.{Effect, callRule}
+use Rattle.stream.specs.Call.{isBeginning, wellFormed, reader}
 use Rattle.stream.specs.Parts.{andBefore, heldParts, closingParts, partsOf, verdictOn}
 use Rattle.stream.proofs.FrameLaws.{legalStart-append, next-short, bad-behind, whole-behind, skipped-stays, skipped-ends, judge-large}
 use Rattle.stream.proofs.FramedLaws.{whole-part}
@@ -76,14 +77,14 @@ module _ {Reg Count Out : Type 0} (J : Judgement Reg Count Out) where
       Stands (s′ .connection) [] × (verdictOn J (s .registry) (s .totals .counts) bytes
       ≡ record { response = response; registry = s′ .registry; counts = s′ .totals .counts }) × OneRequest bytes
 
-  abbrev Brings : State Reg Count → (w chunk : List ℕ) → Effect Reg Count Out → Type 0
-  Brings s w chunk e = Came s (w ++ take (e .taken) chunk) (e .response) (e .state)
+  abbrev Brings : State Reg Count → (w chunk : List ℕ) → Effect (State Reg Count) Out → Type 0
+  Brings s w chunk e = Came s (w ++ take (e .taken) chunk) (e .event) (e .kept)
 
   module _ (s : State Reg Count) (w chunk : List ℕ) where
     all-taken : w ++ chunk ≡ w ++ take (length chunk) chunk
     all-taken = ap (λ (x : List ℕ). w ++ x) (sym (take-length chunk))
 
-    skip-brings : (header : List ℕ) (toGo : ℕ) → s .connection ≡ skipping header toGo → next w ≡ skipped header toGo → Brings s w chunk (callRule J s chunk)
+    skip-brings : (header : List ℕ) (toGo : ℕ) → s .connection ≡ skipping header toGo → next w ≡ skipped header toGo → Brings s w chunk (callRule (reader J) s chunk)
     skip-brings header toGo e q = elim (decLt (length chunk) toGo) [
       | yes h ↦
           rw (call-skips J s header toGo chunk e h) (
@@ -112,7 +113,7 @@ module _ {Reg Count Out : Type 0} (J : Judgement Reg Count Out) where
         k = skip-found w header toGo q
 
     module _ (e : s .connection ≡ opened w) (u : next w ≡ unfinished) where
-      bad-brings : next (w ++ chunk) ≡ badStart → Brings s w chunk (callRule J s chunk)
+      bad-brings : next (w ++ chunk) ≡ badStart → Brings s w chunk (callRule (reader J) s chunk)
       bad-brings n =
           let (six, bad) = bad-found (w ++ chunk) n in
           let few = bad-behind w chunk (unfinished-held w u) bad in
@@ -125,7 +126,7 @@ module _ {Reg Count Out : Type 0} (J : Judgement Reg Count Out) where
           let l : legalStart p ≡ false = sym (legalStart-append p (drop k chunk) (omega arith)) ∙ ap legalStart seam ∙ bad in
           rw (call-bad J s w chunk e u n) (tt, on-bad (s .registry) (s .totals .counts) p l, one-bad p long l)
 
-      whole-brings : (size : ℕ) → next (w ++ chunk) ≡ whole size → Brings s w chunk (callRule J s chunk)
+      whole-brings : (size : ℕ) → next (w ++ chunk) ≡ whole size → Brings s w chunk (callRule (reader J) s chunk)
       whole-brings size n =
           let (legal, measured, fits) = whole-found (w ++ chunk) size n in
           let less = whole-behind w chunk (unfinished-held w u) legal in
@@ -139,19 +140,19 @@ module _ {Reg Count Out : Type 0} (J : Judgement Reg Count Out) where
             subst OneRequest (sym part) (one-whole (take size (w ++ chunk)) (there .legal) (sym (there .long))),
           )
 
-      open-brings : Brings s w chunk (callRule J s chunk)
+      open-brings : Brings s w chunk (callRule (reader J) s chunk)
       open-brings = go (next (w ++ chunk)) refl
         where
-          go : (n : Next) → next (w ++ chunk) ≡ n → Brings s w chunk (callRule J s chunk)
+          go : (n : Next) → next (w ++ chunk) ≡ n → Brings s w chunk (callRule (reader J) s chunk)
           go unfinished n = rw (call-unfinished J s w chunk e u n) ((all-taken, ap next (sym all-taken) ∙ n), refl, refl)
           go badStart n = bad-brings n
           go (skipped header missing) n = rw (call-large J s w chunk e u header missing n) (ap next (sym all-taken) ∙ n, refl, refl)
           go (whole size) n = whole-brings size n
 
-    pub brings : Stands (s .connection) w → Brings s w chunk (callRule J s chunk)
+    pub brings : Stands (s .connection) w → Brings s w chunk (callRule (reader J) s chunk)
     brings = go (s .connection) refl
       where
-        go : (c : Connection) → s .connection ≡ c → Stands c w → Brings s w chunk (callRule J s chunk)
+        go : (c : Connection) → s .connection ≡ c → Stands c w → Brings s w chunk (callRule (reader J) s chunk)
         go (opened held) e (same, u) = open-brings (e ∙ ap opened same) u
         go (skipping header toGo) e q = skip-brings header toGo e q
         go closed e q = rw (call-closed J s chunk e) (tt, refl, refl)

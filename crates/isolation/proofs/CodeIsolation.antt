@@ -4,11 +4,10 @@ use Prim.Native.Nat.{ℕ}
 use mathlib.Core.Path.{_≡_, refl, sym, ap, subst, _∙_}
 use mathlib.Core.List.{List, [], _∷_}
 use Rattle.stream.specs.Rules.{closed}
-use Rattle.stream.specs.Calls.{Call, CallOutcome}
 use Rattle.connection.specs.Connection.{connectionOf}
 use Rattle.registry.specs.declared.Line.{Line}
 use Rattle.counters.specs.declared.Counters.{Counters}
-use Rattle.service.specs.Call.{Memory}
+use Rattle.service.specs.Call.{Memory, Call, CallOutcome}
 use Rattle.service.proofs.CodeDemand3.{Ran, leftBy, Contract, answerIn, answersIn}
 use Rattle.isolation.specs.History.{Host, lent, left, freshWith, CallOn, History, historyOf, exchanges}
 use Rattle.isolation.specs.Isolated.{EachLine, Alike, SameRequests, Isolated, AllOpenAlone, AllOne}
@@ -41,7 +40,7 @@ ran list [] h [] p = refl
 ran list [] h (r ∷ rest) p = absurd p
 ran list (c ∷ calls) h [] p = absurd p
 ran list (c ∷ calls) h (r ∷ rest) (e, p) =
-    ap (λ (o : CallOutcome Memory). (let after : History = historyOf list (left h (c .connection) (o .memory)) calls in
+    ap (λ (o : CallOutcome). (let after : History = historyOf list (left h (c .connection) (o .memory)) calls in
     let x : History = record { answers = o .answer ∷ after .answers; host = after .host } in x)) (sym e)
     ∙ ap (λ (o : History). (let x : History = record { answers = answerIn r ∷ o .answers; host = o .host } in x)) (ran list calls (left h (c .connection) (leftBy r)) rest p)
 
@@ -74,5 +73,5 @@ code-isolation list = record {
   one-each = λ registry counters calls runs p.
       subst (λ (o : History). AllOne (exchanges calls (o .answers))) (ran list calls (freshWith registry counters) runs p) (isolation list .one-each registry counters calls);
   closed-unread = λ m call r e n.
-      subst (λ (o : CallOutcome Memory). (o .answer .written ≡ 0) × (connectionOf (o .memory .connection) ≡ closed)) (sym e) (isolation list .closed-unread m call n);
+      subst (λ (o : CallOutcome). (o .answer .given .count ≡ 0) × (connectionOf (o .memory .connection) ≡ closed)) (sym e) (isolation list .closed-unread m call n);
 }

@@ -6,7 +6,6 @@ use mathlib.Core.Bool.{Bool, true, false}
 use mathlib.Core.Option.{some}
 use mathlib.Core.List.{List, [], _∷_}
 use Rattle.stream.specs.Rules.{Verdict, closed}
-use Rattle.stream.specs.Calls.{Call}
 use Rattle.stream.specs.Parts.{verdictOn}
 use Rattle.connection.specs.Connection.{connectionOf}
 use Rattle.registry.specs.declared.Line.{Line}
@@ -17,7 +16,7 @@ use Rattle.judgement.specs.Counts.{Counts, noCounts}
 use Rattle.judgement.specs.Judgement.{judgement}
 use Rattle.counters.specs.Counters.{totalsOf}
 use Rattle.counters.specs.declared.Counters.{Counters}
-use Rattle.service.specs.Call.{Memory, callOutcome}
+use Rattle.service.specs.Call.{Memory, callOutcome, Call}
 use Rattle.isolation.specs.History.{freshWith, CallOn, History, historyOf, Exchange, exchanges, requests, responses, isBy, those}
 use Rattle.isolation.specs.Isolated.{EachLine, Alike, SameRequests, Isolated, openResponse, AllOpenAlone, AllOne}
 use Rattle.isolation.proofs.CallLaws.{on-legal}
@@ -106,7 +105,7 @@ pub record Isolation (list : List ℕ) : Type 0 where
       → AllOne (exchanges calls (from list registry counters calls .answers))
   -- a call on a closed connection answers nothing, and leaves it closed
   pub closed-unread : (m : Memory) (call : Call) → connectionOf (m .connection) ≡ closed
-      → (callOutcome list m call .answer .written ≡ 0) × (connectionOf (callOutcome list m call .memory .connection) ≡ closed)
+      → (callOutcome list m call .answer .given .count ≡ 0) × (connectionOf (callOutcome list m call .memory .connection) ≡ closed)
 
 pub isolation : (list : List ℕ) → Isolation list
 isolation list = record {

@@ -8,11 +8,12 @@ use mathlib.Core.List.{List, [], _∷_, _++_, append-nil}
 use native.Mathlib.Omega.{arith}
 use borrow.Author.Tests.{ne-eqb}
 use lib.ListN.{length, take}
-use lib.Seq.{take-append-seam}
 use lib.Dec.{eqb}
 use Rattle.wire.specs.Choice.{if_then_else_}
+use Rattle.reading.specs.Calls.{took}
+use Rattle.reading.specs.Buffer.{written, bytesOf}
+use Rattle.reading.proofs.BufferLaws.{bytes-of}
 use Rattle.stream.specs.Rules.{Verdict, Connection, opened, closed, State}
-use Rattle.stream.specs.Calls.{Call, refused, took, CallOutcome}
 use Rattle.stream.specs.Parts.{verdictOn}
 use Rattle.stream.proofs.PartsLaws.{countsFrom, registryFrom}
 use Rattle.stream.proofs.ChunkLaws.{call-closed}
@@ -24,7 +25,8 @@ use Rattle.judgement.specs.Judgement.{judgement}
 use Rattle.judgement.proofs.VerdictLaws.{verdict-some}
 use Rattle.counters.specs.Counters.{totalsOf, countersOf}
 use Rattle.counters.specs.declared.Counters.{Counters}
-use Rattle.service.specs.Call.{Memory, stateIn, memoryOf, refusalOf, callOutcome}
+use Rattle.service.specs.Call.{Memory, stateIn, memoryOf, withResponse, layout, Call, CallOutcome, refusalOf, callOutcome}
+use Rattle.service.specs.declared.Refusal.{Refusal}
 use Rattle.service.specs.code.Served.{effectOf}
 use Rattle.service.proofs.CallLaws.{passed, refused-outcome, taken-outcome}
 use Rattle.isolation.specs.History.{Host, with, lent, left, freshWith, CallOn, historyOf, Exchange, exchangesFrom, exchanges, requests}
@@ -45,9 +47,9 @@ HappenedIf list false m bytes response after =
     Stands (connectionOf (after .connection)) [] × (verdictOn (judgement list) (m .registry) (countsIn (m .counters)) bytes
     ≡ record { response = response; registry = after .registry; counts = countsIn (after .counters) }) × OneRequest bytes
 
-abbrev Happened : (list : List ℕ) → Memory → (w : List ℕ) → Call → CallOutcome Memory → Type 0
+abbrev Happened : (list : List ℕ) → Memory → (w : List ℕ) → Call → CallOutcome → Type 0
 Happened list m w call o =
-    HappenedIf list (eqb (o .answer .written) 0) m (w ++ take (o .answer .taken) (call .chunk)) (take (o .answer .written) (o .answer .buffer)) (o .memory)
+    HappenedIf list (eqb (o .answer .given .count) 0) m (w ++ take (o .answer .taken) (call .chunk)) (bytesOf (o .answer .given)) (o .memory)
 
 abbrev Some : Verdict (List ℕ) Counts (List ℕ) → Type 0
 Some v = 0 < length (v .response)
@@ -58,22 +60,22 @@ module _ (list : List ℕ) where
     stored c bytes s = subst (λ (x : Connection). Stands x bytes) (sym (load-store c (stands-well (judgement list) [] c bytes s))) s
 
     landed : (n : ℕ) (o : Option (List ℕ)) (s : State (List ℕ) Counts) → Came (judgement list) (stateIn m) (w ++ take n (call .chunk)) o s
-        → Happened list m w call (record { answer = took n o call; memory = memoryOf s })
-    unfolding took memoryOf stateIn totalsOf countersOf
+        → Happened list m w call (record { answer = took layout n o call; memory = memoryOf s })
+    unfolding layout withResponse written memoryOf stateIn totalsOf countersOf
     landed n none s (stands, same, counts) = (stored (s .connection) _ stands, same, counts)
     landed n (some r) s (stands, verdict, one) =
         let some-response : 0 < length r = subst Some verdict (verdict-some list (m .registry) (countsIn (m .counters)) (w ++ take n (call .chunk))) in
-        rw (ne-eqb (length r) 0 (λ z. (let x : ⊥ = omega arith in x)), take-append-seam) (stored (s .connection) [] stands, verdict, one)
+        rw (ne-eqb (length r) 0 (λ z. (let x : ⊥ = omega arith in x)), bytes-of r (call .lent)) (stored (s .connection) [] stands, verdict, one)
 
     happened : Stands (connectionOf (m .connection)) w → Happened list m w call (callOutcome list m call)
-    unfolding refused stateIn
+    unfolding layout withResponse written stateIn
     happened stands = go (refusalOf list m call) refl
       where
-        go : (o : Option ℕ) → refusalOf list m call ≡ o → Happened list m w call (callOutcome list m call)
+        go : (o : Option Refusal) → refusalOf list m call ≡ o → Happened list m w call (callOutcome list m call)
         go (some code) e = rw (refused-outcome list m call code e) (subst (Stands (connectionOf (m .connection))) (sym (append-nil w)) stands, refl, refl)
         go none e =
             let f = effectOf list m (call .chunk) in
-            rw (taken-outcome list m call e) (landed (f .taken) (f .response) (f .state) (brings (judgement list) (stateIn m) w (call .chunk) stands))
+            rw (taken-outcome list m call e) (landed (f .taken) (f .event) (f .kept) (brings (judgement list) (stateIn m) w (call .chunk) stands))
 
   -- ---- a history
 
@@ -119,12 +121,12 @@ module _ (list : List ℕ) where
   unfolding historyOf exchangesFrom replay registryFrom countsFrom
   serial-from [] h w all = record { answered = refl; registry = refl; counts = refl; one-each = tt }
   serial-from (t ∷ calls) h w all =
-      go (eqb (o .answer .written) 0) (happened (lent h k) (w k) (t .call) (all k)) (serial-from calls (left h k (o .memory)))
+      go (eqb (o .answer .given .count) 0) (happened (lent h k) (w k) (t .call) (all k)) (serial-from calls (left h k (o .memory)))
     where
       k : ℕ
       k = t .connection
 
-      o : CallOutcome Memory
+      o : CallOutcome
       o = callOutcome list (lent h k) (t .call)
 
       h′ : Host
@@ -134,7 +136,7 @@ module _ (list : List ℕ) where
       bytes = w k ++ take (o .answer .taken) (t .call .chunk)
 
       response : List ℕ
-      response = take (o .answer .written) (o .answer .buffer)
+      response = bytesOf (o .answer .given)
 
       more : (ℕ → List ℕ) → List Exchange
       more w′ = exchangesFrom w′ calls (historyOf list h′ calls .answers)
@@ -163,11 +165,11 @@ module _ (list : List ℕ) where
 
   idle-from : (calls : List CallOn) (h : Host) (w : ℕ → List ℕ) → wellFormedRegistry (h .registry) ≡ false
       → exchangesFrom w calls (historyOf list h calls .answers) ≡ []
-  unfolding historyOf exchangesFrom refused
+  unfolding historyOf exchangesFrom layout withResponse written
   idle-from [] h w bad = refl
   idle-from (t ∷ calls) h w bad = go (refusalOf list (lent h (t .connection)) (t .call)) refl (idle-from calls)
     where
-      go : (o : Option ℕ) → refusalOf list (lent h (t .connection)) (t .call) ≡ o
+      go : (o : Option Refusal) → refusalOf list (lent h (t .connection)) (t .call) ≡ o
           → ((h : Host) (w : ℕ → List ℕ) → wellFormedRegistry (h .registry) ≡ false → exchangesFrom w calls (historyOf list h calls .answers) ≡ [])
           → exchangesFrom w (t ∷ calls) (historyOf list h (t ∷ calls) .answers) ≡ []
       go none e ih = absurd (true≢false (sym (passed list (lent h (t .connection)) (t .call) e .ready .registry-good) ∙ bad))
@@ -181,12 +183,12 @@ module _ (list : List ℕ) where
   -- ---- on a closed connection nothing is read
 
   pub closed-unread : (m : Memory) (call : Call) → connectionOf (m .connection) ≡ closed
-      → (callOutcome list m call .answer .written ≡ 0) × (connectionOf (callOutcome list m call .memory .connection) ≡ closed)
-  unfolding refused stateIn took memoryOf
+      → (callOutcome list m call .answer .given .count ≡ 0) × (connectionOf (callOutcome list m call .memory .connection) ≡ closed)
+  unfolding layout withResponse written stateIn memoryOf
   closed-unread m call e = go (refusalOf list m call) refl
     where
-      go : (o : Option ℕ) → refusalOf list m call ≡ o
-          → (callOutcome list m call .answer .written ≡ 0) × (connectionOf (callOutcome list m call .memory .connection) ≡ closed)
+      go : (o : Option Refusal) → refusalOf list m call ≡ o
+          → (callOutcome list m call .answer .given .count ≡ 0) × (connectionOf (callOutcome list m call .memory .connection) ≡ closed)
       go (some code) q = rw (refused-outcome list m call code q) (refl, e)
       go none q =
           rw (taken-outcome list m call q, call-closed (judgement list) (stateIn m) (call .chunk) e)

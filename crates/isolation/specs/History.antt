@@ -8,12 +8,12 @@ use lib.Dec.{eqb}
 use Rattle.wire.specs.Choice.{if_then_else_}
 use Rattle.wire.specs.Lists.{every, same}
 use Rattle.wire.specs.Request.{requestOf}
+use Rattle.reading.specs.Buffer.{bytesOf}
 use Rattle.stream.specs.Frame.{legalStart, oversized}
 use Rattle.stream.specs.Rules.{opened}
-use Rattle.stream.specs.Calls.{Call, Answer}
 use Rattle.connection.specs.Connection.{connectionBytes}
 use Rattle.counters.specs.declared.Counters.{Counters}
-use Rattle.service.specs.Call.{Memory, callOutcome}
+use Rattle.service.specs.Call.{Memory, Call, Answer, callOutcome}
 
 -- ---- what the host keeps
 
@@ -72,8 +72,8 @@ exchangesFrom waiting [] answers = []
 exchangesFrom waiting (c ∷ calls) [] = []
 exchangesFrom waiting (c ∷ calls) (a ∷ answers) =
     let bytes = waiting (c .connection) ++ take (a .taken) (c .call .chunk) in
-    if eqb (a .written) 0 then exchangesFrom (with waiting (c .connection) bytes) calls answers
-    else (record { request = bytes; response = take (a .written) (a .buffer) } ∷ exchangesFrom (with waiting (c .connection) []) calls answers)
+    if eqb (a .given .count) 0 then exchangesFrom (with waiting (c .connection) bytes) calls answers
+    else (record { request = bytes; response = bytesOf (a .given) } ∷ exchangesFrom (with waiting (c .connection) []) calls answers)
 
 unfoldable pub exchanges : List CallOn → List Answer → List Exchange
 exchanges calls answers = exchangesFrom (λ k. []) calls answers

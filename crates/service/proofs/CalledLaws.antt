@@ -8,13 +8,13 @@ use native.Mathlib.Omega.{arith}
 use denote.Enum.Declared.{tagOf}
 use types.Run.{OneOf}
 use Rattle.wire.specs.Choice.{firstOf}
-use Rattle.stream.specs.Calls.{Answer, Call, CallOutcome, refused, took}
+use Rattle.reading.specs.Calls.{refused, took}
+use Rattle.reading.specs.Buffer.{Written, written}
 use Rattle.counters.specs.Counters.{totalsOf, countersOf}
 use Rattle.counters.specs.code.Counted.{countEvent, counted}
 use Rattle.counters.specs.declared.Counters.{Counters}
-use Rattle.service.specs.Refusals.{refusalNumber}
-use Rattle.service.specs.Call.{Memory, memoryOf, refusalTests, codeOf, refusalOf, callOutcome}
-use Rattle.service.specs.Contract.{lentMemory, callWith, codeNumber, outcomeWith, CallContract}
+use Rattle.service.specs.Call.{Memory, memoryOf, withResponse, layout, Call, Answer, CallOutcome, refusalTests, refusalOf, callOutcome}
+use Rattle.service.specs.Contract.{lentMemory, callWith, refusalIn, outcomeWith, CallContract}
 use Rattle.service.specs.code.Called.{codeFor, answerOf, refusedWith}
 use Rattle.service.specs.code.Served.{WroteAny, Carried, effectOf}
 use Rattle.service.specs.declared.Refusal.{Refusal}
@@ -24,8 +24,8 @@ use Rattle.service.specs.declared.Handled.{Handled}
 use Rattle.service.proofs.Code.{the-type}
 use Rattle.service.proofs.CallLaws.{refused-outcome, taken-outcome}
 
-taken-none : (o : Option Refusal) → codeFor o ≡ Taken → codeOf o ≡ none
-unfolding codeFor codeOf
+taken-none : (o : Option Refusal) → codeFor o ≡ Taken → o ≡ none
+unfolding codeFor
 taken-none none e = refl
 taken-none (some refusal) e = cc
 
@@ -50,37 +50,37 @@ module _ (list connection registry : List ℕ) (counters : Counters) (chunk buff
   pub refused-call : (code : Code) (h : Handled) → code ≡ codeFor (firstOf (refusalTests list m call)) → OneOf (1 ∷ []) (tagOf the-type code)
       → h ≡ refusedWith code
       → CallContract list m call (answerOf h) (lentMemory connection registry (counted counters (h .added))) buffer
-  unfolding codeFor codeOf codeNumber refusalOf refused
+  unfolding codeFor refusalIn refusalOf layout withResponse written
   refused-call code h e other says = ap outcome says ∙ ap (λ (x : Counters). leaves code x) (nothing-counted counters code) ∙ go (firstOf (refusalTests list m call)) refl
     where
-      leaves : Code → Counters → CallOutcome Memory
-      leaves c x = outcomeWith (codeNumber c) 0 0 (lentMemory connection registry x) buffer
+      leaves : Code → Counters → CallOutcome
+      leaves c x = outcomeWith c 0 0 (lentMemory connection registry x) buffer
 
-      outcome : Handled → CallOutcome Memory
-      outcome x = outcomeWith (codeNumber (x .code)) (x .added .taken) (x .written) (lentMemory connection registry (counted counters (x .added))) buffer
+      outcome : Handled → CallOutcome
+      outcome x = outcomeWith (x .code) (x .added .taken) (x .written) (lentMemory connection registry (counted counters (x .added))) buffer
 
       go : (f : Option Refusal) → firstOf (refusalTests list m call) ≡ f → leaves code counters ≡ callOutcome list m call
       go none q = absurd (clash (subst (λ (x : Code). OneOf (1 ∷ []) (tagOf the-type x)) (e ∙ ap codeFor q) other))
         where
           clash : OneOf (1 ∷ []) 0 → ⊥
           clash p = omega arith
-      go (some refusal) q = ap (λ (x : Code). leaves x counters) (e ∙ ap codeFor q) ∙ sym (refused-outcome list m call (refusalNumber refusal) (ap codeOf q))
+      go (some refusal) q = ap (λ (x : Code). leaves x counters) (e ∙ ap codeFor q) ∙ sym (refused-outcome list m call refusal q)
 
   took-all : (n w : ℕ) (o : Option (List ℕ)) (after : List ℕ) → WroteAny o buffer after w
-      → record { code = 0; taken = n; written = w; buffer = after } ≡ took n o call
-  unfolding took
-  took-all n w none after (none-written, stays) = λ i. record { code = 0; taken = n; written = none-written i; buffer = stays i }
-  took-all n w (some response) after wrote = λ i. record { code = 0; taken = n; written = wrote .count i; buffer = wrote .bytes i }
+      → record { refusal = none; taken = n; given = record { count = w; buffer = after } } ≡ took {Code = Refusal} layout n o call
+  unfolding layout withResponse written
+  took-all n w none after (none-written, stays) = λ i. record { refusal = none; taken = n; given = record { count = none-written i; buffer = stays i } }
+  took-all n w (some response) after wrote = λ i. record { refusal = none; taken = n; given = record { count = wrote .count i; buffer = wrote .bytes i } }
 
   -- a call that is served says and leaves what was carried out
   pub taken-call : (left kept after : List ℕ) (h : Handled) → refusalOf list m call ≡ none
       → Carried counters (effectOf list m chunk) left kept buffer after h
       → CallContract list m call (answerOf h) (lentMemory left kept (counted counters (h .added))) after
-  unfolding codeNumber memoryOf
+  unfolding refusalIn memoryOf
   taken-call left kept after h passed done =
       (λ i. record {
-        answer = record { code = codeNumber (done .code-is i); taken = done .taken-is i; written = h .written; buffer = after };
+        answer = record { refusal = refusalIn (done .code-is i); taken = done .taken-is i; given = record { count = h .written; buffer = after } };
         memory = record { connection = done .connection-is i; registry = done .registry-is i; counters = done .counters-is i };
       })
-      ∙ ap (λ (x : Answer). record { answer = x; memory = memoryOf (effectOf list m chunk .state) }) (took-all (effectOf list m chunk .taken) (h .written) (effectOf list m chunk .response) after (done .response-is))
+      ∙ ap (λ (x : Answer). record { answer = x; memory = memoryOf (effectOf list m chunk .kept) }) (took-all (effectOf list m chunk .taken) (h .written) (effectOf list m chunk .event) after (done .response-is))
       ∙ sym (taken-outcome list m call passed)

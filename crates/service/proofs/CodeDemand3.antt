@@ -6,15 +6,16 @@ use mathlib.Core.Path.{_≡_, refl, sym, ap, subst, _∙_}
 use mathlib.Core.Bool.{true}
 use mathlib.Core.List.{List, [], _∷_, flatten}
 use lib.ListN.{length, drop}
-use Rattle.stream.specs.Calls.{Call, Answer, CallOutcome, CallsOutcome, callsOn, leaving, handOver}
+use Rattle.reading.specs.Calls.{callsOn, leaving, handOver}
+use Rattle.stream.specs.Call.{reader}
 use Rattle.stream.proofs.DeliveryLaws.{within, TakenWhole}
 use Rattle.registry.specs.WellFormed.{wellFormedRegistry}
 use Rattle.shipped.specs.Shipped.{wellFormedList}
 use Rattle.judgement.specs.Judgement.{judgement}
 use Rattle.counters.specs.Counters.{counterMost}
 use Rattle.counters.specs.declared.Counters.{Counters}
-use Rattle.service.specs.Call.{Memory, layout, fresh, bufferLeast, chunkMost, refusalOf, callOutcome, callsOutcome}
-use Rattle.service.specs.Contract.{lentMemory, callWith, codeNumber, CallContract}
+use Rattle.service.specs.Call.{Memory, layout, Call, Answer, CallOutcome, CallsOutcome, fresh, bufferLeast, chunkMost, refusalOf, callOutcome, callsOutcome}
+use Rattle.service.specs.Contract.{lentMemory, callWith, refusalIn, CallContract}
 use Rattle.service.specs.declared.CallAnswer.{CallAnswer}
 use Rattle.service.proofs.Demand3.{FollowsRules, demand3}
 
@@ -43,7 +44,7 @@ Runs list m (call ∷ calls) [] = ⊥
 Runs list m (call ∷ calls) (r ∷ rest) = Contract list m call r × Runs list (leftBy r) calls rest
 
 abbrev pub answerIn : Ran → Answer
-answerIn r = record { code = codeNumber (r .says .code); taken = r .says .taken; written = r .says .written; buffer = r .response }
+answerIn r = record { refusal = refusalIn (r .says .code); taken = r .says .taken; given = record { count = r .says .written; buffer = r .response } }
 
 abbrev pub answersIn : List Ran → List Answer
 answersIn [] = []
@@ -53,7 +54,7 @@ abbrev pub leftAfter : Memory → List Ran → Memory
 leftAfter m [] = m
 leftAfter m (r ∷ rest) = leftAfter (leftBy r) rest
 
-abbrev pub ranOutcome : Memory → List Ran → CallsOutcome Memory
+abbrev pub ranOutcome : Memory → List Ran → CallsOutcome
 ranOutcome m runs = record { answers = answersIn runs; memory = leftAfter m runs }
 
 -- ---- a caller that hands over what is left of a chunk again, as the code says how many bytes it took
@@ -85,12 +86,12 @@ ran list m [] [] p = refl
 ran list m [] (r ∷ rest) p = absurd p
 ran list m (call ∷ calls) [] p = absurd p
 ran list m (call ∷ calls) (r ∷ rest) (e, p) =
-    ap (λ (o : CallOutcome Memory). (let x : CallsOutcome Memory = record { answers = o .answer ∷ callsOutcome list (o .memory) calls .answers; memory = callsOutcome list (o .memory) calls .memory } in x)) (step list m call r e)
-    ∙ ap (λ (o : CallsOutcome Memory). (let x : CallsOutcome Memory = record { answers = answerIn r ∷ o .answers; memory = o .memory } in x)) (ran list (leftBy r) calls rest p)
+    ap (λ (o : CallOutcome). (let x : CallsOutcome = record { answers = o .answer ∷ callsOutcome list (o .memory) calls .answers; memory = callsOutcome list (o .memory) calls .memory } in x)) (step list m call r e)
+    ∙ ap (λ (o : CallsOutcome). (let x : CallsOutcome = record { answers = answerIn r ∷ o .answers; memory = o .memory } in x)) (ran list (leftBy r) calls rest p)
 
 module _ (list : List ℕ) (buffers : ℕ → List ℕ) where
   handed : (most : ℕ) (m : Memory) (chunks : List (List ℕ)) (runs : List Ran) → HandsOver list most buffers m chunks runs
-      → (callsHanded most buffers chunks runs ≡ handOver (judgement list) layout (refusalOf list) most buffers m chunks) × Runs list m (callsHanded most buffers chunks runs) runs
+      → (callsHanded most buffers chunks runs ≡ handOver (reader (judgement list)) layout (refusalOf list) most buffers m chunks) × Runs list m (callsHanded most buffers chunks runs) runs
   unfolding handOver callOutcome
   handed zero m chunks [] p = (refl, tt)
   handed zero m chunks (r ∷ rest) p = absurd p
@@ -100,7 +101,7 @@ module _ (list : List ℕ) (buffers : ℕ → List ℕ) where
   handed (suc most) m (chunk ∷ chunks) (r ∷ rest) (e, p) =
       let (same, runs) = handed most (leftBy r) (leaving (drop (r .says .taken) chunk) chunks) rest p in (
         ap (λ (calls : List Call). callWith chunk (buffers most) ∷ calls)
-            (same ∙ ap (λ (o : CallOutcome Memory). handOver (judgement list) layout (refusalOf list) most buffers (o .memory) (leaving (drop (o .answer .taken) chunk) chunks)) (sym (step list m (callWith chunk (buffers most)) r e))),
+            (same ∙ ap (λ (o : CallOutcome). handOver (reader (judgement list)) layout (refusalOf list) most buffers (o .memory) (leaving (drop (o .answer .taken) chunk) chunks)) (sym (step list m (callWith chunk (buffers most)) r e))),
         (e, runs),
       )
 

@@ -3,20 +3,24 @@
 use mathlib.Core.Path.{_≡_, ap, _∙_}
 use mathlib.Core.Bool.{true}
 use mathlib.Core.Option.{none}
-use mathlib.Core.List.{List, [], flatten}
+use mathlib.Core.List.{List, [], _∷_, flatten, map-id}
 use Prim.Native.Nat.{ℕ, _+_, _≤_}
 use native.Mathlib.Omega.{arith}
 use borrow.Author.Tests.{le-ltb}
 use lib.ListN.{length}
 use Rattle.wire.specs.Choice.{firstOf}
 use Rattle.wire.proofs.TestLaws.{either}
+use Rattle.reading.specs.Calls.{takenStream, handOver, answersBy}
+use Rattle.reading.specs.Buffer.{bytesOf, asOne}
+use Rattle.reading.proofs.CallsLaws.{said-each, Finds}
+use Rattle.reading.proofs.BufferLaws.{bytes-of, as-one, as-none}
 use Rattle.stream.specs.Frame.{oversized}
 use Rattle.stream.specs.Rules.{heldBytes, State, judge, rules}
 use Rattle.stream.specs.Call as stream
+use Rattle.stream.specs.Call.{reader, byRules}
 use Rattle.stream.specs.Parts.{joined, partsOf, responsesTo}
-use Rattle.stream.specs.Calls.{Call, CallsOutcome, joinedResponses, responsesIn, takenStream, handOver, answersByRules}
 use Rattle.stream.proofs.PartsLaws.{one-each}
-use Rattle.stream.proofs.ResponseLaws.{Answers, Every, Anything, NotEmpty, responses-each}
+use Rattle.stream.proofs.ResponseLaws.{Answers, Every, Anything, NotEmpty, every-event}
 use Rattle.stream.proofs.KeptLaws.{rules-connection, rules-kept}
 use Rattle.stream.proofs.CallsLaws.{Lawful, follows-rules}
 use Rattle.stream.proofs.DeliveryLaws.{within, TakenWhole, delivered}
@@ -29,7 +33,7 @@ use Rattle.judgement.specs.Judgement.{refusedEarly, verdictOf, judgement}
 use Rattle.judgement.proofs.ResponseLaws.{response-some}
 use Rattle.counters.specs.Counters.{totalsOf, countersOf, zeroCounters, counterMost, largestCount, largestCounter}
 use Rattle.counters.proofs.RequestLaws.{rules-requests}
-use Rattle.service.specs.Call.{Memory, stateIn, memoryOf, layout, fresh, bufferLeast, chunkMost, refusalTests, codeOf, refusalOf, callsOutcome}
+use Rattle.service.specs.Call.{Memory, stateIn, memoryOf, withResponse, layout, Call, CallsOutcome, fresh, bufferLeast, chunkMost, refusalTests, refusalOf, callsOutcome, joinedResponses, responsesIn}
 use Rattle.service.proofs.KeptLaws.{keeps}
 
 -- ---- memory
@@ -41,9 +45,9 @@ lawful s w = λ i. record { connection = load-store (s .connection) w i; registr
 -- ---- what the rules keep is refused for the buffer or the chunk alone
 
 pub accepts : (list registry : List ℕ) → wellFormedRegistry registry ≡ true → wellFormedList list ≡ true → (seen : List ℕ) (call : Call)
-    → length seen ≤ counterMost → length (call .chunk) ≤ chunkMost → bufferLeast ≤ length (call .buffer)
+    → length seen ≤ counterMost → length (call .chunk) ≤ chunkMost → bufferLeast ≤ length (call .lent)
     → refusalOf list (memoryOf (rules (judgement list) registry seen .state)) call ≡ none
-unfolding refusalOf refusalTests codeOf firstOf memoryOf countersOf
+unfolding refusalOf refusalTests firstOf memoryOf countersOf
 accepts list registry w good seen call h short room =
     let s : State (List ℕ) Counts = rules (judgement list) registry seen .state in
     let k = rules-kept largestCount wellFormedRegistry (judgement list) (keeps list) registry w seen in
@@ -53,7 +57,7 @@ accepts list registry w good seen call h short room =
     let counts = k .counts in
     let small : largestCounter (countersOf (s .totals)) ≤ counterMost = unfold largestCounter totalsOf countersOf in omega arith in
     rw (
-      le-ltb (length (call .buffer)) bufferLeast room,
+      le-ltb (length (call .lent)) bufferLeast room,
       le-ltb chunkMost (length (call .chunk)) short,
       stored-good (s .connection) (rules-connection (judgement list) registry seen),
       k .good,
@@ -61,8 +65,17 @@ accepts list registry w good seen call h short room =
       good,
     )
 
--- ---- requests
+-- ---- responses: what a call says that it wrote is what the rules hand out
 
+-- joined,
+finds-response : (list : List ℕ) → Finds (reader (judgement list)) layout bytesOf (λ response. response)
+unfolding layout withResponse
+finds-response list = record {
+  nothing = λ buffer. bytes-of [] buffer;
+  event = λ s b response e buffer. bytes-of response buffer;
+}
+
+-- and one by one, for none is empty
 never-empty : (list : List ℕ) → Every (judgement list) Anything NotEmpty
 unfolding judge judgement refusedEarly verdictOf
 never-empty list = record {
@@ -74,6 +87,15 @@ never-empty list = record {
       (λ _. record { response = response-some _ _ _ _ _; registry = tt });
 }
 
+finds-each : (list : List ℕ) → Finds (reader (judgement list)) layout asOne (λ response. response ∷ [])
+unfolding layout withResponse
+finds-each list = record {
+  nothing = λ buffer. as-none buffer;
+  event = λ s b response e buffer. as-one response buffer (every-event (judgement list) Anything NotEmpty (never-empty list) s tt b response e);
+}
+
+-- ---- requests
+
 -- the counters that the rules leave have as many requests as they answered
 requests-stored : (list registry stream : List ℕ)
     → requestsIn (totalsOf (memoryOf (rules (judgement list) registry stream .state) .counters) .counts) ≡ length (partsOf stream .answered)
@@ -83,9 +105,9 @@ requests-stored list registry stream = rules-requests list registry stream
 -- ---- the claim
 
 -- what a list of calls did, against the rules on the joined stream of taken bytes, uncut
-pub record FollowsRules (list registry : List ℕ) (calls : List Call) (o : CallsOutcome Memory) : Type 0 where
+pub record FollowsRules (list registry : List ℕ) (calls : List Call) (o : CallsOutcome) : Type 0 where
   -- each call answers as the rules say: refused with its code, or so many bytes taken and that response written
-  pub answers : o .answers ≡ answersByRules (judgement list) layout (refusalOf list) registry [] calls
+  pub answers : o .answers ≡ answersBy (byRules (judgement list) registry) layout (refusalOf list) [] calls
   -- the joined responses are theirs
   pub responses : joinedResponses (o .answers) ≡ flatten (rules (judgement list) registry (takenStream calls (o .answers)) .responses)
   -- and so are connection, registry and counters
@@ -114,21 +136,22 @@ pub record Demand3 (list registry : List ℕ) : Type 0 where
   pub taken : wellFormedRegistry registry ≡ true → wellFormedList list ≡ true → (chunks : List (List ℕ)) (buffers : ℕ → List ℕ) (most : ℕ)
       → length (flatten chunks) ≤ counterMost → within chunkMost chunks ≡ true → ((k : ℕ) → bufferLeast ≤ length (buffers k))
       → length (flatten chunks) + length chunks ≤ most
-      → (let calls : List Call = handOver (judgement list) layout (refusalOf list) most buffers (fresh registry) chunks in
+      → (let calls : List Call = handOver (reader (judgement list)) layout (refusalOf list) most buffers (fresh registry) chunks in
       TakenWhole chunks calls (callsOutcome list (fresh registry) calls))
 
 pub demand3 : (list registry : List ℕ) → Demand3 list registry
 unfolding callsOutcome fresh layout stateIn memoryOf stream.fresh judgement zeroCounters totalsOf
 demand3 list registry = record {
   follows = λ calls.
-      let o : CallsOutcome Memory = callsOutcome list (fresh registry) calls in
+      let o : CallsOutcome = callsOutcome list (fresh registry) calls in
       let stream : List ℕ = takenStream calls (o .answers) in
       let f = follows-rules (judgement list) layout lawful (refusalOf list) registry calls in
+      let responses : List (List ℕ) = rules (judgement list) registry stream .responses in
       let each : responsesIn (o .answers) ≡ responsesTo (judgement list) registry (partsOf stream .answered)
-      = responses-each (judgement list) layout lawful (refusalOf list) registry (never-empty list) calls ∙ f .each in
+      = f .outs asOne (λ response. response ∷ []) (finds-each list) ∙ said-each (λ response. response) responses ∙ map-id responses ∙ f .each in
       record {
         answers = f .answers;
-        responses = f .responses;
+        responses = f .outs bytesOf (λ response. response) (finds-response list) ∙ ap flatten (map-id responses);
         memory = f .memory;
         taken = f .taken;
         accounted = f .accounted;
@@ -141,5 +164,6 @@ demand3 list registry = record {
         requests = ap (λ (m : Memory). requestsIn (totalsOf (m .counters) .counts)) (f .memory) ∙ requests-stored list registry stream;
       };
   taken = λ w good chunks buffers most short small room enough.
-      delivered (judgement list) layout lawful (refusalOf list) registry counterMost chunkMost bufferLeast (accepts list registry w good) buffers room most chunks enough small short;
+      delivered (judgement list) layout lawful (refusalOf list) registry counterMost chunkMost buffers
+      (λ seen chunk k h few. accepts list registry w good seen _ h few (room k)) most chunks enough small short;
 }

@@ -13,7 +13,8 @@ use Rattle.wire.specs.Request.{requestLength}
 use Rattle.stream.specs.Frame.{oversized}
 use Rattle.stream.specs.Rules.{Verdict, Connection, opened, skipping, closed, State, judge}
 use Rattle.stream.specs.code.Effects.{waiting, answering, dropping}
-use Rattle.stream.specs.Call.{Effect, callRule}
+use Rattle.reading.specs.Call.{Effect, callRule}
+use Rattle.stream.specs.Call.{reader}
 use Rattle.stream.proofs.ChunkLaws.{call-closed}
 use Rattle.connection.specs.Connection.{laidOut, connectionBytes, connectionOf}
 use Rattle.connection.proofs.ConnectionLaws.{WholeHeader}
@@ -164,25 +165,25 @@ module _ (list connection registry : List ℕ) (c : Counters) (chunk before : Li
   s = stateWith (connectionOf connection) registry c
 
   pub serves-wait : (n : ℕ) (conn : Connection) (left after : List ℕ) (r : Handled)
-      → callRule (judgement list) s chunk ≡ waiting s n conn
+      → callRule (reader (judgement list)) s chunk ≡ waiting s n conn
       → n ≤ chunkMost → r ≡ waited n
       → left ≡ connectionBytes conn → after ≡ before
       → Carried c (effectOf list (lentMemory connection registry c) chunk) left registry before after r
   unfolding stateIn
   serves-wait n conn left after r e few w m b =
-      subst (λ (x : Effect (List ℕ) Counts (List ℕ)). Carried c x left registry before after r) (sym e)
+      subst (λ (x : Effect (State (List ℕ) Counts) (List ℕ)). Carried c x left registry before after r) (sym e)
       (carried-wait (connectionOf connection) registry c n conn left before after r few w m b)
 
   pub serves-answer : (v : Counts → Verdict (List ℕ) Counts (List ℕ)) (n size : ℕ) (conn : Connection) (left kept after : List ℕ) (a : Answered) (r : Handled)
       → Steady v
-      → callRule (judgement list) s chunk ≡ answering s n size (v (totalsOf c .counts)) conn
+      → callRule (reader (judgement list)) s chunk ≡ answering s n size (v (totalsOf c .counts)) conn
       → AnsweredBy v kept before after a
       → n ≤ chunkMost → size < 2 ^ 40 → r ≡ finished n size a
       → left ≡ connectionBytes conn
       → Carried c (effectOf list (lentMemory connection registry c) chunk) left kept before after r
   unfolding stateIn
   serves-answer v n size conn left kept after a r steady e by few small w m =
-      subst (λ (x : Effect (List ℕ) Counts (List ℕ)). Carried c x left kept before after r) (sym e)
+      subst (λ (x : Effect (State (List ℕ) Counts) (List ℕ)). Carried c x left kept before after r) (sym e)
       (carried-answer (connectionOf connection) registry c v n size conn left kept before after a r few small by (steady .response _ _) (steady .registry _ _) w m)
 
   pub serves-drop : (left after : List ℕ) (r : Handled)
@@ -192,21 +193,21 @@ module _ (list connection registry : List ℕ) (c : Counters) (chunk before : Li
       → Carried c (effectOf list (lentMemory connection registry c) chunk) left registry before after r
   unfolding stateIn
   serves-drop left after r e few w m b =
-      subst (λ (x : Effect (List ℕ) Counts (List ℕ)). Carried c x left registry before after r) (sym (call-closed (judgement list) s chunk e))
+      subst (λ (x : Effect (State (List ℕ) Counts) (List ℕ)). Carried c x left registry before after r) (sym (call-closed (judgement list) s chunk e))
       (carried-drop (connectionOf connection) registry c (length chunk) left before after r few w m b)
 
   -- a request to skip, of which `here` bytes are at hand: waiting or answering, as the rule of a call says
   pub serves-skip : (header : List ℕ) (used here toGo : ℕ) (left after : List ℕ) (r : Handled)
-      → (here < toGo → callRule (judgement list) s chunk ≡ waiting s (used + here) (skipping header (toGo - here)))
-      → (toGo ≤ here → callRule (judgement list) s chunk ≡ answering s (used + toGo) (requestLength header) (judgement list .onOversized registry (totalsOf c .counts) header) (opened []))
+      → (here < toGo → callRule (reader (judgement list)) s chunk ≡ waiting s (used + here) (skipping header (toGo - here)))
+      → (toGo ≤ here → callRule (reader (judgement list)) s chunk ≡ answering s (used + toGo) (requestLength header) (judgement list .onOversized registry (totalsOf c .counts) header) (opened []))
       → Carried c (skipEffect list registry c header used here toGo) left registry before after r
       → Carried c (effectOf list (lentMemory connection registry c) chunk) left registry before after r
   unfolding stateIn
   serves-skip header used here toGo left after r waits answers done = go (ltb here toGo) refl
     where
-      on : skipEffect list registry c header used here toGo ≡ callRule (judgement list) s chunk → Carried c (callRule (judgement list) s chunk) left registry before after r
-      on e = subst (λ (x : Effect (List ℕ) Counts (List ℕ)). Carried c x left registry before after r) e done
+      on : skipEffect list registry c header used here toGo ≡ callRule (reader (judgement list)) s chunk → Carried c (callRule (reader (judgement list)) s chunk) left registry before after r
+      on e = subst (λ (x : Effect (State (List ℕ) Counts) (List ℕ)). Carried c x left registry before after r) e done
 
-      go : (b : Bool) → ltb here toGo ≡ b → Carried c (callRule (judgement list) s chunk) left registry before after r
+      go : (b : Bool) → ltb here toGo ≡ b → Carried c (callRule (reader (judgement list)) s chunk) left registry before after r
       go true t = let less = ltb-true here toGo t in on (skip-waits list registry c header used here toGo less ∙ sym (waits less))
       go false t = let more = ltb-false here toGo t in on (skip-answers list registry c header used here toGo more ∙ sym (answers more))

@@ -8,8 +8,10 @@ use lib.ListN.{length}
 use lib.Dec.{ltb}
 use Rattle.wire.specs.Choice.{firstOf}
 pub use Rattle.wire.specs.Response.{bufferLeast}
+use Rattle.reading.specs.Calls.{Call as CallWith, Answer as AnswerWith, Layout, CallOutcome as CallOutcomeWith, CallsOutcome as CallsOutcomeWith, callOn, callsOn, joinedOut}
+use Rattle.reading.specs.Buffer.{Written, written, bytesOf, asOne}
 use Rattle.stream.specs.Rules.{State, opened}
-use Rattle.stream.specs.Calls.{Call, Layout, CallOutcome, CallsOutcome, callOn, callsOn}
+use Rattle.stream.specs.Call.{reader}
 use Rattle.connection.specs.Connection.{connectionBytes, connectionOf, wellFormedConnection}
 use Rattle.registry.specs.WellFormed.{wellFormedRegistry}
 use Rattle.shipped.specs.Shipped.{wellFormedList}
@@ -17,11 +19,12 @@ use Rattle.judgement.specs.Counts.{Counts}
 use Rattle.judgement.specs.Judgement.{judgement}
 use Rattle.counters.specs.Counters.{totalsOf, countersOf, zeroCounters, counterMost, largestCounter}
 use Rattle.counters.specs.declared.Counters.{Counters}
-use Rattle.service.specs.Refusals.{refusalNumber}
 use Rattle.service.specs.declared.Refusal.{Refusal}
 use Rattle.service.specs.declared.Refusal.the-variants.{ResponseBufferTooSmall, ChunkTooLong, ConnectionIllFormed, RegistryIllFormed, CounterTooHigh, ListIllFormed}
 
--- what a call is lent and changes in place
+-- ---- what a call is lent
+
+-- and changes in place
 pub record Memory : Type 0 where
   pub connection : List ℕ
   pub registry : List ℕ
@@ -33,8 +36,26 @@ stateIn m = record { connection = connectionOf (m .connection); registry = m .re
 unfoldable pub memoryOf : State (List ℕ) Counts → Memory
 memoryOf s = record { connection = connectionBytes (s .connection); registry = s .registry; counters = countersOf (s .totals) }
 
-unfoldable pub layout : Layout Memory (List ℕ) Counts
-layout = record { load = stateIn; store = memoryOf }
+-- and a buffer, which it gives back with the response in it, if there is one
+unfoldable pub withResponse : Option (List ℕ) → (buffer : List ℕ) → Written
+withResponse none buffer = written [] buffer
+withResponse (some response) buffer = written response buffer
+
+unfoldable pub layout : Layout Memory (State (List ℕ) Counts) (List ℕ) (List ℕ) Written
+layout = record { load = stateIn; store = memoryOf; give = withResponse }
+
+-- the call, what it says, and what calls leave
+abbrev pub Call : Type 0
+Call = CallWith (List ℕ)
+
+abbrev pub Answer : Type 0
+Answer = AnswerWith Refusal Written
+
+abbrev pub CallOutcome : Type 0
+CallOutcome = CallOutcomeWith Memory Refusal Written
+
+abbrev pub CallsOutcome : Type 0
+CallsOutcome = CallsOutcomeWith Memory Refusal Written
 
 -- a fresh connection and zero counters
 unfoldable pub fresh : (registry : List ℕ) → Memory
@@ -47,7 +68,7 @@ chunkMost = 65536
 
 unfoldable pub refusalTests : (list : List ℕ) → Memory → Call → List (Bool × Refusal)
 refusalTests list m call =
-    (ltb (length (call .buffer)) bufferLeast, ResponseBufferTooSmall)
+    (ltb (length (call .lent)) bufferLeast, ResponseBufferTooSmall)
     ∷ (ltb chunkMost (length (call .chunk)), ChunkTooLong)
     ∷ (not (wellFormedConnection (m .connection)), ConnectionIllFormed)
     ∷ (not (wellFormedRegistry (m .registry)), RegistryIllFormed)
@@ -55,18 +76,21 @@ refusalTests list m call =
     ∷ (not (wellFormedList list), ListIllFormed)
     ∷ []
 
-unfoldable pub codeOf : Option Refusal → Option ℕ
-codeOf none = none
-codeOf (some refusal) = some (refusalNumber refusal)
-
 -- C1 to C6, first that applies
-unfoldable pub refusalOf : (list : List ℕ) → Memory → Call → Option ℕ
-refusalOf list m call = codeOf (firstOf (refusalTests list m call))
+unfoldable pub refusalOf : (list : List ℕ) → Memory → Call → Option Refusal
+refusalOf list m call = firstOf (refusalTests list m call)
 
 -- ---- the call, and a list of calls; all are lent the same list of keys that we ship, read-only
 
-unfoldable pub callOutcome : (list : List ℕ) → Memory → Call → CallOutcome Memory
-callOutcome list m call = callOn (judgement list) layout (refusalOf list) m call
+unfoldable pub callOutcome : (list : List ℕ) → Memory → Call → CallOutcome
+callOutcome list m call = callOn (reader (judgement list)) layout (refusalOf list) m call
 
-unfoldable pub callsOutcome : (list : List ℕ) → Memory → List Call → CallsOutcome Memory
-callsOutcome list m calls = callsOn (judgement list) layout (refusalOf list) m calls
+unfoldable pub callsOutcome : (list : List ℕ) → Memory → List Call → CallsOutcome
+callsOutcome list m calls = callsOn (reader (judgement list)) layout (refusalOf list) m calls
+
+-- the joined responses, and the responses one by one
+abbrev pub joinedResponses : List Answer → List ℕ
+joinedResponses answers = joinedOut bytesOf answers
+
+abbrev pub responsesIn : List Answer → List (List ℕ)
+responsesIn answers = joinedOut asOne answers

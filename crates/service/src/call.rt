@@ -13,7 +13,7 @@ use counters::counting::with_increments;
 ghost use mathlib.Core.Path.{_≡_};
 ghost use Rattle.counters.specs.code.Counted.{counted, Fits};
 ghost use Rattle.service.specs.Call.{callOutcome};
-ghost use Rattle.service.specs.Contract.{lentMemory, callWith, codeNumber, outcomeWith, CallContract};
+ghost use Rattle.service.specs.Contract.{lentMemory, callWith, outcomeWith, CallContract};
 ghost use Rattle.service.specs.code.Called.{outcomeOf, answerOf, refusedWith};
 
 // A refused call takes nothing, writes nothing and alters nothing.
@@ -92,7 +92,7 @@ pub fn call_by_value(
     counters: Counters,
     response: &mut [u8],
 ) -> Outcome
-    ensures { λ r. ⌜ outcomeWith (codeNumber (r .code)) (r .taken) (r .written) (lentMemory (now (connection .exit)) (now (registry .exit)) (r .counters)) (now (response .exit)) ≡ callOutcome (now (list .entry)) (lentMemory (now (connection .entry)) (now (registry .entry)) counters) (callWith (now (chunk .entry)) (now (response .entry))) ⌝ }
+    ensures { λ r. ⌜ outcomeWith (r .code) (r .taken) (r .written) (lentMemory (now (connection .exit)) (now (registry .exit)) (r .counters)) (now (response .exit)) ≡ callOutcome (now (list .entry)) (lentMemory (now (connection .entry)) (now (registry .entry)) counters) (callWith (now (chunk .entry)) (now (response .entry))) ⌝ }
 {
     let h = handle(chunk, connection, registry, list, counters, response);
     let after = with_increments(counters, added_of(h));

@@ -11,10 +11,12 @@ use lib.Dec.{leb, eqb}
 use borrow.Author.Tests.{leb-true, leb-false, lt-leb, le-leb, eqb-true}
 use Rattle.wire.specs.Request.{contentLength, authLength, headerLength, requestLength}
 use Rattle.wire.proofs.TestLaws.{and-left, and-right}
+use Rattle.reading.specs.Reader.{Step}
+use Rattle.reading.specs.Call.{Effect, callRule}
 use Rattle.stream.specs.Frame.{legalStart, oversized, Next, unfinished, badStart, skipped, whole, next}
 use Rattle.stream.specs.Rules.{Verdict, Judgement, Connection, opened, skipping, closed, State, judge}
 use Rattle.stream.specs.code.Effects.{waiting, answering, dropping}
-use Rattle.stream.specs.Call.{isBeginning, wellFormed, Step, keep, respond, dropByte, openRule, skipRule, byteRule, Effect, callRule}
+use Rattle.stream.specs.Call.{isBeginning, wellFormed, keep, respond, dropByte, openRule, skipRule, byteRule, reader}
 use Rattle.stream.proofs.FrameLaws.{Unfinished, Skipped, Shape, isUnfinished, isBad, isSkipped, isWhole, shape, next-unfinished, next-bad, next-skipped, next-whole, legal-size, whole-append, bad-append, bad-behind, whole-behind, length-snoc, whole-last, bad-last, header-length, skipped-stays, skipped-ends, judge-large}
 use Rattle.stream.proofs.CallLaws.{call-responds, call-goes-on}
 
@@ -81,11 +83,11 @@ unfinished-next s e = go (next s) refl
 -- ---- effects, field by field
 
 module _ {Reg Count Out : Type 0} where
-  abbrev effectOf : ℕ → Option Out → Connection → Reg → (taken answered dropped : ℕ) → Count → Effect Reg Count Out
+  abbrev effectOf : ℕ → Option Out → Connection → Reg → (taken answered dropped : ℕ) → Count → Effect (State Reg Count) Out
   effectOf n response connection registry taken answered dropped counts = record {
     taken = n;
-    response = response;
-    state = record {
+    event = response;
+    kept = record {
       connection = connection;
       registry = registry;
       totals = record { taken = taken; answered = answered; dropped = dropped; counts = counts };
@@ -93,8 +95,8 @@ module _ {Reg Count Out : Type 0} where
   }
 
   -- one byte before
-  abbrev later : Effect Reg Count Out → Effect Reg Count Out
-  later e = record { taken = suc (e .taken); response = e .response; state = e .state }
+  abbrev later : Effect (State Reg Count) Out → Effect (State Reg Count) Out
+  later e = record { taken = suc (e .taken); event = e .event; kept = e .kept }
 
 module _ {Reg Count Out : Type 0} (J : Judgement Reg Count Out) where
   -- ---- one byte
@@ -136,7 +138,7 @@ module _ {Reg Count Out : Type 0} (J : Judgement Reg Count Out) where
 
   -- ---- the first byte of a call, and the rest
 
-  call-nothing : (s : State Reg Count) (c : Connection) → s .connection ≡ c → callRule J s [] ≡ waiting s 0 c
+  call-nothing : (s : State Reg Count) (c : Connection) → s .connection ≡ c → callRule (reader J) s [] ≡ waiting s 0 c
   unfolding callRule
   call-nothing s c e =
       let t : s .totals .taken ≡ s .totals .taken + 0 = omega arith in
@@ -144,42 +146,42 @@ module _ {Reg Count Out : Type 0} (J : Judgement Reg Count Out) where
 
   module _ (s : State Reg Count) (b : ℕ) (chunk : List ℕ) where
     call-keeps : (c : Connection) → byteRule J s b ≡ keep J s c
-        → callRule J s (b ∷ chunk) ≡ later (callRule J (keep J s c .state) chunk)
+        → callRule (reader J) s (b ∷ chunk) ≡ later (callRule (reader J) (keep J s c .kept) chunk)
     unfolding keep
     call-keeps c e =
-        call-goes-on J s b chunk (ap (λ (x : Step Reg Count Out). x .response) e)
-        ∙ ap (λ (x : Step Reg Count Out). later (callRule J (x .state) chunk)) e
+        call-goes-on J s b chunk (ap (λ (x : Step (State Reg Count) Out). x .event) e)
+        ∙ ap (λ (x : Step (State Reg Count) Out). later (callRule (reader J) (x .kept) chunk)) e
 
     call-drops : byteRule J s b ≡ dropByte J s
-        → callRule J s (b ∷ chunk) ≡ later (callRule J (dropByte J s .state) chunk)
+        → callRule (reader J) s (b ∷ chunk) ≡ later (callRule (reader J) (dropByte J s .kept) chunk)
     unfolding dropByte
     call-drops e =
-        call-goes-on J s b chunk (ap (λ (x : Step Reg Count Out). x .response) e)
-        ∙ ap (λ (x : Step Reg Count Out). later (callRule J (x .state) chunk)) e
+        call-goes-on J s b chunk (ap (λ (x : Step (State Reg Count) Out). x .event) e)
+        ∙ ap (λ (x : Step (State Reg Count) Out). later (callRule (reader J) (x .kept) chunk)) e
 
     call-answers : (size : ℕ) (v : Verdict Reg Count Out) (c : Connection) → byteRule J s b ≡ respond J s size v c
-        → callRule J s (b ∷ chunk) ≡ answering s 1 size v c
+        → callRule (reader J) s (b ∷ chunk) ≡ answering s 1 size v c
     unfolding respond
     call-answers size v c e =
         let t : suc (s .totals .taken) ≡ s .totals .taken + 1 = omega arith in
-        call-responds J s b chunk (v .response) (ap (λ (x : Step Reg Count Out). x .response) e)
-        ∙ ap (λ (x : Step Reg Count Out). record { taken = 1; response = some (v .response); state = x .state }) e
+        call-responds J s b chunk (v .response) (ap (λ (x : Step (State Reg Count) Out). x .event) e)
+        ∙ ap (λ (x : Step (State Reg Count) Out). record { taken = 1; event = some (v .response); kept = x .kept }) e
         ∙ (λ i. effectOf 1 (some (v .response)) c (v .registry) (t i) (s .totals .answered + size) (s .totals .dropped) (v .counts))
 
-  later-waiting : (s : State Reg Count) (c₀ c : Connection) (n : ℕ) → later (waiting (keep J s c₀ .state) n c) ≡ waiting {Out = Out} s (suc n) c
+  later-waiting : (s : State Reg Count) (c₀ c : Connection) (n : ℕ) → later (waiting (keep J s c₀ .kept) n c) ≡ waiting {Out = Out} s (suc n) c
   unfolding keep
   later-waiting s c₀ c n =
       let t : suc (s .totals .taken) + n ≡ s .totals .taken + suc n = omega arith in
       λ i. effectOf (suc n) none c (s .registry) (t i) (s .totals .answered) (s .totals .dropped) (s .totals .counts)
 
   later-answering : (s : State Reg Count) (c₀ c : Connection) (n size : ℕ) (v : Verdict Reg Count Out)
-      → later (answering (keep J s c₀ .state) n size v c) ≡ answering s (suc n) size v c
+      → later (answering (keep J s c₀ .kept) n size v c) ≡ answering s (suc n) size v c
   unfolding keep
   later-answering s c₀ c n size v =
       let t : suc (s .totals .taken) + n ≡ s .totals .taken + suc n = omega arith in
       λ i. effectOf (suc n) (some (v .response)) c (v .registry) (t i) (s .totals .answered + size) (s .totals .dropped) (v .counts)
 
-  later-dropping : (s : State Reg Count) (n : ℕ) → later (dropping (dropByte J s .state) n) ≡ dropping {Out = Out} s (suc n)
+  later-dropping : (s : State Reg Count) (n : ℕ) → later (dropping (dropByte J s .kept) n) ≡ dropping {Out = Out} s (suc n)
   unfolding dropByte
   later-dropping s n =
       let t : suc (s .totals .taken) + n ≡ s .totals .taken + suc n = omega arith in
@@ -189,7 +191,7 @@ module _ {Reg Count Out : Type 0} (J : Judgement Reg Count Out) where
   -- ---- LAW 1: a closed connection
 
   pub call-closed : (s : State Reg Count) (chunk : List ℕ) → s .connection ≡ closed
-      → callRule J s chunk ≡ dropping s (length chunk)
+      → callRule (reader J) s chunk ≡ dropping s (length chunk)
   unfolding dropByte
   call-closed s [] e =
       let d : s .totals .dropped ≡ s .totals .dropped + 0 = omega arith in
@@ -197,43 +199,43 @@ module _ {Reg Count Out : Type 0} (J : Judgement Reg Count Out) where
       ∙ (λ i. effectOf 0 none closed (s .registry) (s .totals .taken + 0) (s .totals .answered) (d i) (s .totals .counts))
   call-closed s (b ∷ chunk) e =
       call-drops s b chunk (byte-closed s b e)
-      ∙ ap later (call-closed (dropByte J s .state) chunk refl)
+      ∙ ap later (call-closed (dropByte J s .kept) chunk refl)
       ∙ later-dropping s (length chunk)
 
   -- ---- LAW 2: a connection that skips
 
   pub call-skips : (s : State Reg Count) (header : List ℕ) (toGo : ℕ) (chunk : List ℕ) → s .connection ≡ skipping header toGo
       → length chunk < toGo
-      → callRule J s chunk ≡ waiting s (length chunk) (skipping header (toGo - length chunk))
+      → callRule (reader J) s chunk ≡ waiting s (length chunk) (skipping header (toGo - length chunk))
   unfolding keep
   call-skips s header toGo [] e h =
       call-nothing s (skipping header toGo) e
       ∙ ap (λ (n : ℕ). waiting s 0 (skipping header n)) (omega arith)
   call-skips s header toGo (b ∷ chunk) e h =
       call-keeps s b chunk (skipping header (toGo - 1)) (byte-skips s b header toGo e (omega arith))
-      ∙ ap later (call-skips (keep J s (skipping header (toGo - 1)) .state) header (toGo - 1) chunk refl (omega arith))
+      ∙ ap later (call-skips (keep J s (skipping header (toGo - 1)) .kept) header (toGo - 1) chunk refl (omega arith))
       ∙ later-waiting s (skipping header (toGo - 1)) (skipping header (toGo - 1 - length chunk)) (length chunk)
       ∙ ap (λ (n : ℕ). waiting s (suc (length chunk)) (skipping header n)) (omega arith)
 
   pub call-skipped : (s : State Reg Count) (header : List ℕ) (toGo : ℕ) (chunk : List ℕ) → s .connection ≡ skipping header toGo
       → 1 ≤ toGo → toGo ≤ length chunk
-      → callRule J s chunk
+      → callRule (reader J) s chunk
       ≡ answering s toGo (requestLength header) (J .onOversized (s .registry) (s .totals .counts) header) (opened [])
   unfolding keep
   call-skipped s header toGo [] e l h = absurd (omega arith)
   call-skipped s header toGo (b ∷ chunk) e l h =
-      go (call-skipped (keep J s (skipping header (toGo - 1)) .state) header (toGo - 1) chunk refl) (leb toGo 1) refl
+      go (call-skipped (keep J s (skipping header (toGo - 1)) .kept) header (toGo - 1) chunk refl) (leb toGo 1) refl
     where
       v : Verdict Reg Count Out
       v = J .onOversized (s .registry) (s .totals .counts) header
 
       s′ : State Reg Count
-      s′ = keep J s (skipping header (toGo - 1)) .state
+      s′ = keep J s (skipping header (toGo - 1)) .kept
 
       go : (1 ≤ toGo - 1 → toGo - 1 ≤ length chunk
-          → callRule J s′ chunk ≡ answering s′ (toGo - 1) (requestLength header) v (opened []))
+          → callRule (reader J) s′ chunk ≡ answering s′ (toGo - 1) (requestLength header) v (opened []))
           → (t : Bool) → leb toGo 1 ≡ t
-          → callRule J s (b ∷ chunk) ≡ answering s toGo (requestLength header) v (opened [])
+          → callRule (reader J) s (b ∷ chunk) ≡ answering s toGo (requestLength header) v (opened [])
       go ih true t =
           let k : toGo ≤ 1 = leb-true _ _ t in
           let one : 1 ≡ toGo = omega arith in
@@ -251,7 +253,7 @@ module _ {Reg Count Out : Type 0} (J : Judgement Reg Count Out) where
 
 module _ {Reg Count Out : Type 0} (J : Judgement Reg Count Out) where
   -- what a call does on an open connection that holds `h` bytes, by what these and the `n` bytes of the chunk begin with
-  openEffect : State Reg Count → (h n : ℕ) → List ℕ → Next → Effect Reg Count Out
+  openEffect : State Reg Count → (h n : ℕ) → List ℕ → Next → Effect (State Reg Count) Out
   openEffect s h n all unfinished = waiting s n (opened all)
   openEffect s h n all badStart = answering s (6 - h) 6 (J .onBadStart (s .registry) (s .totals .counts)) closed
   openEffect s h n all (skipped header missing) = waiting s n (skipping header missing)
@@ -259,13 +261,13 @@ module _ {Reg Count Out : Type 0} (J : Judgement Reg Count Out) where
       answering s (size - h) size (judge J (s .registry) (s .totals .counts) (take size all)) (opened [])
 
   -- the effect is the open connection's
-  abbrev Opened : State Reg Count → ℕ → ℕ → List ℕ → Effect Reg Count Out → Type 0
+  abbrev Opened : State Reg Count → ℕ → ℕ → List ℕ → Effect (State Reg Count) Out → Type 0
   Opened s h n all effect = effect ≡ openEffect s h n all (next all)
 
   -- the first byte: `x` is what was held, with it
   module _ (s : State Reg Count) (h : ℕ) (x : List ℕ) (longer : length x ≡ suc h) (b : ℕ) (chunk : List ℕ) where
     shifted : Unfinished x → Shape (x ++ chunk)
-        → later (openEffect (keep J s (opened x) .state) (length x) (length chunk) (x ++ chunk) (next (x ++ chunk)))
+        → later (openEffect (keep J s (opened x) .kept) (length x) (length chunk) (x ++ chunk) (next (x ++ chunk)))
         ≡ openEffect s h (suc (length chunk)) (x ++ chunk) (next (x ++ chunk))
     unfolding openEffect keep
     shifted u (isUnfinished v) =
@@ -289,13 +291,13 @@ module _ {Reg Count Out : Type 0} (J : Judgement Reg Count Out) where
         ∙ ap (λ (m : ℕ). answering s m (requestLength (x ++ chunk)) v (opened [])) c)
 
     first-unfinished : Unfinished x → byteRule J s b ≡ keep J s (opened x)
-        → Opened (keep J s (opened x) .state) (length x) (length chunk) (x ++ chunk) (callRule J (keep J s (opened x) .state) chunk)
-        → Opened s h (suc (length chunk)) (x ++ chunk) (callRule J s (b ∷ chunk))
+        → Opened (keep J s (opened x) .kept) (length x) (length chunk) (x ++ chunk) (callRule (reader J) (keep J s (opened x) .kept) chunk)
+        → Opened s h (suc (length chunk)) (x ++ chunk) (callRule (reader J) s (b ∷ chunk))
     first-unfinished u e ih = call-keeps J s b chunk (opened x) e ∙ ap later ih ∙ shifted u (shape (x ++ chunk))
 
     first-bad : 6 ≤ length x → legalStart x ≡ false → length x ≡ 6
         → byteRule J s b ≡ respond J s 6 (J .onBadStart (s .registry) (s .totals .counts)) closed
-        → Opened s h (suc (length chunk)) (x ++ chunk) (callRule J s (b ∷ chunk))
+        → Opened s h (suc (length chunk)) (x ++ chunk) (callRule (reader J) s (b ∷ chunk))
     unfolding openEffect
     first-bad g l six e =
         let v : Verdict Reg Count Out = J .onBadStart (s .registry) (s .totals .counts) in
@@ -304,7 +306,7 @@ module _ {Reg Count Out : Type 0} (J : Judgement Reg Count Out) where
 
     first-whole : legalStart x ≡ true → requestLength x ≤ length x → requestLength x ≡ length x
         → byteRule J s b ≡ respond J s (requestLength x) (judge J (s .registry) (s .totals .counts) x) (opened [])
-        → Opened s h (suc (length chunk)) (x ++ chunk) (callRule J s (b ∷ chunk))
+        → Opened s h (suc (length chunk)) (x ++ chunk) (callRule (reader J) s (b ∷ chunk))
     unfolding openEffect
     first-whole l m last e =
         let c : 1 ≡ requestLength x - h = omega arith in
@@ -315,12 +317,12 @@ module _ {Reg Count Out : Type 0} (J : Judgement Reg Count Out) where
         ∙ ap₂ (λ (n : ℕ) (t : List ℕ). answering s n (requestLength x) (judge J (s .registry) (s .totals .counts) t) (opened [])) c (sym same))
 
     first-skipped : Skipped x → byteRule J s b ≡ keep J s (skipping (take (headerLength x) x) (requestLength x - length x))
-        → Opened s h (suc (length chunk)) (x ++ chunk) (callRule J s (b ∷ chunk))
+        → Opened s h (suc (length chunk)) (x ++ chunk) (callRule (reader J) s (b ∷ chunk))
     unfolding openEffect keep
     first-skipped k e = go (leb (requestLength x - length x) (length chunk)) refl
       where
         go : (t : Bool) → leb (requestLength x - length x) (length chunk) ≡ t
-            → Opened s h (suc (length chunk)) (x ++ chunk) (callRule J s (b ∷ chunk))
+            → Opened s h (suc (length chunk)) (x ++ chunk) (callRule (reader J) s (b ∷ chunk))
         go true t =
             let fits : requestLength x - length x ≤ length chunk = leb-true _ _ t in
             let more : length x < requestLength x = k .more in
@@ -334,7 +336,7 @@ module _ {Reg Count Out : Type 0} (J : Judgement Reg Count Out) where
             ∙ judge-large J (s .registry) (s .totals .counts) x (take (requestLength x - length x) chunk) k in
             rw (skipped-ends x chunk k fits)
             (call-keeps J s b chunk _ e
-            ∙ ap later (call-skipped J (keep J s (skipping (take (headerLength x) x) (requestLength x - length x)) .state) (take (headerLength x) x) (requestLength x - length x) chunk refl (omega arith) fits)
+            ∙ ap later (call-skipped J (keep J s (skipping (take (headerLength x) x) (requestLength x - length x)) .kept) (take (headerLength x) x) (requestLength x - length x) chunk refl (omega arith) fits)
             ∙ later-answering J s (skipping (take (headerLength x) x) (requestLength x - length x)) (opened []) (requestLength x - length x) (requestLength (take (headerLength x) x)) v
             ∙ ap₂ (λ (n m : ℕ). answering s n m v (opened [])) c (header-length x k)
             ∙ ap (λ (w : Verdict Reg Count Out). answering s (requestLength x - h) (requestLength x) w (opened [])) (sym verdict))
@@ -342,28 +344,28 @@ module _ {Reg Count Out : Type 0} (J : Judgement Reg Count Out) where
             let few : length chunk < requestLength x - length x = leb-false _ _ t in
             rw (skipped-stays x chunk k few)
             (call-keeps J s b chunk _ e
-            ∙ ap later (call-skips J (keep J s (skipping (take (headerLength x) x) (requestLength x - length x)) .state) (take (headerLength x) x) (requestLength x - length x) chunk refl few)
+            ∙ ap later (call-skips J (keep J s (skipping (take (headerLength x) x) (requestLength x - length x)) .kept) (take (headerLength x) x) (requestLength x - length x) chunk refl few)
             ∙ later-waiting J s (skipping (take (headerLength x) x) (requestLength x - length x)) _ (length chunk))
 
   -- ---- LAW 3: an open connection
 
   call-open : (s : State Reg Count) (held chunk : List ℕ) → s .connection ≡ opened held → Unfinished held
-      → callRule J s chunk ≡ openEffect s (length held) (length chunk) (held ++ chunk) (next (held ++ chunk))
+      → callRule (reader J) s chunk ≡ openEffect s (length held) (length chunk) (held ++ chunk) (next (held ++ chunk))
   unfolding keep openEffect
   call-open s held [] e u =
       let same : held ++ [] ≡ held = append-nil held in
       let n : next (held ++ []) ≡ unfinished = ap next same ∙ next-unfinished held u in
       rw n (call-nothing J s (opened held) e ∙ ap (λ (t : List ℕ). waiting s 0 (opened t)) (sym same))
   call-open s held (b ∷ chunk) e u =
-      go (call-open (keep J s (opened (held ++ (b ∷ []))) .state) (held ++ (b ∷ [])) chunk refl) (shape (held ++ (b ∷ [])))
+      go (call-open (keep J s (opened (held ++ (b ∷ []))) .kept) (held ++ (b ∷ [])) chunk refl) (shape (held ++ (b ∷ [])))
       ∙ ap (λ (all : List ℕ). openEffect s (length held) (suc (length chunk)) all (next all)) (append-assoc held (b ∷ []) chunk)
     where
       x : List ℕ
       x = held ++ (b ∷ [])
 
-      go : (Unfinished x → Opened (keep J s (opened x) .state) (length x) (length chunk) (x ++ chunk) (callRule J (keep J s (opened x) .state) chunk))
+      go : (Unfinished x → Opened (keep J s (opened x) .kept) (length x) (length chunk) (x ++ chunk) (callRule (reader J) (keep J s (opened x) .kept) chunk))
           → Shape x
-          → Opened s (length held) (suc (length chunk)) (x ++ chunk) (callRule J s (b ∷ chunk))
+          → Opened s (length held) (suc (length chunk)) (x ++ chunk) (callRule (reader J) s (b ∷ chunk))
       go ih (isUnfinished v) =
           first-unfinished s (length held) x (length-snoc held b) b chunk v (byte-unfinished J s b held e (next-unfinished _ v)) (ih v)
       go ih (isBad g l) =
@@ -376,25 +378,25 @@ module _ {Reg Count Out : Type 0} (J : Judgement Reg Count Out) where
 
   module _ (s : State Reg Count) (held chunk : List ℕ) (e : s .connection ≡ opened held) (u : next held ≡ unfinished) where
     pub call-unfinished : next (held ++ chunk) ≡ unfinished
-        → callRule J s chunk ≡ waiting s (length chunk) (opened (held ++ chunk))
+        → callRule (reader J) s chunk ≡ waiting s (length chunk) (opened (held ++ chunk))
     unfolding openEffect
     call-unfinished n =
         call-open s held chunk e (unfinished-held held u) ∙ ap (openEffect s (length held) (length chunk) (held ++ chunk)) n
 
     pub call-bad : next (held ++ chunk) ≡ badStart
-        → callRule J s chunk ≡ answering s (6 - length held) 6 (J .onBadStart (s .registry) (s .totals .counts)) closed
+        → callRule (reader J) s chunk ≡ answering s (6 - length held) 6 (J .onBadStart (s .registry) (s .totals .counts)) closed
     unfolding openEffect
     call-bad n =
         call-open s held chunk e (unfinished-held held u) ∙ ap (openEffect s (length held) (length chunk) (held ++ chunk)) n
 
     pub call-large : (header : List ℕ) (missing : ℕ) → next (held ++ chunk) ≡ skipped header missing
-        → callRule J s chunk ≡ waiting s (length chunk) (skipping header missing)
+        → callRule (reader J) s chunk ≡ waiting s (length chunk) (skipping header missing)
     unfolding openEffect
     call-large header missing n =
         call-open s held chunk e (unfinished-held held u) ∙ ap (openEffect s (length held) (length chunk) (held ++ chunk)) n
 
     pub call-whole : (n : ℕ) → next (held ++ chunk) ≡ whole n
-        → callRule J s chunk
+        → callRule (reader J) s chunk
         ≡ answering s (n - length held) n (judge J (s .registry) (s .totals .counts) (take n (held ++ chunk))) (opened [])
     unfolding openEffect
     call-whole n q =

@@ -6,10 +6,11 @@ use native.Mathlib.Omega.{arith}
 use lib.ListN.{length, take, drop, length-append, length-drop, take-append-drop}
 use lib.Seq.{take-all, take-append-seam, take-append-add, length-take-le}
 use Rattle.wire.specs.Request.{requestLength}
+use Rattle.reading.specs.Call.{callRule}
 use Rattle.stream.specs.Frame.{unfinished, badStart, skipped, whole, next}
 use Rattle.stream.specs.Rules.{Verdict, Judgement, opened, skipping, closed, State, judge}
 use Rattle.stream.specs.code.Effects.{waiting, answering}
-use Rattle.stream.specs.Call.{callRule}
+use Rattle.stream.specs.Call.{reader}
 use Rattle.stream.proofs.FrameLaws.{whole-append, bad-append, header-length, skipped-stays, skipped-ends, judge-large}
 use Rattle.stream.proofs.ChunkLaws.{bad-found, whole-found, Skip, skip-found, call-unfinished, call-bad, call-large, call-whole}
 
@@ -23,21 +24,21 @@ module _ {Reg Count Out : Type 0} (J : Judgement Reg Count Out) (s : State Reg C
   seam = append-assoc held (take used chunk) (drop used chunk) ∙ ap (λ (x : List ℕ). held ++ x) (take-append-drop used chunk)
 
   pub after-unfinished : next (held ++ take used chunk) ≡ unfinished → used ≡ length chunk
-      → callRule J s chunk ≡ waiting s used (opened (held ++ take used chunk))
+      → callRule (reader J) s chunk ≡ waiting s used (opened (held ++ take used chunk))
   after-unfinished n all =
       let same : take used chunk ≡ chunk = take-all used chunk (omega arith) in
       call-unfinished J s held chunk e u (ap (λ (x : List ℕ). next (held ++ x)) (sym same) ∙ n)
       ∙ ap₂ (λ (k : ℕ) (x : List ℕ). waiting s k (opened (held ++ x))) (sym all) (sym same)
 
   pub after-bad : next (held ++ take used chunk) ≡ badStart → length held + used ≡ 6
-      → callRule J s chunk ≡ answering s used 6 (J .onBadStart (s .registry) (s .totals .counts)) closed
+      → callRule (reader J) s chunk ≡ answering s used 6 (J .onBadStart (s .registry) (s .totals .counts)) closed
   after-bad n six =
       let (h, l) = bad-found (held ++ take used chunk) n in
       call-bad J s held chunk e u (ap next (sym seam) ∙ bad-append (held ++ take used chunk) (drop used chunk) h l)
       ∙ ap (λ (k : ℕ). answering s k 6 (J .onBadStart (s .registry) (s .totals .counts)) closed) (let x : 6 - length held ≡ used = omega arith in x)
 
   pub after-whole : (n : ℕ) → next (held ++ take used chunk) ≡ whole n → length held + used ≡ n
-      → callRule J s chunk ≡ answering s used n (judge J (s .registry) (s .totals .counts) (held ++ take used chunk)) (opened [])
+      → callRule (reader J) s chunk ≡ answering s used n (judge J (s .registry) (s .totals .counts) (held ++ take used chunk)) (opened [])
   after-whole n q all =
       let (l, r, h) = whole-found (held ++ take used chunk) n q in
       let now : next (held ++ chunk) ≡ whole n
@@ -54,7 +55,7 @@ module _ {Reg Count Out : Type 0} (J : Judgement Reg Count Out) (s : State Reg C
     rest : length (drop used chunk) ≡ length chunk - used
     rest = length-drop used chunk
 
-    pub after-skips : length chunk - used < m → callRule J s chunk ≡ waiting s (length chunk) (skipping h (m - (length chunk - used)))
+    pub after-skips : length chunk - used < m → callRule (reader J) s chunk ≡ waiting s (length chunk) (skipping h (m - (length chunk - used)))
     after-skips less =
         let missing = found .missing-is in
         let now : next (held ++ chunk) ≡ skipped h (m - (length chunk - used))
@@ -64,7 +65,7 @@ module _ {Reg Count Out : Type 0} (J : Judgement Reg Count Out) (s : State Reg C
         call-large J s held chunk e u h (m - (length chunk - used)) now
 
     pub after-skipped : m ≤ length chunk - used
-        → callRule J s chunk ≡ answering s (used + m) (requestLength h) (J .onOversized (s .registry) (s .totals .counts) h) (opened [])
+        → callRule (reader J) s chunk ≡ answering s (used + m) (requestLength h) (J .onOversized (s .registry) (s .totals .counts) h) (opened [])
     after-skipped fits =
         let x : List ℕ = held ++ take used chunk in
         let missing = found .missing-is in

@@ -100,8 +100,8 @@ module _ {Reg Count Out : Type 0} (J : Judgement Reg Count Out) where
   -- an outcome, and one more byte
   unfoldable pub after : Outcome Reg Count Out → ℕ → Outcome Reg Count Out
   after o b = record {
-    responses = withResponse (o .responses) (byteRule J (o .state) b .response);
-    state = byteRule J (o .state) b .state;
+    responses = withResponse (o .responses) (byteRule J (o .state) b .event);
+    state = byteRule J (o .state) b .kept;
   }
 
   module _ (taken : ℕ) (p : Progress Reg Count Out) (s : List ℕ) (b : ℕ) where

@@ -1,15 +1,15 @@
--- One call that is not refused: it takes bytes up to and with the one that brings a response, or all of them ("When a call is
--- not taken").
+-- The rules byte by byte, as a reader of the stream: what calls on it do and say is crate `reading`'s.
 use Prim.Native.Nat.{ℕ, suc, _+_, _-_}
 use mathlib.Core.Bool.{Bool, true, false, _&&_}
-use mathlib.Core.Option.{Option, none, some}
+use mathlib.Core.Option.{none, some}
 use mathlib.Core.List.{List, [], _∷_, _++_}
 use lib.ListN.{length}
 use lib.Dec.{leb, eqb}
 use Rattle.wire.specs.Choice.{if_then_else_}
 use Rattle.wire.specs.Request.{contentLength, authLength, headerLength, requestLength}
 use Rattle.stream.specs.Frame.{legalStart, oversized, unfinished, badStart, skipped, whole, next}
-use Rattle.stream.specs.Rules.{Verdict, Judgement, Connection, opened, skipping, closed, Totals, State, judge}
+use Rattle.reading.specs.Reader.{Step, Reader, Reading}
+use Rattle.stream.specs.Rules.{Verdict, Judgement, Connection, opened, skipping, closed, Totals, State, judge, rules}
 
 -- ---- which connections there are ("Roster, registry, connection, tally")
 
@@ -32,35 +32,30 @@ wellFormed closed = true
 
 -- ---- one byte
 
--- a response, if there is one, and what is kept after it
-pub record Step (Reg Count Out : Type 0) : Type 0 where
-  pub response : Option Out
-  pub state : State Reg Count
-
 module _ {Reg Count Out : Type 0} (J : Judgement Reg Count Out) where
   -- the byte is taken and brings no response
-  unfoldable pub keep : State Reg Count → Connection → Step Reg Count Out
+  unfoldable pub keep : State Reg Count → Connection → Step (State Reg Count) Out
   keep s connection =
       let t = s .totals in
       let totals : Totals Count = record { taken = suc (t .taken); answered = t .answered; dropped = t .dropped; counts = t .counts } in
-      record { response = none; state = record { connection = connection; registry = s .registry; totals = totals } }
+      record { kept = record { connection = connection; registry = s .registry; totals = totals }; event = none }
 
   -- the byte is taken and is the last of a request of n bytes
-  unfoldable pub respond : State Reg Count → (n : ℕ) → Verdict Reg Count Out → Connection → Step Reg Count Out
+  unfoldable pub respond : State Reg Count → (n : ℕ) → Verdict Reg Count Out → Connection → Step (State Reg Count) Out
   respond s n v connection =
       let t = s .totals in
       let totals : Totals Count = record { taken = suc (t .taken); answered = t .answered + n; dropped = t .dropped; counts = v .counts } in
-      record { response = some (v .response); state = record { connection = connection; registry = v .registry; totals = totals } }
+      record { kept = record { connection = connection; registry = v .registry; totals = totals }; event = some (v .response) }
 
   -- the byte is taken and dropped
-  unfoldable pub dropByte : State Reg Count → Step Reg Count Out
+  unfoldable pub dropByte : State Reg Count → Step (State Reg Count) Out
   dropByte s =
       let t = s .totals in
       let totals : Totals Count = record { taken = suc (t .taken); answered = t .answered; dropped = suc (t .dropped); counts = t .counts } in
-      record { response = none; state = record { connection = closed; registry = s .registry; totals = totals } }
+      record { kept = record { connection = closed; registry = s .registry; totals = totals }; event = none }
 
   -- an open connection that now has these bytes of a request
-  unfoldable pub openRule : State Reg Count → (bytes : List ℕ) → Step Reg Count Out
+  unfoldable pub openRule : State Reg Count → (bytes : List ℕ) → Step (State Reg Count) Out
   openRule s bytes = elim (next bytes) [
     | unfinished ↦ keep s (opened bytes)
     | badStart ↦ respond s 6 (J .onBadStart (s .registry) (s .totals .counts)) closed
@@ -68,37 +63,22 @@ module _ {Reg Count Out : Type 0} (J : Judgement Reg Count Out) where
     | whole n ↦ respond s n (judge J (s .registry) (s .totals .counts) bytes) (opened [])
   ]
 
-  unfoldable pub skipRule : State Reg Count → (header : List ℕ) (toGo : ℕ) → Step Reg Count Out
+  unfoldable pub skipRule : State Reg Count → (header : List ℕ) (toGo : ℕ) → Step (State Reg Count) Out
   skipRule s header toGo =
       if leb toGo 1 then respond s (requestLength header) (J .onOversized (s .registry) (s .totals .counts) header) (opened [])
       else keep s (skipping header (toGo - 1))
 
-  unfoldable pub byteRule : State Reg Count → (byte : ℕ) → Step Reg Count Out
+  unfoldable pub byteRule : State Reg Count → (byte : ℕ) → Step (State Reg Count) Out
   byteRule s byte = elim (s .connection) [
     | opened held ↦ openRule s (held ++ (byte ∷ []))
     | skipping header toGo ↦ skipRule s header toGo
     | closed ↦ dropByte s
   ]
 
--- ---- one call
-
--- how many bytes of the chunk it takes, the response, if there is one, and what is kept after it
-pub record Effect (Reg Count Out : Type 0) : Type 0 where
-  pub taken : ℕ
-  pub response : Option Out
-  pub state : State Reg Count
-
+-- ---- the reader, which never ends: a response is an event, and a closed connection still takes bytes
 module _ {Reg Count Out : Type 0} (J : Judgement Reg Count Out) where
-  unfoldable pub callRule : State Reg Count → (chunk : List ℕ) → Effect Reg Count Out
-  callRule s [] = record { taken = 0; response = none; state = s }
-  callRule s (byte ∷ chunk) =
-      let step = byteRule J s byte in
-      elim (step .response) [
-        | some r ↦ record { taken = 1; response = some r; state = step .state }
-        | none ↦
-            let rest = callRule (step .state) chunk in
-            record { taken = suc (rest .taken); response = rest .response; state = rest .state }
-      ]
+  abbrev pub reader : Reader (State Reg Count) Out
+  reader = record { byte = byteRule J; ended = λ _. false }
 
   -- a fresh connection is open and holds nothing; all counts are 0
   unfoldable pub fresh : Reg → State Reg Count
@@ -107,3 +87,9 @@ module _ {Reg Count Out : Type 0} (J : Judgement Reg Count Out) where
     registry = registry;
     totals = record { taken = 0; answered = 0; dropped = 0; counts = J .noCounts };
   }
+
+  -- THE RULES, as an uncut reading: every byte is taken
+  unfoldable pub byRules : Reg → (stream : List ℕ) → Reading (State Reg Count) Out
+  byRules registry stream =
+      let o = rules J registry stream in
+      record { taken = length stream; events = o .responses; kept = o .state }

@@ -2,5 +2,4 @@ pub mod Frame
 pub mod Rules
 pub mod Call
 pub mod Parts
-pub mod Calls
 pub mod code

@@ -15,16 +15,16 @@ use Rattle.registry.specs.Slots.{usesMost, used}
 use Rattle.registry.specs.Registry.{lineCount, usesOf}
 use Rattle.registry.specs.WellFormed.{wellFormedRegistry}
 use Rattle.registry.specs.declared.Line.{Line}
+use Rattle.reading.specs.Calls.{takenStream}
 use Rattle.stream.specs.Frame.{legalStart, oversized}
 use Rattle.stream.specs.Rules.{judge, rules}
 use Rattle.stream.specs.Parts.{partsOf, verdictOn}
-use Rattle.stream.specs.Calls.{Call, takenStream}
 use Rattle.stream.proofs.PartsLaws.{registryFrom, rules-registry}
 use Rattle.judgement.specs.Counts.{Counts, noCounts, sum, increment}
 use Rattle.judgement.specs.Judgement.{refusedEarly, verdictOf, judgement}
 use Rattle.judgement.proofs.VerdictLaws.{verdict-kept}
 use Rattle.counters.proofs.RequestLaws.{sum-increment}
-use Rattle.service.specs.Call.{Memory, memoryOf, fresh}
+use Rattle.service.specs.Call.{Memory, memoryOf, fresh, Call}
 use Rattle.service.proofs.CodeDemand3.{Ran, Runs, answersIn, leftAfter, code-demand3}
 use Rattle.uses.specs.Uses.{isUse, destroysKey, registryAfter, countIf}
 use Rattle.uses.proofs.RequestLaws.{Step, stays, adds, request-step}

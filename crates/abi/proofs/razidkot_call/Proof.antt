@@ -37,9 +37,8 @@ use denote.Triple.Statement.{Contract, Triple}
 use denote.Triple.Table.{entered, cited}
 use denote.Triple.Walked.{says, Stays, stay-dropped, gave-ref, gave-slice, walkOf, AllGo, goes-dropped, goes-gave-ref, goes-gave-slice, Walks, ends-at, walked, walk-meets}
 use denote.Exit.{yes}
-use Rattle.stream.specs.Calls.{Call as LentCall}
-use Rattle.service.specs.Call.{Memory as CallMemory, callOutcome}
-use Rattle.service.specs.Contract.{lentMemory, callWith, outcomeWith, CallContract}
+use Rattle.service.specs.Call.{Memory as CallMemory, Call as LentCall}
+use Rattle.service.specs.Contract.{lentMemory, callWith, CallContract}
 use Rattle.counters.specs.declared.Counters.{Counters}
 use Rattle.service.specs.declared.CallAnswer.{CallAnswer}
 use Rattle.counters.proofs.Counters as T
@@ -49,7 +48,7 @@ use Rattle.service.proofs.call.call as g
 use Rattle.service.proofs.call.call.Symbol as g-def
 use Rattle.service.proofs.call.call.Symbol.{name as #call}
 use Rattle.service.proofs.call.call.Met as g-thm
-use Rattle.abi.specs.Numbers.{numbered}
+use Rattle.abi.specs.Numbers.{numbered, Called}
 use Rattle.abi.specs.declared.Answer.{Answer}
 use Rattle.abi.proofs.Answer as R
 use Rattle.abi.proofs.Answer.Laws as R′
@@ -70,8 +69,8 @@ stayed = (stay-dropped (shrSliceOf (0 ∷ []) tt (plain (λ _. u8))) yes, (gave-
 
 -- what is ensured, from what `call` and `number` ensure
 said : (s : Answer) (a : CallAnswer) (t : Counters) (c d e l : List ℕ) (m : CallMemory) (k : LentCall) → CallContract l m k a (lentMemory c d t) e
-    → s ≡ numbered a → outcomeWith (s .code) (s .taken) (s .written) (lentMemory c d t) e ≡ callOutcome l m k
-said s a t c d e l m k p q = rw q p
+    → s ≡ numbered a → Called l m k s (lentMemory c d t) e
+said s a t c d e l m k p q = record { says = a; numbers-is = q; contract = p }
 
 module _ {M : Type 1} (𝓤 : URA M) (H : Heap 𝓤) (A : Atoms 𝓤) (at-mem : Memory → SProp 𝓤) (run : Routine → Fun 𝓤) where
   -- the contracts that the proof cites

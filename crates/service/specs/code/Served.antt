@@ -9,9 +9,10 @@ use lib.Dec.{ltb}
 use Rattle.wire.specs.Choice.{if_then_else_}
 use Rattle.wire.specs.Request.{requestLeast, headerLength, requestLength}
 use Rattle.wire.specs.code.Wrote.{Wrote}
+use Rattle.reading.specs.Call.{Effect, callRule}
 use Rattle.stream.specs.Rules.{opened, skipping, closed, State}
 use Rattle.stream.specs.code.Effects.{waiting, answering}
-use Rattle.stream.specs.Call.{Effect, callRule}
+use Rattle.stream.specs.Call.{reader}
 use Rattle.connection.specs.Connection.{bytesAt, connectionSize, laidOut, connectionBytes, wellFormedConnection}
 use Rattle.registry.specs.WellFormed.{wellFormedRegistry}
 use Rattle.shipped.specs.Shipped.{wellFormedList}
@@ -63,22 +64,22 @@ WroteAny none before after n = (n ≡ 0) × (after ≡ before)
 WroteAny (some response) before after n = Wrote response before after n
 
 -- the effect was carried out, but that the counters c have still to be counted up
-pub record Carried (c : Counters) (e : Effect (List ℕ) Counts (List ℕ)) (connection registry before after : List ℕ) (r : Handled) : Type 0 where
+pub record Carried (c : Counters) (e : Effect (State (List ℕ) Counts) (List ℕ)) (connection registry before after : List ℕ) (r : Handled) : Type 0 where
   pub code-is : r .code ≡ Taken
   pub taken-is : r .added .taken ≡ e .taken
-  pub response-is : WroteAny (e .response) before after (r .written)
-  pub connection-is : connection ≡ connectionBytes (e .state .connection)
-  pub registry-is : registry ≡ e .state .registry
-  pub counters-is : counted c (r .added) ≡ countersOf (e .state .totals)
+  pub response-is : WroteAny (e .event) before after (r .written)
+  pub connection-is : connection ≡ connectionBytes (e .kept .connection)
+  pub registry-is : registry ≡ e .kept .registry
+  pub counters-is : counted c (r .added) ≡ countersOf (e .kept .totals)
   pub modest : Modest (r .added)
 
 -- what a taken call does
-abbrev pub effectOf : (list : List ℕ) → Memory → (chunk : List ℕ) → Effect (List ℕ) Counts (List ℕ)
-effectOf list m chunk = callRule (judgement list) (stateIn m) chunk
+abbrev pub effectOf : (list : List ℕ) → Memory → (chunk : List ℕ) → Effect (State (List ℕ) Counts) (List ℕ)
+effectOf list m chunk = callRule (reader (judgement list)) (stateIn m) chunk
 
 -- ---- an oversized request, of which `toGo` bytes are missing and `here` are at hand behind the `used` first bytes of the chunk
 
-unfoldable pub skipEffect : (list registry : List ℕ) → Counters → (header : List ℕ) (used here toGo : ℕ) → Effect (List ℕ) Counts (List ℕ)
+unfoldable pub skipEffect : (list registry : List ℕ) → Counters → (header : List ℕ) (used here toGo : ℕ) → Effect (State (List ℕ) Counts) (List ℕ)
 skipEffect list registry c header used here toGo =
     let s : State (List ℕ) Counts = record { connection = closed; registry = registry; totals = totalsOf c } in
     if ltb here toGo then waiting s (used + here) (skipping header (toGo - here))

@@ -5,9 +5,8 @@ use native.Mathlib.Omega.{arith}
 use borrow.Author.Needs.{needs}
 use lib.ListN.{length, take, drop}
 use Rattle.wire.proofs.BufferLaws.{lent}
-use Rattle.stream.specs.Calls.{CallOutcome}
-use Rattle.service.specs.Call.{Memory, callOutcome}
-use Rattle.service.specs.Contract.{lentMemory, callWith, codeNumber, outcomeWith}
+use Rattle.service.specs.Call.{CallOutcome, callOutcome}
+use Rattle.service.specs.Contract.{lentMemory, callWith, outcomeWith}
 use Rattle.counters.specs.declared.Counters.{Counters}
 use Rattle.bill.specs.code.Stream.{Takes}
 use Rattle.bill.proofs.FeedLaws.{takes-none, takes-all, takes-more, takes-fits}
@@ -23,11 +22,11 @@ abbrev μ-loop : tie.MeasureT-loop
 μ-loop chunk connection₀ registry₀ list response₀ after₀ at₀ connection registry response after at = length chunk - at
 
 -- all that the call says and leaves
-abbrev outcome : (c : tie.After-call-by-value Inv-loop μ-loop) → CallOutcome Memory
+abbrev outcome : (c : tie.After-call-by-value Inv-loop μ-loop) → CallOutcome
 outcome c =
     let call = c .call-by-value in
     let r = call .result in
-    outcomeWith (codeNumber (r .code)) (r .taken) (r .written) (lentMemory (call .last .1 .0) (call .last .1 .1 .0) (r .counters)) (call .last .1 .1 .1 .1 .1 .0)
+    outcomeWith (r .code) (r .taken) (r .written) (lentMemory (call .last .1 .0) (call .last .1 .1 .0) (r .counters)) (call .last .1 .1 .1 .1 .1 .0)
 
 called : (c : tie.After-call-by-value Inv-loop μ-loop)
     → (let l = c .before .before .before .before .before .before .loop in

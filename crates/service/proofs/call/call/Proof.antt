@@ -41,7 +41,6 @@ use denote.Triple.Statement.{Contract, Triple}
 use denote.Triple.Table.{entered, cited}
 use denote.Triple.Walked.{says, Stays, stay-dropped, gave-ref, gave-slice, walkOf, AllGo, goes-dropped, goes-gave-ref, goes-gave-slice, Walks, ends-at, walked, walk-meets}
 use denote.Exit.{yes}
-use Rattle.stream.specs.Calls.{Call}
 use Rattle.counters.specs.code.Counted.{counted, Fits}
 use Rattle.counters.specs.declared.Counters.{Counters}
 use Rattle.counters.specs.declared.Increments.{Increments}
@@ -53,7 +52,7 @@ use Rattle.counters.proofs.counting.count as count-of
 use Rattle.counters.proofs.counting.count.Symbol as count-def
 use Rattle.counters.proofs.counting.count.Symbol.{name as #count}
 use Rattle.counters.proofs.counting.count.Met as count-thm
-use Rattle.service.specs.Call.{Memory as CallMemory}
+use Rattle.service.specs.Call.{Memory as CallMemory, Call}
 use Rattle.service.specs.Contract.{lentMemory, callWith, CallContract}
 use Rattle.service.specs.code.Called.{answerOf}
 use Rattle.service.specs.declared.Handled.{Handled}

@@ -9,7 +9,8 @@ use lib.Dec.{lit<}
 use Rattle.stream.specs.Frame.{unfinished, whole, next}
 use Rattle.stream.specs.Rules.{State, opened, skipping, closed, judge}
 use Rattle.stream.specs.code.Effects.{answering}
-use Rattle.stream.specs.Call.{callRule}
+use Rattle.reading.specs.Call.{callRule}
+use Rattle.stream.specs.Call.{reader}
 use Rattle.stream.proofs.FrameLaws.{next-unfinished, short}
 use Rattle.stream.proofs.FramedLaws.{frame-unfinished, frame-bad, frame-skipped, frame-whole, header-part, whole-part}
 use Rattle.stream.proofs.ChunkLaws.{call-unfinished, call-bad, call-large, call-whole}
@@ -32,7 +33,7 @@ nothing = next-unfinished [] (short (omega arith))
 
 -- a whole request, read where it lies
 fresh-whole : (list k registry : List ℕ) (c : Counters) (chunk : List ℕ) (n : ℕ) → connectionOf k ≡ opened [] → next chunk ≡ whole n
-    → (let s = stateWith (connectionOf k) registry c in callRule (judgement list) s chunk ≡ answering s n n (judge (judgement list) registry (totalsOf c .counts) (take n chunk)) (opened []))
+    → (let s = stateWith (connectionOf k) registry c in callRule (reader (judgement list)) s chunk ≡ answering s n n (judge (judgement list) registry (totalsOf c .counts) (take n chunk)) (opened []))
 fresh-whole list k registry c chunk n e w =
     let s : State (List ℕ) Counts = stateWith (connectionOf k) registry c in
     call-whole (judgement list) s [] chunk e nothing n w

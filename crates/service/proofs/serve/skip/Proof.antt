@@ -6,10 +6,10 @@ use native.Mathlib.Omega.{arith}
 use lib.ListN.{length, take, drop, length-take, take-append-drop}
 use Rattle.wire.specs.Request.{headerLength, requestLength}
 use Rattle.wire.proofs.BufferLaws.{lent}
-use Rattle.stream.specs.Rules.{opened, skipping, closed}
+use Rattle.stream.specs.Rules.{opened, skipping, closed, State}
 use Rattle.stream.specs.code.Effects.{answering}
 use Rattle.stream.proofs.FrameLaws.{requestLength-append}
-use Rattle.stream.specs.Call.{Effect}
+use Rattle.reading.specs.Call.{Effect}
 use Rattle.judgement.specs.Counts.{Counts}
 use Rattle.judgement.specs.Judgement.{judgement, refusedEarly}
 use Rattle.answer.specs.code.Answers.{AnsweredBy}
@@ -51,7 +51,7 @@ returns c =
     let m : List ℕ = a .connection .now in
     let less : a .here < a .to-go = omega arith in
     λ list registry counters.
-    subst (λ (e : Effect (List ℕ) Counts (List ℕ)). Carried counters e (c .before .before .before .set-skipping .last .0) registry (a .out .now) (a .out .now) (c .wait .result))
+    subst (λ (e : Effect (State (List ℕ) Counts) (List ℕ)). Carried counters e (c .before .before .before .set-skipping .last .0) registry (a .out .now) (a .out .now) (c .wait .result))
     (sym (skip-waits list registry counters (headerAt m) (a .used) (a .here) (a .to-go) less))
     (carried-wait closed registry counters (a .used + a .here) (skipping (headerAt m) (a .to-go - a .here)) _ _ _ _ (s .pre .used-good) (c .wait .ensures)
     (c .before .before .before .set-skipping .ensures (s .pre .kind) (s .pre .number) (headerAt m) (s .pre .laid)) refl)
@@ -125,7 +125,7 @@ returns-2 c =
     let used = s .pre .used-good in
     let few : a .used + a .to-go ≤ chunkMost = omega (arith, more, used) in
     λ list registry counters.
-    subst (λ (e : Effect (List ℕ) Counts (List ℕ)). Carried counters e (c .before .before .before .reset .last .0) registry (a .out .now) (w .last .0) (c .finish .result))
+    subst (λ (e : Effect (State (List ℕ) Counts) (List ℕ)). Carried counters e (c .before .before .before .reset .last .0) registry (a .out .now) (w .last .0) (c .finish .result))
     (ap (λ (n : ℕ). answering (stateWith closed registry counters) (a .used + a .to-go) n (judgement list .onOversized registry (totalsOf counters .counts) (headerAt m)) (opened [])) size
     ∙ sym (skip-answers list registry counters (headerAt m) (a .used) (a .here) (a .to-go) more))
     (carried-answer closed registry counters (λ k. judgement list .onOversized registry k (headerAt m)) (a .used + a .to-go) (f .request-length .result) (opened [])
