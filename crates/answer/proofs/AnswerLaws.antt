@@ -1,6 +1,5 @@
 -- From the code's chain of tests to the judgement of a request: what is answered at each way out is what `judgement` says.
 use mathlib.Core.Path.{_≡_, refl, sym, ap, subst, _∙_}
-use mathlib.Core.Logic.{inl, inr}
 use mathlib.Core.Bool.{Bool, true, false, _&&_, not, and-true, and-false}
 use mathlib.Core.Option.{Option, none, some}
 use mathlib.Core.List.{List, [], _∷_, _++_}
@@ -19,26 +18,17 @@ use Rattle.wire.specs.code.Wrote.{Wrote}
 use Rattle.wire.specs.declared.header.Header.{Header}
 use Rattle.wire.proofs.TestLaws.{first-has, none-at, first-before, first-behind}
 use Rattle.stream.specs.Frame.{contentMost}
-use Rattle.protobuf.specs.code.Body.{bodyOf}
-use Rattle.protobuf.specs.declared.message.Schema.{Schema}
-use Rattle.protobuf.specs.declared.message.Values.{Values}
-use Rattle.protobuf.specs.declared.body.Body.{Body}
-use Rattle.protobuf.specs.declared.body.Body.the-variants.{Message, Unreadable}
 use Rattle.registry.specs.Slots.{Entry}
 use Rattle.registry.specs.Registry.{applicationNamed, slotsOf, changed}
 use Rattle.registry.specs.declared.Line.{Line}
-use Rattle.shipped.specs.Shipped.{ListedKey, keysIn}
+use Rattle.shipped.specs.Shipped.{keysIn}
 use Rattle.judgement.specs.Status.{statusNumber}
-use Rattle.messages.specs.Opcodes.{opcodesOf}
-use Rattle.messages.specs.Operations.{Operation, ping, listProviders, listOpcodes}
-use Rattle.judgement.specs.Operations.{Result, refuse, perform, operated}
+use Rattle.messages.specs.Opcodes.{coreOpcodes, opcodesOf}
+use Rattle.judgement.specs.Operations.{Result, refuse, operated}
 use Rattle.messages.proofs.OperationLaws.{nothing-bytes}
-use Rattle.judgement.proofs.PlacedLaws.{operation-placed}
-use Rattle.judgement.specs.code.Placed.{noFields, opcodesFields, readBody, placedOperation}
 use Rattle.judgement.specs.Counts.{Counts, countRefused, count}
 use Rattle.judgement.specs.Judgement.{applicationOf, refusals, askersSlots, resultOf, changedBy, verdictOf, refusedEarly, oversizedStatus, judgement}
-use Rattle.judgement.specs.code.Decided.{headerTests, namedOr, authOf, askersLine, outputBytes, resultIn, Decided, oneOfCore, oneOfKeystore, AskerBelow}
-use Rattle.judgement.proofs.OrderLaws.{one-of-three, one-of-four}
+use Rattle.judgement.specs.code.Decided.{headerTests, namedOr, authOf, askersLine, outputBytes, resultIn, Decided, AskerBelow}
 use Rattle.judgement.specs.declared.Status.{Status}
 use Rattle.judgement.specs.declared.Status.the-variants.{AuthenticationError, NotAuthenticated, BodySizeExceedsLimit}
 use Rattle.judgement.specs.declared.Asker.{Asker}
@@ -63,13 +53,9 @@ module _ (h : Header) (passed : PassedHeader h) where
   unfolding headerTests
   of-provider = not-false _ (none-at (headerTests h) 5 AuthenticationError passed)
 
-  pub core-opcode : h .provider ≡ 0 → oneOfCore (h .opcode)
+  pub core-opcode : h .provider ≡ 0 → oneOf coreOpcodes (h .opcode) ≡ true
   unfolding opcodesOf
-  core-opcode e = one-of-three 1 8 9 (h .opcode) (rw (eq-eqb (h .provider) 0 e) at of-provider)
-
-  pub keystore-opcode : (h .provider ≡ 0 → ⊥) → oneOfKeystore (h .opcode)
-  unfolding opcodesOf
-  keystore-opcode n = one-of-four 3 5 6 7 (h .opcode) (rw (ne-eqb (h .provider) 0 n) at of-provider)
+  core-opcode e = rw (eq-eqb (h .provider) 0 e) at of-provider
 
   pub provider-small : h .provider ≤ 1
   unfolding headerTests
@@ -78,28 +64,6 @@ module _ (h : Header) (passed : PassedHeader h) where
   auth-type-small : h .«auth_type» ≤ 1
   unfolding headerTests
   auth-type-small = ltb-false _ _ (none-at (headerTests h) 6 AuthenticationError passed)
-
--- ---- the operation
-
--- a core operation does not look at the slots
-module _ (opcode : ℕ) (body : List ℕ) (keys : List ListedKey) (a b : List Entry) where
-  by-body :
-      (fields : Schema) (f : Values → Operation) →
-      placedOperation opcode body ≡ readBody fields body f →
-      ((v : Values) → perform (f v) a keys ≡ perform (f v) b keys) →
-      operated opcode body a keys ≡ operated opcode body b keys
-  unfolding operated readBody
-  by-body fields f e s = go (bodyOf fields body) refl
-    where
-      go : (r : Body) → bodyOf fields body ≡ r → operated opcode body a keys ≡ operated opcode body b keys
-      go (Message v) p = rw (operation-placed opcode body ∙ e, p, operated) (s v)
-      go (Unreadable at) p = rw (operation-placed opcode body ∙ e, p, operated)
-
-  pub core-anywhere : oneOfCore opcode → operated opcode body a keys ≡ operated opcode body b keys
-  unfolding placedOperation perform
-  core-anywhere (inl e) = by-body noFields (λ v. ping) (rw e) (λ v. refl)
-  core-anywhere (inr (inl e)) = by-body noFields (λ v. listProviders) (rw e) (λ v. refl)
-  core-anywhere (inr (inr e)) = by-body opcodesFields (λ v. listOpcodes (v .f1 .number)) (rw e) (λ v. refl)
 
 -- ---- the judgement's tests: those of the header, and then these
 

@@ -6,11 +6,9 @@ use crate::response::write_response;
 use judgement::Asker;
 use judgement::Auth;
 use judgement::Checked;
-use judgement::Decision;
 use judgement::Edit;
 use judgement::Status;
-use judgement::operations::perform_core;
-use judgement::operations::perform_keystore;
+use judgement::operations::perform_operation;
 use judgement::order::authenticate;
 use judgement::order::check_header;
 use registry::Line;
@@ -31,28 +29,23 @@ ghost use Rattle.wire.specs.Request.{requestLeast, headerLength, requestLength}
 ghost use Rattle.wire.specs.Response.{bufferLeast};
 ghost use Rattle.stream.specs.Frame.{legalStart, oversized};
 ghost use Rattle.stream.specs.Rules.{judge};
-ghost use Rattle.registry.specs.Registry.{lineCount, registrySize, slotsOf, changed};
+ghost use Rattle.registry.specs.Registry.{lineCount, registrySize, changed};
 ghost use Rattle.registry.specs.WellFormed.{wellFormedRegistry};
 ghost use Rattle.shipped.specs.Shipped.{wellFormedList};
 ghost use Rattle.judgement.specs.Judgement.{judgement};
-ghost use Rattle.judgement.specs.code.Decided.{SafeEdit, changeOf, Decided};
+ghost use Rattle.judgement.specs.code.Decided.{SafeEdit, changeOf};
 ghost use Rattle.answer.specs.code.Answers.{AnsweredBy, RefusedWith, PassedHeader, resultForNamed, resultForNobody, ResultAnswered};
 
 // Carries out what an operation changes.
-fn make_edit(registry: &mut [u8], line: Line, body: &[u8], d: Decision)
-    requires { ⌜ (length (now registry) ≡ registrySize) × (line .0 < lineCount) × SafeEdit (length (now body)) (d .values) (d .edit) ⌝ }
-    ensures { λ _. ⌜ now (registry .exit) ≡ changed (now (registry .entry)) line (changeOf (now (body .entry)) (d .values) (d .edit)) ⌝ }
+fn make_edit(registry: &mut [u8], line: Line, body: &[u8], edit: Edit)
+    requires { ⌜ (length (now registry) ≡ registrySize) × (line .0 < lineCount) × SafeEdit (length (now body)) edit ⌝ }
+    ensures { λ _. ⌜ now (registry .exit) ≡ changed (now (registry .entry)) line (changeOf (now (body .entry)) edit) ⌝ }
 {
-    let edit = d.edit;
     match edit {
         Edit::Stays => {}
-        Edit::Fills(slot) => {
-            let v = d.values;
-            let name = v.f1;
-            let bytes = v.f2;
-            let bits = v.f3;
-            let exported = v.f4;
-            let verified = v.f5;
+        Edit::Fills(slot, key) => {
+            let name = key.name;
+            let bytes = key.bytes;
             let a = name.start;
             let b = a + name.len;
             let e = bytes.start;
@@ -63,9 +56,9 @@ fn make_edit(registry: &mut [u8], line: Line, body: &[u8], d: Decision)
                 slot,
                 &body[a..b],
                 &body[e..f],
-                bits.number as u16,
-                exported.number != 0,
-                verified.number != 0,
+                key.bits as u16,
+                key.exported,
+                key.verified,
             );
         }
         Edit::Clears(slot) => {
@@ -90,17 +83,6 @@ fn refuse(out: &mut [u8], h: Header, status: Status) -> Answered
     }
 }
 
-// What the operation comes to for an application: core for provider 0, keystore for provider 1.
-fn decide<'a>(h: Header, body: &[u8], registry: &'a [u8], list: &'a [u8], line: Line) -> Decision
-    requires { ⌜ PassedHeader h × (wellFormedRegistry (now registry) ≡ true) × (line .0 < lineCount) × (wellFormedList (now list) ≡ true) ⌝ }
-    ensures { λ r. ⌜ Decided (slotsOf (now (registry .entry)) line) (now (list .entry)) (now (body .entry)) (resultForNamed h (now (body .entry)) (now (registry .entry)) (now (list .entry)) line) r ⌝ }
-{
-    if h.provider == 0 {
-        return perform_core(h.opcode, body);
-    }
-    perform_keystore(h.opcode, body, registry, list, line)
-}
-
 // A request whose header and auth bytes have passed, answered for an application.
 fn answer_named(
     out: &mut [u8],
@@ -110,15 +92,16 @@ fn answer_named(
     list: &[u8],
     line: Line,
 ) -> Answered
-    requires { ⌜ PassedHeader h × (wellFormedRegistry (now registry) ≡ true) × (line .0 < lineCount) × (bufferLeast ≤ length (now out)) × (wellFormedList (now list) ≡ true) ⌝ }
+    requires { ⌜ (wellFormedRegistry (now registry) ≡ true) × (line .0 < lineCount) × (bufferLeast ≤ length (now out)) × (wellFormedList (now list) ≡ true) ⌝ }
     ensures { λ r. ⌜ ResultAnswered h (resultForNamed h (now (body .entry)) (now (registry .entry)) (now (list .entry)) line) (Asker.Named line) (now (out .entry)) (now (out .exit)) r ⌝ }
     ensures { λ _. ⌜ now (registry .exit) ≡ changed (now (registry .entry)) line (resultForNamed h (now (body .entry)) (now (registry .entry)) (now (list .entry)) line .change) ⌝ }
 {
-    let d = decide(h, body, registry, list, line);
+    let d = perform_operation(h.opcode, body, registry, list, line);
     let status = d.status;
     let output = d.output;
+    let edit = d.edit;
     let written = write_response(out, h, status, registry, list, line, output);
-    make_edit(registry, line, body, d);
+    make_edit(registry, line, body, edit);
     Answered {
         status,
         asker: Asker::Named(line),
@@ -134,17 +117,18 @@ fn answer_nobody<'a>(
     registry: &'a [u8],
     list: &'a [u8],
 ) -> Answered
-    requires { ⌜ PassedHeader h × (wellFormedRegistry (now registry) ≡ true) × (bufferLeast ≤ length (now out)) ⌝ }
+    requires { ⌜ PassedHeader h × (wellFormedRegistry (now registry) ≡ true) × (bufferLeast ≤ length (now out)) × (wellFormedList (now list) ≡ true) ⌝ }
     ensures { λ r. ⌜ ResultAnswered h (resultForNobody h (now (body .entry)) (now (list .entry))) Asker.Nobody (now (out .entry)) (now (out .exit)) r ⌝ }
 {
     if h.provider == 1 {
         return refuse(out, h, Status::NotAuthenticated);
     }
-    let d = perform_core(h.opcode, body);
+    // No core operation looks at a line.
+    let line = Line(0);
+    let d = perform_operation(h.opcode, body, registry, list, line);
     let status = d.status;
     let output = d.output;
-    // No core output looks at a line.
-    let written = write_response(out, h, status, registry, list, Line(0), output);
+    let written = write_response(out, h, status, registry, list, line, output);
     Answered {
         status,
         asker: Asker::Nobody,

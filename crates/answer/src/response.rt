@@ -4,9 +4,11 @@ use judgement::Output;
 use judgement::Status;
 use judgement::statuses::status_number;
 use lookup::key::key_bytes;
-use protobuf::write::bytes_field_size;
-use protobuf::write::write_bytes_field;
-use protobuf::write::write_number_field;
+use messages::opcodes::CORE;
+use messages::opcodes::KEYSTORE;
+use messages::write::write_bytes_body;
+use messages::write::write_list_body;
+use messages::write::write_version_body;
 use registry::Line;
 use wire::bytes::copy_into;
 use wire::header::Header;
@@ -23,28 +25,6 @@ ghost use Rattle.registry.specs.WellFormed.{wellFormedRegistry};
 ghost use Rattle.judgement.specs.Status.{statusNumber};
 ghost use Rattle.judgement.specs.code.Decided.{outputMost, SafeOutput, outputBytes};
 
-// How long a response's body is.
-fn output_size<'a>(registry: &'a [u8], list: &'a [u8], line: Line, output: Output) -> usize
-    requires { ⌜ (wellFormedRegistry (now registry) ≡ true) × (line .0 < lineCount) × SafeOutput (now list) output ⌝ }
-    ensures { λ r. ⌜ (r ≡ length (outputBytes (slotsOf (now (registry .entry)) line) (now (list .entry)) output)) × (r ≤ outputMost) ⌝ }
-{
-    match output {
-        Output::Nothing => 0,
-        Output::Version => 2,
-        Output::Providers => 4,
-        Output::Opcodes(provider) => {
-            if provider == 0 {
-                return 5;
-            }
-            6
-        }
-        Output::Data(place) => {
-            let data = key_bytes(registry, list, line, place);
-            bytes_field_size(1, data.len())
-        }
-    }
-}
-
 // A response's body, written straight to its place.
 fn write_output<'a>(
     out: &mut [u8],
@@ -58,27 +38,28 @@ fn write_output<'a>(
 {
     match output {
         Output::Nothing => 0,
-        Output::Version => write_number_field(out, 1, 1),
+        // The wire protocol's version.
+        Output::Version => write_version_body(out, 1, 0),
         Output::Providers => {
             let providers = [0u8, 1];
-            write_bytes_field(out, 1, &providers)
+            write_list_body(out, &providers)
         }
         Output::Opcodes(provider) => {
             if provider == 0 {
-                let core = [1u8, 8, 9];
-                return write_bytes_field(out, 1, &core);
+                let core = CORE;
+                return write_list_body(out, &core);
             }
-            let keystore = [3u8, 5, 6, 7];
-            write_bytes_field(out, 1, &keystore)
+            let keystore = KEYSTORE;
+            write_list_body(out, &keystore)
         }
         Output::Data(place) => {
             let data = key_bytes(registry, list, line, place);
-            write_bytes_field(out, 1, data)
+            write_bytes_body(out, data)
         }
     }
 }
 
-// A response: the header, and behind its 26 bytes the body.
+// A response: the body, behind the 26 bytes of the header, and then the header, which says how long the body is.
 pub fn write_response<'a>(
     out: &mut [u8],
     h: Header,
@@ -91,7 +72,7 @@ pub fn write_response<'a>(
     requires { ⌜ (wellFormedRegistry (now registry) ≡ true) × (line .0 < lineCount) × SafeOutput (now list) output × (bufferLeast ≤ length (now out)) ⌝ }
     ensures { λ r. ⌜ Wrote (responseBytes (h .provider) (h .session) (h .opcode) (statusNumber status) (outputBytes (slotsOf (now (registry .entry)) line) (now (list .entry)) output)) (now (out .entry)) (now (out .exit)) r ⌝ }
 {
-    let size = output_size(registry, list, line, output);
+    let size = write_output(&mut out[26..], registry, list, line, output);
     let head = response_header(
         h.provider,
         h.session,
@@ -100,8 +81,7 @@ pub fn write_response<'a>(
         status_number(status),
     );
     let k = copy_into(out, &head);
-    let m = write_output(&mut out[26..], registry, list, line, output);
-    k + m
+    k + size
 }
 
 // The response to a request that is refused: an empty body.

@@ -23,7 +23,7 @@ use Rattle.keys.proofs.KeyLaws.{legal-data, legal-bits}
 use Rattle.messages.specs.Format.{messageBytes}
 use Rattle.messages.specs.Protobuf.{protobuf}
 use Rattle.messages.specs.Operations.{Operation, ping, listProviders, listOpcodes, importKey, destroyKey, exportPublicKey, verifySignature, opcodeOf, providerOf, operationBody}
-use Rattle.messages.proofs.WriteLaws.{provider-body-short, name-body-short, key-body-short}
+use Rattle.messages.proofs.WriteLaws.{provider-body-short, bytes-body-short, key-body-short}
 use Rattle.client_requests.specs.Writing.{Sender, senderOf, authTypeOf, authOf, legalSender, legalKeyName, legalKeyData, legalKeyBits, legalBody, requestBodyMost, requestFor, writeTests, writeOutcome}
 use Rattle.client_requests.specs.code.Judged.{judgedAs}
 use Rattle.client_requests.specs.code.Around.{requestAround}
@@ -58,8 +58,8 @@ body-short ping n d b w = omega arith
 body-short listProviders n d b w = omega arith
 body-short (listOpcodes provider) n d b w = omega (arith, provider-body-short provider)
 body-short (importKey key) n d b w = omega (arith, key-body-short key (legal-short keyNameMost (key .name) n) (legal-data (key .bytes) d) (legal-bits (key .bits) b))
-body-short (destroyKey name) n d b w = omega (arith, name-body-short name (legal-short keyNameMost name n))
-body-short (exportPublicKey name) n d b w = omega (arith, name-body-short name (legal-short keyNameMost name n))
+body-short (destroyKey name) n d b w = omega (arith, bytes-body-short name (legal-short keyNameMost name n))
+body-short (exportPublicKey name) n d b w = omega (arith, bytes-body-short name (legal-short keyNameMost name n))
 body-short (verifySignature name hash signature) n d b w = leb-true _ _ w
 
 module _ {out : List ℕ} {sender : Sender} {operation : Operation} (p : Passed out sender operation) where

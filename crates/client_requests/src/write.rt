@@ -14,8 +14,8 @@ use messages::opcodes::PSA_ASYMMETRIC_VERIFY;
 use messages::opcodes::PSA_DESTROY_KEY;
 use messages::opcodes::PSA_EXPORT_PUBLIC_KEY;
 use messages::opcodes::PSA_IMPORT_KEY;
+use messages::write::write_bytes_body;
 use messages::write::write_key_body;
-use messages::write::write_name_body;
 use messages::write::write_provider_body;
 use messages::write::write_verify_body;
 use wire::bytes::copy_into;
@@ -180,7 +180,7 @@ pub fn write_destroy(
     match judge_name(out, named, application, name) {
         Judged::Refused(refusal) => Written::Refused(refusal),
         Judged::Legal => {
-            let size = write_name_body(&mut out[HEADER_LENGTH..], name);
+            let size = write_bytes_body(&mut out[HEADER_LENGTH..], name);
             let length = write_around(
                 out,
                 session,
@@ -207,7 +207,7 @@ pub fn write_export(
     match judge_name(out, named, application, name) {
         Judged::Refused(refusal) => Written::Refused(refusal),
         Judged::Legal => {
-            let size = write_name_body(&mut out[HEADER_LENGTH..], name);
+            let size = write_bytes_body(&mut out[HEADER_LENGTH..], name);
             let length = write_around(
                 out,
                 session,

@@ -15,14 +15,15 @@ use Rattle.wire.specs.Response.{responseHeader, responseBytes, bufferLeast}
 use Rattle.protobuf.specs.Varint.{varintOf}
 use Rattle.protobuf.specs.Field.{numberAt, fixedAt, spanAt, contentAt, fieldAt}
 use Rattle.protobuf.specs.Group.{groupAt}
-use Rattle.protobuf.specs.code.Message.{withValue, itemOf, stepAt}
+use Rattle.fields.specs.code.Fields.{withValue}
+use Rattle.protobuf.specs.code.Message.{itemOf, stepAt}
 use Rattle.protobuf.specs.Written.{varintWithin, varint, numberField, bytesField, packedField}
 use Rattle.keys.specs.Names.{legalName}
 use Rattle.keys.specs.Key.{legalData, legalBits, importBits}
 use Rattle.messages.specs.Opcodes.{opcodesOf}
 use Rattle.messages.specs.Format.{listed, messageBytes, readMessage}
 use Rattle.messages.specs.Protobuf.{packedOf}
-use Rattle.messages.specs.Operations.{readBody, operationOf, outputBytes}
+use Rattle.messages.specs.Operations.{readBody, inputFields, askingOf, asked, operationOf, outputBytes}
 use Rattle.registry.specs.Names.{indexFrom, distinct}
 use Rattle.registry.specs.Slots.{keyBytes, slotBytes, slotOf, used, usedSlot, wellFormedSlot}
 use Rattle.registry.specs.Registry.{applicationNamed, slotsOf, usesOf, slotNamed, changed, lineOf, registryOf}
@@ -92,7 +93,7 @@ record Shown : Type 0 where
 
 -- what application "b" gets
 showing : List CallOn → Shown
-unfolding firstOf isSome oneOf littleEndian littleEndianOf field scanFrom scanAt requestOf responseHeader responseBytes varintOf numberAt fixedAt spanAt contentAt fieldAt groupAt withValue itemOf stepAt varintWithin varint numberField bytesField packedField flatMap flatten legalName legalData legalBits importBits opcodesOf listed messageBytes readMessage packedOf readBody operationOf outputBytes indexFrom distinct keyBytes slotBytes slotOf used usedSlot wellFormedSlot applicationNamed slotsOf usesOf slotNamed changed lineOf registryOf usedFirst wellFormedRegistry isWhole recordTurn readRecords pairStep pairsDone listOf wellFormedList keysIn listedNamed shippedKey keyOf ownIn listedIn keyNamed legalStart oversized next judge isBeginning wellFormed keep respond dropByte openRule skipRule byteRule callRule callOn written bytesOf connectionBytes connectionOf wellFormedConnection statusNumber success refuse importable performImport counted exportOf performExport perform operated noCounts increment indexOf countRefused countServed count applicationOf refusals askersSlots resultOf changedBy verdictOf refusedEarly judgement totalsOf countersOf zeroCounters maximum largestCount largestCounter stateIn memoryOf withResponse layout refusalTests refusalOf callOutcome with historyOf exchangesFrom exchanges isBy those bind
+unfolding firstOf isSome oneOf littleEndian littleEndianOf field scanFrom scanAt requestOf responseHeader responseBytes varintOf numberAt fixedAt spanAt contentAt fieldAt groupAt withValue itemOf stepAt varintWithin varint numberField bytesField packedField flatMap flatten legalName legalData legalBits importBits opcodesOf listed messageBytes readMessage packedOf readBody inputFields askingOf asked operationOf outputBytes indexFrom distinct keyBytes slotBytes slotOf used usedSlot wellFormedSlot applicationNamed slotsOf usesOf slotNamed changed lineOf registryOf usedFirst wellFormedRegistry isWhole recordTurn readRecords pairStep pairsDone listOf wellFormedList keysIn listedNamed shippedKey keyOf ownIn listedIn keyNamed legalStart oversized next judge isBeginning wellFormed keep respond dropByte openRule skipRule byteRule callRule callOn written bytesOf connectionBytes connectionOf wellFormedConnection statusNumber success refuse importable performImport counted exportOf performExport perform operated noCounts increment indexOf countRefused countServed count applicationOf refusals askersSlots resultOf changedBy verdictOf refusedEarly judgement totalsOf countersOf zeroCounters maximum largestCount largestCounter stateIn memoryOf withResponse layout refusalTests refusalOf callOutcome with historyOf exchangesFrom exchanges isBy those bind
 showing calls =
     let o = historyOf shipped (freshWith (registryOf ((0x61 ∷ []) ∷ (0x62 ∷ []) ∷ [])) zeroCounters) calls in
     let xs = exchanges calls (o .answers) in

@@ -12,11 +12,10 @@ use Rattle.wire.specs.Choice.{if_then_else_, firstOf}
 use Rattle.wire.specs.Lists.{oneOf}
 use Rattle.wire.specs.Request.{Request}
 use Rattle.wire.proofs.TestLaws.{some≢none, none-at, AllHave, first-has, either}
-use Rattle.messages.specs.Message.{uint32, Schema, Message, numberOf, valueAt}
 use Rattle.messages.specs.Format.{Reading, read, broken, readMessage}
 use Rattle.messages.specs.Protobuf.{protobuf}
 use Rattle.messages.specs.Opcodes.{coreOpcodes, opcodesOf}
-use Rattle.messages.specs.Operations.{Operation, ping, listProviders, listOpcodes, importKey, destroyKey, exportPublicKey, verifySignature, whenRead, readBody, operationOf}
+use Rattle.messages.specs.Operations.{Operation, ping, listProviders, listOpcodes, importKey, destroyKey, exportPublicKey, verifySignature, inputFields, Asking, askingOf, askingBy, asked, operationIn, operationOf}
 use Rattle.registry.specs.Slots.{Entry}
 use Rattle.registry.specs.Registry.{applicationNamed, slotsOf}
 use Rattle.registry.specs.declared.Line.{Line}
@@ -110,29 +109,28 @@ OfCore (some (destroyKey name)) = ⊥
 OfCore (some (exportPublicKey name)) = ⊥
 OfCore (some (verifySignature name hash signature)) = ⊥
 
-read-core : (schema : Schema) (body : List ℕ) (f : Message → Operation) → ((m : Message) → OfCore (some (f m))) → OfCore (readBody protobuf schema body f)
-unfolding readBody OfCore
-read-core schema body f core = go (readMessage protobuf schema body)
-  where
-    go : (reading : Reading) → OfCore (whenRead f reading)
-    go (read message) = core message
-    go (broken at) = tt
-
 core-operation : (opcode : ℕ) (body : List ℕ) → oneOf coreOpcodes opcode ≡ true → OfCore (operationOf protobuf opcode body)
-unfolding operationOf OfCore oneOf
-core-operation opcode body e =
-    either OfCore (eqb opcode 1) (λ _. read-core [] body (λ m. ping) (λ m. tt))
-    (λ a. either OfCore (eqb opcode 8) (λ _. read-core [] body (λ m. listProviders) (λ m. tt))
-    (λ b. either OfCore (eqb opcode 9) (λ _. read-core (uint32 ∷ []) body (λ m. listOpcodes (numberOf (valueAt m 1))) (λ m. tt))
-    (λ c. (let none-such : oneOf coreOpcodes opcode ≡ false = rw (a, b, c) in absurd (true≢false (sym e ∙ none-such))))))
-
--- an operation of the core looks at no key
-core-alone : (opcode : ℕ) (body : List ℕ) (slots : List Entry) (keys keys′ : List ListedKey) → oneOf coreOpcodes opcode ≡ true
-    → operated opcode body slots keys ≡ operated opcode body slots keys′
-unfolding operated perform OfCore
-core-alone opcode body slots keys keys′ e = go (operationOf protobuf opcode body) refl (core-operation opcode body e)
+unfolding operationOf asked askingOf OfCore oneOf
+core-operation opcode body e = go (readMessage protobuf (inputFields opcode) body)
   where
-    go : (o : Option Operation) → operationOf protobuf opcode body ≡ o → OfCore o → operated opcode body slots keys ≡ operated opcode body slots keys′
+    Core : Asking → Type 0
+    Core asking = OfCore (operationIn asking)
+
+    go : (reading : Reading) → Core (askingBy opcode reading)
+    go (broken at) = tt
+    go (read m) =
+        either Core (eqb opcode 1) (λ _. tt)
+        (λ a. either Core (eqb opcode 8) (λ _. tt)
+        (λ b. either Core (eqb opcode 9) (λ _. tt)
+        (λ c. (let none-such : oneOf coreOpcodes opcode ≡ false = rw (a, b, c) in absurd (true≢false (sym e ∙ none-such))))))
+
+-- an operation of the core looks at no slot and no key
+pub core-alone : (opcode : ℕ) (body : List ℕ) (slots slots′ : List Entry) (keys keys′ : List ListedKey) → oneOf coreOpcodes opcode ≡ true
+    → operated opcode body slots keys ≡ operated opcode body slots′ keys′
+unfolding operated perform OfCore
+core-alone opcode body slots slots′ keys keys′ e = go (operationOf protobuf opcode body) refl (core-operation opcode body e)
+  where
+    go : (o : Option Operation) → operationOf protobuf opcode body ≡ o → OfCore o → operated opcode body slots keys ≡ operated opcode body slots′ keys′
     go none q c = rw (q, operated)
     go (some ping) q c = rw (q, operated)
     go (some listProviders) q c = rw (q, operated)
@@ -165,4 +163,4 @@ open-result list list′ r r′ q e =
   where
     go : (o : Option Status) → firstOf (refusals r′ q) ≡ o → resultOf list r′ q ≡ resultOf list′ r′ q
     go (some status) n = rw (n, resultOf)
-    go none n = rw (n, resultOf) (core-alone (q .opcode) (q .body) _ (keysIn list) (keysIn list′) (open-core r′ q e n))
+    go none n = rw (n, resultOf) (core-alone (q .opcode) (q .body) _ _ (keysIn list) (keysIn list′) (open-core r′ q e n))

@@ -10,13 +10,6 @@ use lib.ListN.{length, getD}
 use lib.Dec.{eqb}
 use Rattle.wire.proofs.ListLaws.{length-part}
 use Rattle.wire.proofs.TestLaws.{some≢none}
-use Rattle.protobuf.specs.code.Body.{bodyOf}
-use Rattle.protobuf.specs.code.Message.{allAbsent}
-use Rattle.protobuf.specs.declared.message.Schema.{Schema}
-use Rattle.protobuf.specs.declared.message.Values.{Values}
-use Rattle.protobuf.specs.declared.body.Body.the-variants.{Message, Unreadable}
-use Rattle.protobuf.proofs.StepLaws.{ValuesIn as AllIn}
-use Rattle.protobuf.proofs.BodyLaws.{BodyIn, body-in}
 use Rattle.keys.specs.Names.{legalName, keyNameMost}
 use Rattle.keys.specs.Key.{Key, dataMost, legalData, legalBits, importBits}
 use Rattle.registry.specs.Slots.{Entry, free, held}
@@ -36,12 +29,13 @@ use Rattle.lookup.specs.declared.Place.the-variants.{Own, Listed, Nothing as No
 use Rattle.lookup.proofs.LookupLaws.{Alike}
 use Rattle.rsa.specs.Signature.{verification}
 use Rattle.messages.specs.Protobuf.{protobuf}
-use Rattle.messages.specs.Operations.{Operation, operationOf, nothing}
+use Rattle.messages.specs.Operations.{Operation, Asking, asks, garbled, asked, operationOf, nothing}
 use Rattle.messages.specs.Operations as message
+use Rattle.messages.specs.Placed.{keyIn}
+use Rattle.messages.specs.declared.ask.KeyPlaces.{KeyPlaces}
 use Rattle.judgement.specs.Status.{statusNumber}
 use Rattle.judgement.specs.Operations.{Result, success, refuse, importable, performImport, destroyOf, performDestroy, counted, exportOf, performExport, hashSize, checked, verifyWith, performVerify, performListOpcodes, perform, operated}
-use Rattle.judgement.specs.code.Placed.{readBody, keyOf, placedOperation}
-use Rattle.judgement.specs.code.Decided.{outputIn, changeOf, resultIn, refusedWith, countedAt, verifier, ValuesIn, KeyParts, SafeOutput, Decided}
+use Rattle.judgement.specs.code.Decided.{outputIn, changeOf, resultIn, refusedWith, countedAt, verifier, KeyWithin, KeyParts, SafeOutput, Decided}
 use Rattle.judgement.specs.declared.Status.{Status}
 use Rattle.judgement.specs.declared.Status.the-variants.{Success, ProviderDoesNotExist, DeserializingBodyFailed, PsaErrorNotPermitted, PsaErrorInvalidArgument, PsaErrorNotSupported, PsaErrorAlreadyExists, PsaErrorDoesNotExist, PsaErrorInsufficientStorage}
 use Rattle.judgement.specs.declared.Output.{Output}
@@ -49,7 +43,6 @@ use Rattle.judgement.specs.declared.Output.the-variants.{Nothing, Opcode
 use Rattle.judgement.specs.declared.Edit.the-variants.{Stays, Fills, Clears}
 use Rattle.judgement.specs.declared.Decision.{Decision}
 use Rattle.judgement.proofs.SourceLaws.{bytes-at, at-own, at-listed, source, at-source, at-alike}
-use Rattle.judgement.proofs.PlacedLaws.{operation-placed}
 use Rattle.judgement.proofs.Results.{refused-uncounted}
 use Rattle.judgement.proofs.JudgementLaws.{importable-legal}
 
@@ -57,7 +50,7 @@ use Rattle.judgement.proofs.JudgementLaws.{importable-legal}
 
 -- served, with this body in the response
 abbrev pub servedWith : Output → Decision
-servedWith output = record { status = Success; output = output; edit = Stays; values = allAbsent }
+servedWith output = record { status = Success; output = output; edit = Stays }
 
 module _ (slots : List Entry) (list body : List ℕ) {x : Result} where
   pub refusal : (status : Status) → x ≡ refuse status → Decided slots list body x (refusedWith status)
@@ -69,13 +62,13 @@ module _ (slots : List Entry) (list body : List ℕ) {x : Result} where
   unfolding success resultIn changeOf
   listing output safe e = record { result = sym e; output = safe; edit = tt }
 
-module _ (slots : List Entry) (list body : List ℕ) {x : Result} (v : Values) (slot : Slot) (below : slot .0 < slotCount) where
-  pub filling : KeyParts (length body) v → x ≡ success nothing (fill slot (keyOf body v))
-      → Decided slots list body x (record { status = Success; output = Nothing; edit = Fills slot; values = v })
+module _ (slots : List Entry) (list body : List ℕ) {x : Result} (slot : Slot) (below : slot .0 < slotCount) where
+  pub filling : (key : KeyPlaces) → KeyParts (length body) key → x ≡ success nothing (fill slot (keyIn body key))
+      → Decided slots list body x (record { status = Success; output = Nothing; edit = Fills slot key })
   unfolding success resultIn outputIn changeOf
-  filling parts e = record { result = sym e; output = tt; edit = (below, parts) }
+  filling key parts e = record { result = sym e; output = tt; edit = (below, parts) }
 
-  pub clearing : x ≡ success nothing (clear slot) → Decided slots list body x (record { status = Success; output = Nothing; edit = Clears slot; values = v })
+  pub clearing : x ≡ success nothing (clear slot) → Decided slots list body x (record { status = Success; output = Nothing; edit = Clears slot })
   unfolding success resultIn outputIn changeOf
   clearing e = record { result = sym e; output = tt; edit = below }
 
@@ -112,25 +105,16 @@ module _ (slots : List Entry) (list body : List ℕ) {x : Result} (d : Decision)
 
 -- ---- the body of a request
 
-pub values-in : (k : Schema) (body : List ℕ) (v : Values) → bodyOf k body ≡ Message v → ValuesIn (length body) v
-values-in k body v e =
-    let inside : AllIn (length body) v = subst (BodyIn (length body)) e (body-in k body) in
-    record { name = inside .in1; bytes = inside .in2; signature = inside .in3 }
-
-module _ (slots : List Entry) (list body : List ℕ) (opcode : ℕ) (fields : Schema) (f : Values → Operation)
-    (reads : placedOperation opcode body ≡ readBody fields body f) where
-  pub unreadable : (at : ℕ) → bodyOf fields body ≡ Unreadable at
+module _ (slots : List Entry) (list body : List ℕ) (opcode : ℕ) where
+  pub unreadable : (at : ℕ) → garbled at ≡ asked protobuf opcode body
       → Decided slots list body (operated opcode body slots (keysIn list)) (refusedWith DeserializingBodyFailed)
-  unfolding operated readBody
-  unreadable at e =
-      let asks-none : operationOf protobuf opcode body ≡ none = operation-placed opcode body ∙ reads ∙ (let r : readBody fields body f ≡ none = rw (e, readBody) in r) in
-      refusal slots list body DeserializingBodyFailed (rw (asks-none, operated))
+  unfolding operated operationOf
+  unreadable at e = refusal slots list body DeserializingBodyFailed (rw (← e, operationOf, operated))
 
-  pub readable : (v : Values) → bodyOf fields body ≡ Message v → operated opcode body slots (keysIn list) ≡ perform (f v) slots (keysIn list)
-  unfolding operated readBody
-  readable v e =
-      let asks : operationOf protobuf opcode body ≡ some (f v) = operation-placed opcode body ∙ reads ∙ (let r : readBody fields body f ≡ some (f v) = rw (e, readBody) in r) in
-      rw (asks, operated)
+  pub readable : (operation : Operation) → asks operation ≡ asked protobuf opcode body
+      → operated opcode body slots (keysIn list) ≡ perform operation slots (keysIn list)
+  unfolding operated operationOf
+  readable operation e = rw (← e, operationOf, operated)
 
 -- ---- the core operations
 
@@ -184,11 +168,11 @@ module _ (slots : List Entry) (keys : List ListedKey) (key : Key) where
       imported slot e = rw (t, new, e)
 
 -- the parts of a key that Import allows
-pub key-parts : (body : List ℕ) (v : Values) → ValuesIn (length body) v → importable (keyOf body v) ≡ true → KeyParts (length body) v
-key-parts body v inside t =
-    let legal : Legal (keyOf body v) = importable-legal (keyOf body v) t in
-    let n = length-part body (v .f1 .start) (v .f1 .len) (inside .name) in
-    let b = length-part body (v .f2 .start) (v .f2 .len) (inside .bytes) in
+pub key-parts : (body : List ℕ) (key : KeyPlaces) → KeyWithin (length body) key → importable (keyIn body key) ≡ true → KeyParts (length body) key
+key-parts body key inside t =
+    let legal : Legal (keyIn body key) = importable-legal (keyIn body key) t in
+    let n = length-part body (key .name .start) (key .name .len) (inside .0) in
+    let b = length-part body (key .bytes .start) (key .bytes .len) (inside .1) in
     record {
       within = inside;
       name = omega (arith, legal-short keyNameMost _ (legal .name));

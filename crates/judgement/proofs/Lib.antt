@@ -1,5 +1,3 @@
-pub mod PlacedLaws
-pub mod OutputLaws
 pub mod SourceLaws
 pub mod Results
 pub mod JudgementLaws

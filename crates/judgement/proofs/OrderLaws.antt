@@ -41,28 +41,6 @@ is-listed xs n h = go (oneOf xs n) refl
     go true e = e
     go false e = absurd (h (none-of xs n e))
 
-listed-first : (x : ℕ) (xs : List ℕ) (n : ℕ) → oneOf (x ∷ xs) n ≡ true → (n ≡ x) ⊎ (oneOf xs n ≡ true)
-unfolding oneOf
-listed-first x xs n e = go (eqb n x) refl e
-  where
-    go : (t : Bool) → eqb n x ≡ t → t || oneOf xs n ≡ true → (n ≡ x) ⊎ (oneOf xs n ≡ true)
-    go true q w = inl (eqb-true n x q)
-    go false q w = inr w
-
--- the opcodes of provider 0 are three, those of provider 1 four
-pub one-of-three : (x y z n : ℕ) → oneOf (x ∷ y ∷ z ∷ []) n ≡ true → (n ≡ x) ⊎ ((n ≡ y) ⊎ (n ≡ z))
-unfolding oneOf
-one-of-three x y z n e = ⊎-elim inl (λ w. inr (second w)) (listed-first x (y ∷ z ∷ []) n e)
-  where
-    third : oneOf (z ∷ []) n ≡ true → n ≡ z
-    third w = ⊎-elim (λ q. q) (λ q. absurd (false≢true q)) (listed-first z [] n w)
-
-    second : oneOf (y ∷ z ∷ []) n ≡ true → (n ≡ y) ⊎ (n ≡ z)
-    second w = ⊎-elim inl (λ q. inr (third q)) (listed-first y (z ∷ []) n w)
-
-pub one-of-four : (w x y z n : ℕ) → oneOf (w ∷ x ∷ y ∷ z ∷ []) n ≡ true → (n ≡ w) ⊎ ((n ≡ x) ⊎ ((n ≡ y) ⊎ (n ≡ z)))
-one-of-four w x y z n e = ⊎-elim inl (λ r. inr (one-of-three x y z n r)) (listed-first w (x ∷ y ∷ z ∷ []) n e)
-
 -- ---- the first test that applies, one test after another
 
 module _ (t : Bool) (status : Status) (tests : List (Bool × Status)) where

@@ -15,11 +15,11 @@ use Rattle.wire.proofs.TestLaws.{either}
 use Rattle.stream.specs.Frame.{oversized}
 use Rattle.stream.specs.Rules.{Verdict, judge, Outcome, Progress, answer, finish, rulesFrom, start, rules}
 use Rattle.stream.proofs.AccountingLaws.{by-requests}
-use Rattle.protobuf.specs.Written.{varintWithin, varint, bytesField}
 use Rattle.keys.specs.Key.{dataMost}
 use Rattle.messages.specs.Protobuf.{protobuf}
 use Rattle.messages.specs.Operations.{outputBytes, nothing, exported}
-use Rattle.messages.proofs.OperationLaws.{nothing-bytes, exported-bytes}
+use Rattle.messages.proofs.OperationLaws.{nothing-bytes}
+use Rattle.messages.proofs.WriteLaws.{exported-short}
 use Rattle.registry.specs.Slots.{free}
 use Rattle.registry.specs.WellFormed.{wellFormedRegistry}
 use Rattle.registry.specs.declared.Line.{Line}
@@ -60,25 +60,6 @@ slots-of-asker r w q i = go (applicationOf r q) refl
     go none e = tt
     go (some line) e = slots-short r w line (asks r q line e .there) i
 
-varint-short : (n : ℕ) → n ≤ dataMost → length (varint n) ≤ 2
-unfolding varint varintWithin
-varint-short n h = either (λ (l : List ℕ). length l ≤ 2) (ltb n 128)
-    (λ _. omega arith)
-    (λ _. rw (lt-ltb (n / 128) 128 (let x : n / 128 < 128 = omega arith in x)) (omega arith))
-
-bytes-short : (bytes : List ℕ) → length bytes ≤ dataMost → length (bytesField 1 bytes) ≤ bodyMost
-unfolding bytesField
-bytes-short [] h = omega arith
-bytes-short (b ∷ bytes) h =
-    let v = varint-short (length (b ∷ bytes)) h in
-    let l = length-append (varint (length (b ∷ bytes))) (b ∷ bytes) in
-    let t : length (varint (8 * 1 + 2)) ≤ 1 = tag in
-    let all = length-append (varint (8 * 1 + 2)) (varint (length (b ∷ bytes)) ++ (b ∷ bytes)) in
-    omega arith
-  where
-    tag : length (varint (8 * 1 + 2)) ≤ 1
-    tag = unfold varint varintWithin in omega arith
-
 output-short : (list r : List ℕ) → wellFormedRegistry r ≡ true → (q : Request) → length (outputBytes protobuf (resultOf list r q .output)) ≤ bodyMost
 unfolding refuse success
 output-short list r w q = by-result list r q (λ x. length (outputBytes protobuf (x .output)) ≤ bodyMost) (record {
@@ -87,7 +68,7 @@ output-short list r w q = by-result list r q (λ x. length (outputBytes protobuf
   imported = λ slot key v n e. omega (arith, ap length nothing-bytes);
   destroyed = λ slot name e. omega (arith, ap length nothing-bytes);
   exported = λ source name e. rw (served-output source (exported (keyOf source .bytes)))
-      (omega (arith, ap length (exported-bytes (keyOf source .bytes)), bytes-short (keyOf source .bytes) (source-short name (askersSlots r (applicationOf r q)) list (slots-of-asker r w q) source e)));
+      (omega (arith, exported-short (keyOf source .bytes) (source-short name (askersSlots r (applicationOf r q)) list (slots-of-asker r w q) source e)));
   verified = λ source name e. rw (served-output source nothing) (omega (arith, ap length nothing-bytes));
 })
 

@@ -23,17 +23,16 @@ use Rattle.rsa.specs.Signature.{verification}
 use Rattle.rsa.specs.declared.verify.Outcome.{Outcome}
 use Rattle.rsa.specs.declared.verify.Outcome.the-variants.{ValidSignature, InvalidSignature, InvalidKey}
 use Rattle.messages.specs.Protobuf.{protobuf}
-use Rattle.messages.specs.Operations.{Operation, ping, listProviders, listOpcodes, importKey, destroyKey, exportPublicKey, verifySignature, operationOf, Output, nothing, exported}
+use Rattle.messages.specs.Operations.{Operation, ping, listProviders, listOpcodes, importKey, destroyKey, exportPublicKey, verifySignature, operationOf, Output, nothing, opcodes, exported}
 use Rattle.messages.specs.Operations as message
+use Rattle.messages.specs.Opcodes.{opcodesOf}
+use Rattle.messages.proofs.WriteLaws.{version-short, providers-short, opcodes-short}
 use Rattle.judgement.specs.Status.{statusNumber}
 use Rattle.judgement.specs.Operations.{Result, success, refuse, importable, performImport, destroyOf, performDestroy, counted, exportOf, performExport, hashSize, checked, verifyWith, performVerify, performListOpcodes, perform, operated}
 use Rattle.judgement.specs.Judgement.{applicationOf, refusals, askersSlots, resultOf}
-use Rattle.judgement.specs.code.Decided.{outputIn}
 use Rattle.judgement.specs.declared.Status.{Status}
 use Rattle.judgement.specs.declared.Status.the-variants.{Success}
-use Rattle.judgement.specs.declared.Output.the-variants.{Opcodes}
 use Rattle.judgement.proofs.SourceLaws.{own-there, none-there}
-use Rattle.judgement.proofs.OutputLaws.{version-length, providers-length, opcodes-short}
 
 -- the ways to end, on these slots and these keys that we ship
 pub record Ends (slots : List Entry) (keys : List ListedKey) (P : Result → Type 0) : Type 0 where
@@ -166,17 +165,17 @@ module _ (slots : List Entry) (keys : List ListedKey) (P : Result → Type 0) (e
       go true e = second e (keyNamed name slots keys) refl
 
   by-opcodes : (provider : ℕ) → P (performListOpcodes provider)
-  unfolding performListOpcodes outputIn
+  unfolding performListOpcodes
   by-opcodes provider = go (ltb 1 provider) refl
     where
       go : (t : Bool) → ltb 1 provider ≡ t → P (performListOpcodes provider)
       go true e = rw (e, performListOpcodes) (ends .refused _)
-      go false e = rw (e, performListOpcodes) (ends .served (outputIn slots [] (Opcodes provider)) (opcodes-short slots [] provider))
+      go false e = rw (e, performListOpcodes) (ends .served (opcodes (opcodesOf provider)) (opcodes-short provider))
 
   by-operation : (operation : Operation) → P (perform operation slots keys)
-  unfolding perform outputIn
-  by-operation ping = ends .served _ (omega (arith, version-length slots []))
-  by-operation listProviders = ends .served _ (omega (arith, providers-length slots []))
+  unfolding perform
+  by-operation ping = ends .served _ (omega (arith, version-short 1 0 (omega arith) (omega arith)))
+  by-operation listProviders = ends .served _ (omega (arith, providers-short (0 ∷ 1 ∷ []) refl (omega arith)))
   by-operation (listOpcodes provider) = by-opcodes provider
   by-operation (importKey key) = by-import key
   by-operation (destroyKey name) = by-destroy name

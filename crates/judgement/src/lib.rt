@@ -1,7 +1,7 @@
 // How one request is judged: the order of tests, and what the seven operations come to ("Order of judgement on one request",
 // "Operations and their fields").
 use lookup::Place;
-use protobuf::message::Values;
+use messages::ask::KeyPlaces;
 use registry::Line;
 use registry::Slot;
 
@@ -67,15 +67,14 @@ pub enum Output {
 // What becomes of the asker's slots: the definitions' `Change`, the key itself left in the body.
 pub enum Edit {
     Stays,
-    Fills(Slot),
+    Fills(Slot, KeyPlaces),
     Clears(Slot),
     Uses(Slot),
 }
 
-// What an operation comes to; `values` are the fields of its body.
+// What an operation comes to.
 pub struct Decision {
     pub status: Status,
     pub output: Output,
     pub edit: Edit,
-    pub values: Values,
 }

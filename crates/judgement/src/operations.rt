@@ -3,7 +3,7 @@ use crate::Decision;
 use crate::Edit;
 use crate::Output;
 use crate::Status;
-use crate::signature::perform_verify;
+use crate::signature::verify;
 use crate::statuses::status_number;
 use keys::DATA_MOST;
 use keys::KEY_NAME_MOST;
@@ -12,17 +12,9 @@ use keys::names::is_legal;
 use lookup::Place;
 use lookup::find::find_key;
 use lookup::key::is_exportable;
-use messages::opcodes::LIST_PROVIDERS;
-use messages::opcodes::PING;
-use messages::opcodes::PSA_ASYMMETRIC_VERIFY;
-use messages::opcodes::PSA_DESTROY_KEY;
-use messages::opcodes::PSA_IMPORT_KEY;
-use protobuf::body::Body;
-use protobuf::body::read_body;
-use protobuf::message::Kind;
-use protobuf::message::Schema;
-use protobuf::message::Values;
-use protobuf::message::all_absent;
+use messages::ask::Asked;
+use messages::ask::KeyPlaces;
+use messages::ask::read_operation;
 use registry::Found;
 use registry::Line;
 use registry::find::find_slot;
@@ -31,13 +23,12 @@ ghost use mathlib.Core.List.{List};
 ghost use mathlib.Core.Path.{_≡_};
 ghost use Prim.Native.Nat.{ℕ, _<_};
 ghost use lib.ListN.{length};
-ghost use Rattle.protobuf.specs.code.Message as message;
+ghost use Rattle.messages.specs.Placed.{keyIn};
 ghost use Rattle.registry.specs.Registry.{lineCount, registrySize, slotsOf};
 ghost use Rattle.registry.specs.WellFormed.{wellFormedRegistry};
 ghost use Rattle.shipped.specs.Shipped.{keysIn, wellFormedList};
-ghost use Rattle.judgement.specs.Operations.{operated, performImport, performDestroy, performExport, importable};
-ghost use Rattle.judgement.specs.code.Placed.{noFields, opcodesFields, importFields, nameFields, keyOf};
-ghost use Rattle.judgement.specs.code.Decided.{refusedWith, countedAt, Decided, DecidedAnywhere, ValuesIn, oneOfCore, oneOfKeystore};
+ghost use Rattle.judgement.specs.Operations.{operated, performListOpcodes, performImport, performDestroy, performExport, importable};
+ghost use Rattle.judgement.specs.code.Decided.{refusedWith, countedAt, KeyWithin, Decided, DecidedAnywhere};
 
 // A request that is refused: no output, and nothing changes.
 pub fn refused(status: Status) -> Decision
@@ -47,67 +38,17 @@ pub fn refused(status: Status) -> Decision
         status,
         output: Output::Nothing,
         edit: Edit::Stays,
-        values: all_absent(),
-    }
-}
-
-pub fn no_fields() -> Schema
-    ensures { λ r. ⌜ r ≡ noFields ⌝ }
-{
-    Schema {
-        k1: Kind::Unlisted,
-        k2: Kind::Unlisted,
-        k3: Kind::Unlisted,
-        k4: Kind::Unlisted,
-        k5: Kind::Unlisted,
-    }
-}
-
-pub fn opcodes_fields() -> Schema
-    ensures { λ r. ⌜ r ≡ opcodesFields ⌝ }
-{
-    Schema {
-        k1: Kind::Uint32,
-        k2: Kind::Unlisted,
-        k3: Kind::Unlisted,
-        k4: Kind::Unlisted,
-        k5: Kind::Unlisted,
-    }
-}
-
-pub fn import_fields() -> Schema
-    ensures { λ r. ⌜ r ≡ importFields ⌝ }
-{
-    Schema {
-        k1: Kind::Bytes,
-        k2: Kind::Bytes,
-        k3: Kind::Uint32,
-        k4: Kind::Boolean,
-        k5: Kind::Boolean,
-    }
-}
-
-pub fn name_fields() -> Schema
-    ensures { λ r. ⌜ r ≡ nameFields ⌝ }
-{
-    Schema {
-        k1: Kind::Bytes,
-        k2: Kind::Unlisted,
-        k3: Kind::Unlisted,
-        k4: Kind::Unlisted,
-        k5: Kind::Unlisted,
     }
 }
 
 // A request that is served with this body in its response, and changes nothing.
 pub fn served(output: Output) -> Decision
-    ensures { λ r. ⌜ r ≡ record { status = Status.Success; output = output; edit = Edit.Stays; values = message.allAbsent } ⌝ }
+    ensures { λ r. ⌜ r ≡ record { status = Status.Success; output = output; edit = Edit.Stays } ⌝ }
 {
     Decision {
         status: Status::Success,
         output,
         edit: Edit::Stays,
-        values: all_absent(),
     }
 }
 
@@ -121,75 +62,33 @@ pub fn counted(place: Place, d: Decision) -> Decision
         return d;
     }
     let output = d.output;
-    let values = d.values;
     match place {
         Place::Own(slot) => Decision {
             status,
             output,
             edit: Edit::Uses(slot),
-            values,
         },
         Place::Listed(_) => d,
         Place::Nothing => d,
     }
 }
 
-fn ping(body: &[u8]) -> Decision
-    ensures { λ r. ⌜ DecidedAnywhere (now (body .entry)) (operated 1 (now (body .entry))) r ⌝ }
+fn list_opcodes(provider: u32) -> Decision
+    ensures { λ r. ⌜ ((body : List ℕ) → DecidedAnywhere body (λ slots keys. performListOpcodes provider) r) ⌝ }
 {
-    match read_body(body, no_fields()) {
-        Body::Message(_) => served(Output::Version),
-        Body::Unreadable(_) => refused(Status::DeserializingBodyFailed),
+    if 1 < provider {
+        return refused(Status::ProviderDoesNotExist);
     }
-}
-
-fn list_providers(body: &[u8]) -> Decision
-    ensures { λ r. ⌜ DecidedAnywhere (now (body .entry)) (operated 8 (now (body .entry))) r ⌝ }
-{
-    match read_body(body, no_fields()) {
-        Body::Message(_) => served(Output::Providers),
-        Body::Unreadable(_) => refused(Status::DeserializingBodyFailed),
-    }
-}
-
-fn list_opcodes(body: &[u8]) -> Decision
-    ensures { λ r. ⌜ DecidedAnywhere (now (body .entry)) (operated 9 (now (body .entry))) r ⌝ }
-{
-    match read_body(body, opcodes_fields()) {
-        Body::Message(v) => {
-            let f1 = v.f1;
-            let provider = f1.number;
-            if 1 < provider {
-                return refused(Status::ProviderDoesNotExist);
-            }
-            served(Output::Opcodes(provider))
-        }
-        Body::Unreadable(_) => refused(Status::DeserializingBodyFailed),
-    }
-}
-
-// The core operations.
-pub fn perform_core(opcode: u16, body: &[u8]) -> Decision
-    requires { ⌜ oneOfCore opcode ⌝ }
-    ensures { λ r. ⌜ DecidedAnywhere (now (body .entry)) (operated opcode (now (body .entry))) r ⌝ }
-{
-    if opcode == PING {
-        return ping(body);
-    }
-    if opcode == LIST_PROVIDERS {
-        return list_providers(body);
-    }
-    list_opcodes(body)
+    served(Output::Opcodes(provider))
 }
 
 // Whether Import allows the key.
-fn is_importable(body: &[u8], v: Values) -> bool
-    requires { ⌜ ValuesIn (length (now body)) v ⌝ }
-    ensures { λ r. ⌜ r ≡ importable (keyOf (now (body .entry)) v) ⌝ }
+fn is_importable(body: &[u8], key: KeyPlaces) -> bool
+    requires { ⌜ KeyWithin (length (now body)) key ⌝ }
+    ensures { λ r. ⌜ r ≡ importable (keyIn (now (body .entry)) key) ⌝ }
 {
-    let name = v.f1;
-    let bytes = v.f2;
-    let bits = v.f3;
+    let name = key.name;
+    let bytes = key.bytes;
     let start = name.start;
     let end = start + name.len;
     if !is_legal(&body[start..end], KEY_NAME_MOST) {
@@ -201,18 +100,18 @@ fn is_importable(body: &[u8], v: Values) -> bool
     if DATA_MOST < bytes.len {
         return false;
     }
-    are_legal_bits(bits.number as usize)
+    are_legal_bits(key.bits as usize)
 }
 
-// Import, of the fields in its body.
-fn import(registry: &[u8], list: &[u8], line: Line, body: &[u8], v: Values) -> Decision
-    requires { ⌜ (length (now registry) ≡ registrySize) × (line .0 < lineCount) × (wellFormedList (now list) ≡ true) × ValuesIn (length (now body)) v ⌝ }
-    ensures { λ r. ⌜ Decided (slotsOf (now (registry .entry)) line) (now (list .entry)) (now (body .entry)) (performImport (keyOf (now (body .entry)) v) (slotsOf (now (registry .entry)) line) (keysIn (now (list .entry)))) r ⌝ }
+// Import, of a key in its body.
+fn import(registry: &[u8], list: &[u8], line: Line, body: &[u8], key: KeyPlaces) -> Decision
+    requires { ⌜ (length (now registry) ≡ registrySize) × (line .0 < lineCount) × (wellFormedList (now list) ≡ true) × KeyWithin (length (now body)) key ⌝ }
+    ensures { λ r. ⌜ Decided (slotsOf (now (registry .entry)) line) (now (list .entry)) (now (body .entry)) (performImport (keyIn (now (body .entry)) key) (slotsOf (now (registry .entry)) line) (keysIn (now (list .entry)))) r ⌝ }
 {
-    if !is_importable(body, v) {
+    if !is_importable(body, key) {
         return refused(Status::PsaErrorInvalidArgument);
     }
-    let name = v.f1;
+    let name = key.name;
     let start = name.start;
     let end = start + name.len;
     let same = find_key(registry, list, line, &body[start..end]);
@@ -227,8 +126,7 @@ fn import(registry: &[u8], list: &[u8], line: Line, body: &[u8], v: Values) -> D
     Decision {
         status: Status::Success,
         output: Output::Nothing,
-        edit: Edit::Fills(slot),
-        values: v,
+        edit: Edit::Fills(slot, key),
     }
 }
 
@@ -245,7 +143,6 @@ fn destroy(registry: &[u8], list: &[u8], line: Line, name: &[u8]) -> Decision
             status: Status::Success,
             output: Output::Nothing,
             edit: Edit::Clears(slot),
-            values: all_absent(),
         },
         Place::Listed(_) => refused(Status::PsaErrorNotPermitted),
         Place::Nothing => refused(Status::PsaErrorDoesNotExist),
@@ -271,36 +168,41 @@ fn export(registry: &[u8], list: &[u8], line: Line, name: &[u8]) -> Decision
     counted(place, served(Output::Data(place)))
 }
 
-// The keystore operations, for the application of a line.
-pub fn perform_keystore<'a>(
+// The operation that an opcode and its body ask for, for the application of a line; no core operation looks at the line.
+pub fn perform_operation<'a>(
     opcode: u16,
     body: &[u8],
     registry: &'a [u8],
     list: &'a [u8],
     line: Line,
 ) -> Decision
-    requires { ⌜ oneOfKeystore opcode × (wellFormedRegistry (now registry) ≡ true) × (line .0 < lineCount) × (wellFormedList (now list) ≡ true) ⌝ }
+    requires { ⌜ (wellFormedRegistry (now registry) ≡ true) × (line .0 < lineCount) × (wellFormedList (now list) ≡ true) ⌝ }
     ensures { λ r. ⌜ Decided (slotsOf (now (registry .entry)) line) (now (list .entry)) (now (body .entry)) (operated opcode (now (body .entry)) (slotsOf (now (registry .entry)) line) (keysIn (now (list .entry)))) r ⌝ }
 {
-    if opcode == PSA_IMPORT_KEY {
-        return match read_body(body, import_fields()) {
-            Body::Message(v) => import(registry, list, line, body, v),
-            Body::Unreadable(_) => refused(Status::DeserializingBodyFailed),
-        };
-    }
-    if opcode == PSA_ASYMMETRIC_VERIFY {
-        return perform_verify(body, registry, list, line);
-    }
-    match read_body(body, name_fields()) {
-        Body::Message(v) => {
-            let name = v.f1;
+    match read_operation(opcode, body) {
+        Asked::Ping => served(Output::Version),
+        Asked::ListProviders => served(Output::Providers),
+        Asked::ListOpcodes(provider) => list_opcodes(provider),
+        Asked::ImportKey(key) => import(registry, list, line, body, key),
+        Asked::DestroyKey(name) => {
             let start = name.start;
             let end = start + name.len;
-            if opcode == PSA_DESTROY_KEY {
-                return destroy(registry, list, line, &body[start..end]);
-            }
+            destroy(registry, list, line, &body[start..end])
+        }
+        Asked::ExportPublicKey(name) => {
+            let start = name.start;
+            let end = start + name.len;
             export(registry, list, line, &body[start..end])
         }
-        Body::Unreadable(_) => refused(Status::DeserializingBodyFailed),
+        Asked::VerifySignature(name, hash, signature) => {
+            let a = name.start;
+            let b = a + name.len;
+            let c = hash.start;
+            let d = c + hash.len;
+            let e = signature.start;
+            let f = e + signature.len;
+            verify(registry, list, line, &body[a..b], &body[c..d], &body[e..f])
+        }
+        Asked::Unreadable(_) => refused(Status::DeserializingBodyFailed),
     }
 }

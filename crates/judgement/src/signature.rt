@@ -14,10 +14,6 @@ use lookup::key::is_verifiable;
 use lookup::key::key_bits;
 use lookup::key::key_bytes;
 use messages::HASH_SIZE;
-use protobuf::body::Body;
-use protobuf::body::read_body;
-use protobuf::message::Kind;
-use protobuf::message::Schema;
 use registry::Line;
 use rsa::verify::Outcome;
 ghost use mathlib.Core.Bool.{true};
@@ -28,21 +24,8 @@ ghost use Rattle.registry.specs.Slots.{Entry};
 ghost use Rattle.registry.specs.Registry.{lineCount, slotsOf};
 ghost use Rattle.registry.specs.WellFormed.{wellFormedRegistry};
 ghost use Rattle.shipped.specs.Shipped.{keysIn, wellFormedList};
-ghost use Rattle.judgement.specs.Operations.{checked, verifyWith, performVerify, operated};
-ghost use Rattle.judgement.specs.code.Placed.{verifyFields};
+ghost use Rattle.judgement.specs.Operations.{checked, verifyWith, performVerify};
 ghost use Rattle.judgement.specs.code.Decided.{Decided, verifier};
-
-pub fn verify_fields() -> Schema
-    ensures { λ r. ⌜ r ≡ verifyFields ⌝ }
-{
-    Schema {
-        k1: Kind::Bytes,
-        k2: Kind::Bytes,
-        k3: Kind::Bytes,
-        k4: Kind::Unlisted,
-        k5: Kind::Unlisted,
-    }
-}
 
 // What a signature that was checked comes to.
 fn judge_outcome(outcome: Outcome) -> Decision
@@ -81,7 +64,7 @@ pub fn verify_with(
 }
 
 // Verify, of a name, a hash and a signature in its body.
-fn verify<'a>(
+pub fn verify<'a>(
     registry: &'a [u8],
     list: &'a [u8],
     line: Line,
@@ -104,26 +87,4 @@ fn verify<'a>(
     let key = key_bytes(registry, list, line, place);
     let d = verify_with(allowed, key, bits, hash, signature);
     counted(place, d)
-}
-
-// Verify, of its body.
-pub fn perform_verify<'a>(body: &[u8], registry: &'a [u8], list: &'a [u8], line: Line) -> Decision
-    requires { ⌜ (wellFormedRegistry (now registry) ≡ true) × (line .0 < lineCount) × (wellFormedList (now list) ≡ true) ⌝ }
-    ensures { λ r. ⌜ Decided (slotsOf (now (registry .entry)) line) (now (list .entry)) (now (body .entry)) (operated 5 (now (body .entry)) (slotsOf (now (registry .entry)) line) (keysIn (now (list .entry)))) r ⌝ }
-{
-    match read_body(body, verify_fields()) {
-        Body::Message(v) => {
-            let name = v.f1;
-            let hash = v.f2;
-            let signature = v.f3;
-            let a = name.start;
-            let b = a + name.len;
-            let c = hash.start;
-            let d = c + hash.len;
-            let e = signature.start;
-            let f = e + signature.len;
-            verify(registry, list, line, &body[a..b], &body[c..d], &body[e..f])
-        }
-        Body::Unreadable(_) => refused(Status::DeserializingBodyFailed),
-    }
 }

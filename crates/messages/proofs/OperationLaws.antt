@@ -7,9 +7,9 @@ use mathlib.Core.List.{List, [], _++_, append-nil, map}
 use lib.ListN.{length}
 use Rattle.protobuf.specs.Written.{numberField, bytesField, packedField}
 use Rattle.messages.specs.Message.{Message, kindOf, AllFit, numberOf, octetsOf, numbersOf, valueAt}
-use Rattle.messages.specs.Format.{Format, messageBytes}
+use Rattle.messages.specs.Format.{Format, messageBytes, readMessage}
 use Rattle.messages.specs.Protobuf.{protobuf}
-use Rattle.messages.specs.Operations.{Operation, ping, listProviders, listOpcodes, importKey, destroyKey, exportPublicKey, verifySignature, opcodeOf, inputOf, operationBody, keyOf, whenRead, readBody, operationOf, Output, nothing, version, providers, opcodes, exported, Answers, ofPing, ofListProviders, ofListOpcodes, ofImport, ofDestroy, ofExport, ofVerify, messageOf, outputBytes, outputOf}
+use Rattle.messages.specs.Operations.{Operation, ping, listProviders, listOpcodes, importKey, destroyKey, exportPublicKey, verifySignature, opcodeOf, inputOf, operationBody, inputFields, askingOf, askingBy, asked, operationIn, operationOf, whenRead, readBody, Output, nothing, version, providers, opcodes, exported, Answers, ofPing, ofListProviders, ofListOpcodes, ofImport, ofDestroy, ofExport, ofVerify, messageOf, outputBytes, outputOf}
 use Rattle.messages.proofs.RoundTrip.{Lawful, round-trip}
 use Rattle.messages.proofs.ProtobufLaws.{protobuf-lawful}
 
@@ -18,16 +18,20 @@ module _ (format : Format) (law : Lawful format) where
   unfolding readBody
   body-back m f few fits = ap (whenRead f) (round-trip format law m few fits)
 
+  asked-read : (opcode : ℕ) (m : Message) → length m < 256 → AllFit (format .lengthMost) m
+      → askingBy opcode (readMessage format (map kindOf m) (messageBytes format m)) ≡ askingOf opcode m
+  asked-read opcode m few fits = ap (askingBy opcode) (round-trip format law m few fits)
+
   pub operation-back : (operation : Operation) → AllFit (format .lengthMost) (inputOf operation) → operationOf format (opcodeOf operation) (operationBody format operation) ≡ some operation
-  unfolding operationOf operationBody
-  operation-back ping fits = body-back [] (λ m. ping) (omega arith) fits
-  operation-back listProviders fits = body-back [] (λ m. listProviders) (omega arith) fits
-  operation-back (listOpcodes provider) fits = body-back (inputOf (listOpcodes provider)) (λ m. listOpcodes (numberOf (valueAt m 1))) (omega arith) fits
-  operation-back (importKey key) fits = body-back (inputOf (importKey key)) (λ m. importKey (keyOf m)) (omega arith) fits
-  operation-back (destroyKey name) fits = body-back (inputOf (destroyKey name)) (λ m. destroyKey (octetsOf (valueAt m 1))) (omega arith) fits
-  operation-back (exportPublicKey name) fits = body-back (inputOf (exportPublicKey name)) (λ m. exportPublicKey (octetsOf (valueAt m 1))) (omega arith) fits
+  unfolding operationOf asked operationBody inputFields askingOf
+  operation-back ping fits = ap operationIn (asked-read 1 [] (omega arith) fits)
+  operation-back listProviders fits = ap operationIn (asked-read 8 [] (omega arith) fits)
+  operation-back (listOpcodes provider) fits = ap operationIn (asked-read 9 (inputOf (listOpcodes provider)) (omega arith) fits)
+  operation-back (importKey key) fits = ap operationIn (asked-read 6 (inputOf (importKey key)) (omega arith) fits)
+  operation-back (destroyKey name) fits = ap operationIn (asked-read 3 (inputOf (destroyKey name)) (omega arith) fits)
+  operation-back (exportPublicKey name) fits = ap operationIn (asked-read 7 (inputOf (exportPublicKey name)) (omega arith) fits)
   operation-back (verifySignature name hash signature) fits =
-      body-back (inputOf (verifySignature name hash signature)) (λ m. verifySignature (octetsOf (valueAt m 1)) (octetsOf (valueAt m 2)) (octetsOf (valueAt m 3))) (omega arith) fits
+      ap operationIn (asked-read 5 (inputOf (verifySignature name hash signature)) (omega arith) fits)
 
   pub output-back : (opcode : ℕ) (output : Output) → Answers opcode output → AllFit (format .lengthMost) (messageOf output) → outputOf format opcode (outputBytes format output) ≡ some output
   unfolding outputOf outputBytes

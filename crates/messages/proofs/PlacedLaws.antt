@@ -10,6 +10,7 @@ use lib.Dec.{eqb}
 use borrow.Author.Tests.{ne-eqb}
 use Rattle.wire.specs.Choice.{if_then_else_, isSome}
 use Rattle.wire.specs.Scan.{Turn, follow, scanFrom, scanAt}
+use Rattle.wire.proofs.TestLaws.{either}
 use Rattle.wire.proofs.ScanLaws.{scan-end, scan-on}
 use Rattle.protobuf.specs.Field as proto
 use Rattle.protobuf.specs.Group.{depthMost, groupAt}
@@ -18,22 +19,23 @@ use Rattle.protobuf.specs.declared.field.Field.{Field as ProtoField}
 use Rattle.protobuf.specs.declared.field.Field.the-variants.{Number, Span, Fixed, GroupStart, GroupEnd, Unreadable}
 use Rattle.protobuf.specs.declared.group.Group.{Group}
 use Rattle.protobuf.specs.declared.group.Group.the-variants.{Skipped, Unreadable as noGroup}
-use Rattle.protobuf.specs.declared.message.Values.{Values}
-use Rattle.protobuf.specs.declared.body.Body.the-variants.{Message as Readable, Unreadable as Broken}
+use Rattle.fields.specs.declared.Values.{Values}
+use Rattle.fields.specs.declared.Body.the-variants.{Message as Readable, Unreadable as Broken}
 use Rattle.protobuf.proofs.FieldLaws.{Ahead, FieldAhead, field-ahead}
 use Rattle.protobuf.proofs.GroupLaws.{GroupAhead, group-ahead}
-use Rattle.protobuf.proofs.StepLaws.{ValuesIn}
+use Rattle.fields.specs.code.Fields.{ValuesIn}
 use Rattle.protobuf.proofs.BodyLaws.{body-in}
 use Rattle.messages.specs.Message.{uint32, bytes, uint32s, Value, numbers, numberOf, octetsOf, numbersOf, valueAt, Schema, Message}
 use Rattle.messages.specs.Format.{Field, field, skipped, unreadable, fieldWith, listed, Reading, read, broken, SoFar, turnOf, turnAt, readMessage}
 use Rattle.messages.specs.Protobuf.{ofVarint, packedOf, isOfWire, ofGroup, fieldOf, protobuf}
-use Rattle.messages.specs.Operations.{Output, nothing, version, providers, opcodes, exported, whenRead, readBody, outputOf}
+use Rattle.messages.specs.Operations.{inputFields, garbled, askingOf, askingBy, asked, Output, nothing, version, providers, opcodes, exported, whenRead, readBody, outputOf}
 use Rattle.messages.specs.Placed.{listIn, SpanWithin}
+use Rattle.messages.specs.code.Places.{schemaPlaced, NoLists, valuesOf, five, seen}
 use Rattle.messages.specs.code.ListBody.{listSchema, fieldIn, skippedGroup, skippedField, FieldWithin}
 use Rattle.messages.specs.declared.read.Span.{Span as Place}
 use Rattle.messages.proofs.RoundTrip.{turn-ahead}
 use Rattle.messages.proofs.ProtobufLaws.{protobuf-lawful}
-use Rattle.messages.proofs.PlacesLaws.{schemaPlaced, NoLists, valuesOf, five, seen, placed}
+use Rattle.messages.proofs.PlacesLaws.{placed}
 use Rattle.messages.proofs.PackedLaws.{packed-list}
 
 -- ---- a field of a list's body
@@ -178,6 +180,31 @@ module _ {A : Type 0} (schema : Schema) (body : List ℕ) (f : Message → A) (f
 
   pub body-within : (m : Values) → bodyOf (schemaPlaced schema) body ≡ Readable m → ValuesIn (length body) m
   body-within m e = rw e at (body-in (schemaPlaced schema) body)
+
+-- ---- what is asked
+
+module _ (opcode : ℕ) (body : List ℕ) where
+  input-few : length (inputFields opcode) ≤ 5
+  unfolding inputFields
+  input-few =
+      let P : Schema → Type 0 = λ s. length s ≤ 5 in
+      either P (eqb opcode 9) (λ _. omega arith) (λ _. either P (eqb opcode 6) (λ _. omega arith) (λ _. either P (eqb opcode 3) (λ _. omega arith)
+      (λ _. either P (eqb opcode 7) (λ _. omega arith) (λ _. either P (eqb opcode 5) (λ _. omega arith) (λ _. omega arith)))))
+
+  input-no-lists : NoLists (inputFields opcode)
+  unfolding inputFields
+  input-no-lists =
+      either NoLists (eqb opcode 9) (λ _. tt) (λ _. either NoLists (eqb opcode 6) (λ _. tt) (λ _. either NoLists (eqb opcode 3) (λ _. tt)
+      (λ _. either NoLists (eqb opcode 7) (λ _. tt) (λ _. either NoLists (eqb opcode 5) (λ _. tt) (λ _. tt)))))
+
+  pub asked-read : (m : Values) → bodyOf (schemaPlaced (inputFields opcode)) body ≡ Readable m
+      → askingOf opcode (valuesOf body (inputFields opcode) (five m)) ≡ asked protobuf opcode body
+  unfolding asked
+  asked-read m e = sym (ap (askingBy opcode) (placed (inputFields opcode) body input-few input-no-lists ∙ ap (seen body (inputFields opcode)) e))
+
+  pub asked-broken : (at : ℕ) → bodyOf (schemaPlaced (inputFields opcode)) body ≡ Broken at → garbled at ≡ asked protobuf opcode body
+  unfolding asked
+  asked-broken at e = sym (ap (askingBy opcode) (placed (inputFields opcode) body input-few input-no-lists ∙ ap (seen body (inputFields opcode)) e))
 
 -- ---- an output, by its opcode
 

@@ -14,21 +14,23 @@ use Rattle.wire.specs.Scan.{Turn, on, out, follow, scanFrom, scanAt}
 use Rattle.wire.proofs.TestLaws.{either}
 use Rattle.protobuf.specs.Field.{fieldAt}
 use Rattle.protobuf.specs.Group.{depthMost, groupAt}
+use Rattle.fields.specs.code.Fields as fields
 use Rattle.protobuf.specs.code.Message as proto
 use Rattle.protobuf.specs.code.Body as proto-body
 use Rattle.protobuf.specs.declared.field.Field.{Field as ProtoField}
 use Rattle.protobuf.specs.declared.field.Field.the-variants.{Number, Span, Fixed, GroupStart, GroupEnd, Unreadable as noField}
 use Rattle.protobuf.specs.declared.group.Group.{Group}
 use Rattle.protobuf.specs.declared.group.Group.the-variants.{Skipped, Unreadable as noGroup}
-use Rattle.protobuf.specs.declared.message.Kind.{Kind as ProtoKind}
-use Rattle.protobuf.specs.declared.message.Kind.the-variants.{Bytes, Uint32, Boolean, Unlisted}
-use Rattle.protobuf.specs.declared.message.Schema.{Schema as ProtoSchema}
-use Rattle.protobuf.specs.declared.message.Value.{Value as Place}
-use Rattle.protobuf.specs.declared.message.Values.{Values as Places}
-use Rattle.protobuf.specs.declared.body.Body.{Body}
-use Rattle.protobuf.specs.declared.body.Body.the-variants.{Message as Readable, Unreadable}
+use Rattle.fields.specs.declared.Kind.{Kind as ProtoKind}
+use Rattle.fields.specs.declared.Kind.the-variants.{Bytes, Uint32, Boolean, Unlisted}
+use Rattle.fields.specs.declared.Schema.{Schema as ProtoSchema}
+use Rattle.fields.specs.declared.Value.{Value as Place}
+use Rattle.fields.specs.declared.Values.{Values as Places}
+use Rattle.fields.specs.declared.Body.{Body}
+use Rattle.fields.specs.declared.Body.the-variants.{Message as Readable, Unreadable}
 use Rattle.messages.specs.Message.{Kind, uint32, bool, bytes, uint32s, Value, number, flag, octets, numbers, Schema, Message, kindAt, absent}
 use Rattle.messages.specs.Format.{skipped, fieldWith, listed, Reading, read, broken, SoFar, turnOf, turnAt, readMessage}
+use Rattle.messages.specs.code.Places.{kindPlaced, schemaPlaced, NoLists, valueOf, valuesOf, five, seen}
 use Rattle.messages.specs.Protobuf.{ofVarint, ofSpan, isOfWire, ofGroup, fieldOf, protobuf}
 
 -- ---- two scans that go the same way
@@ -65,50 +67,6 @@ module _ {M N R S : Type 0} (Same : M → N → Type 0) (g : S → R) where
     unfolding scanAt
     scan-same at m n h = from-same (len - at) at m n h
 
--- ---- a schema and values as places
-
-abbrev kindPlaced : Option Kind → ProtoKind
-kindPlaced none = Unlisted
-kindPlaced (some uint32) = Uint32
-kindPlaced (some bool) = Boolean
-kindPlaced (some bytes) = Bytes
-kindPlaced (some uint32s) = Unlisted
-
-abbrev pub schemaPlaced : Schema → ProtoSchema
-schemaPlaced schema = record {
-  k1 = kindPlaced (kindAt schema 1);
-  k2 = kindPlaced (kindAt schema 2);
-  k3 = kindPlaced (kindAt schema 3);
-  k4 = kindPlaced (kindAt schema 4);
-  k5 = kindPlaced (kindAt schema 5);
-}
-
--- lists are not read by place
-abbrev pub NoLists : Schema → Type 0
-NoLists [] = Unit {0}
-NoLists (uint32 ∷ schema) = NoLists schema
-NoLists (bool ∷ schema) = NoLists schema
-NoLists (bytes ∷ schema) = NoLists schema
-NoLists (uint32s ∷ schema) = ⊥
-
-abbrev pub valueOf : (body : List ℕ) → Kind → Place → Value
-valueOf body uint32 v = number (v .number)
-valueOf body bool v = flag (not (eqb (v .number) 0))
-valueOf body bytes v = octets (take (v .len) (drop (v .start) body))
-valueOf body uint32s v = numbers []
-
-abbrev pub valuesOf : (body : List ℕ) → Schema → List Place → Message
-valuesOf body [] vs = []
-valuesOf body (kind ∷ schema) [] = absent kind ∷ valuesOf body schema []
-valuesOf body (kind ∷ schema) (v ∷ vs) = valueOf body kind v ∷ valuesOf body schema vs
-
-abbrev pub five : Places → List Place
-five m = m .f1 ∷ m .f2 ∷ m .f3 ∷ m .f4 ∷ m .f5 ∷ []
-
-abbrev pub seen : (body : List ℕ) → Schema → Body → Reading
-seen body schema (Readable m) = read (valuesOf body schema (five m))
-seen body schema (Unreadable at) = broken at
-
 -- ---- a listed number
 
 pub record Within (n most : ℕ) : Type 0 where
@@ -135,7 +93,7 @@ module _ (schema : Schema) (few : length schema ≤ 5) where
   Named n k = k ≡ kindPlaced (kindAt schema n)
 
   -- both find the same kind
-  kind-same : (n : ℕ) → proto.kindOf (schemaPlaced schema) n ≡ kindPlaced (kindAt schema n)
+  kind-same : (n : ℕ) → fields.kindOf (schemaPlaced schema) n ≡ kindPlaced (kindAt schema n)
   kind-same n =
       let at : (i : ℕ) → eqb n i ≡ true → Named n (kindPlaced (kindAt schema i)) = λ i e. ap (λ (x : ℕ). kindPlaced (kindAt schema x)) (sym (eqb-true n i e)) in
       either (Named n) (eqb n 1) (at 1)
@@ -153,8 +111,8 @@ module _ (schema : Schema) (few : length schema ≤ 5) where
   abbrev Put : (n : ℕ) → Places → Place → Places → Type 0
   Put n m v m′ = five m′ ≡ set (five m) (n - 1) v
 
-  five-put : (n : ℕ) (m : Places) (v : Place) → Within n 5 → five (proto.withValue m n v) ≡ set (five m) (n - 1) v
-  unfolding proto.withValue
+  five-put : (n : ℕ) (m : Places) (v : Place) → Within n 5 → five (fields.withValue m n v) ≡ set (five m) (n - 1) v
+  unfolding fields.withValue
   five-put n m v w =
       let at : (i : ℕ) → eqb n i ≡ true → set (five m) (i - 1) v ≡ set (five m) (n - 1) v = λ i e. ap (λ (x : ℕ). set (five m) (x - 1) v) (sym (eqb-true n i e)) in
       either (Put n m v) (eqb n 1) (at 1)
@@ -179,7 +137,7 @@ module _ (body : List ℕ) where
       rw one (ap (λ (r : Message). valueOf body k u ∷ r) (rw two at ih))
 
   -- nothing read yet
-  none-read : (schema : Schema) (count : ℕ) → map absent schema ≡ valuesOf body schema (replicate count proto.absent)
+  none-read : (schema : Schema) (count : ℕ) → map absent schema ≡ valuesOf body schema (replicate count fields.absent)
   none-read [] count = refl
   none-read (kind ∷ schema) zero = ap (λ (r : Message). absent kind ∷ r) (none-read schema 0)
   none-read (uint32 ∷ schema) (suc count) = ap (λ (r : Message). number 0 ∷ r) (none-read schema count)
@@ -217,7 +175,7 @@ module _ (schema : Schema) (body : List ℕ) (few : length schema ≤ 5) (no-lis
       (n : ℕ) (kind : Kind) (so : SoFar) (m : Places) (v : Place) →
       kindAt schema n ≡ some kind →
       Same so m →
-      set (so .1) (n - 1) (valueOf body kind v) ≡ valuesOf body schema (five (proto.withValue m n v))
+      set (so .1) (n - 1) (valueOf body kind v) ≡ valuesOf body schema (five (fields.withValue m n v))
   put-same n kind so m v e h =
       let w = kind-within schema n kind e in
       ap (λ (x : Message). set x (n - 1) (valueOf body kind v)) h
@@ -268,4 +226,4 @@ module _ (schema : Schema) (body : List ℕ) (few : length schema ≤ 5) (no-lis
   unfolding readMessage
   placed =
       scan-same Same (seen body schema) (turnAt protobuf schema body) (proto-body.turnAt (schemaPlaced schema) body) (λ so. read (so .1)) Readable (length body)
-      (λ so m h. ap read h) turn-same 0 (0, map absent schema) proto.allAbsent (none-read body schema 5)
+      (λ so m h. ap read h) turn-same 0 (0, map absent schema) fields.allAbsent (none-read body schema 5)

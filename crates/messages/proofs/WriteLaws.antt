@@ -1,23 +1,26 @@
 -- Laws of the bodies that are written: their fields, and how long they are at most.
 use Prim.Native.Nat.{ℕ, _+_, _*_, _/_, _≤_, _<_}
 use native.Mathlib.Omega.{arith}
-use mathlib.Core.Path.{_≡_, refl, ap}
+use mathlib.Core.Path.{_≡_, refl, ap, _∙_}
 use mathlib.Core.Bool.{Bool, true, false}
-use mathlib.Core.List.{List, [], _∷_, _++_, append-nil, append-assoc}
+use mathlib.Core.List.{List, [], _∷_, _++_, append-nil, append-assoc, flatMap}
 use borrow.Author.Tests.{ltb-true, ltb-false}
 use lib.ListN.{length, length-append}
 use lib.Dec.{ltb, eqb}
 use Rattle.wire.specs.Choice.{if_then_else_}
 use Rattle.wire.specs.code.Wrote.{Wrote}
-use Rattle.wire.proofs.TestLaws.{either}
+use Rattle.wire.specs.Lists.{all}
+use Rattle.wire.proofs.TestLaws.{either, and-left, and-right}
 use Rattle.keys.specs.Names.{keyNameMost}
 use Rattle.keys.specs.Key.{Key, dataMost, bitsMost}
-use Rattle.protobuf.specs.Written.{varintWithin, varint, numberField, bytesField}
+use Rattle.protobuf.specs.Written.{varintWithin, varint, numberField, bytesField, packedField}
 use Rattle.protobuf.proofs.WrittenLaws.{ends, goes-on, varint-short, bytes-field-none, bytes-field-length}
-use Rattle.messages.specs.Message.{octets}
+use Rattle.messages.specs.Message.{octets, numbers}
 use Rattle.messages.specs.Format.{messageBytes}
 use Rattle.messages.specs.Protobuf.{protobuf}
-use Rattle.messages.specs.Operations.{listOpcodes, importKey, verifySignature, operationBody}
+use Rattle.messages.specs.Operations.{listOpcodes, importKey, verifySignature, operationBody, version, providers, opcodes, exported as exportedData, outputBytes}
+use Rattle.messages.specs.Opcodes.{coreOpcodes, keystoreOpcodes, opcodesOf}
+use Rattle.messages.proofs.OperationLaws.{version-bytes, exported-bytes}
 use Rattle.messages.specs.code.Bodies.{fieldRoom, keyNumbers, bodyMost}
 
 -- ---- a field's length
@@ -51,9 +54,21 @@ pub provider-body : (provider : ℕ) → operationBody protobuf (listOpcodes pro
 unfolding operationBody messageBytes
 provider-body provider = append-nil (numberField 1 provider)
 
-pub name-body : (name : List ℕ) → messageBytes protobuf (octets name ∷ []) ≡ bytesField 1 name
+pub bytes-body : (bytes : List ℕ) → messageBytes protobuf (octets bytes ∷ []) ≡ bytesField 1 bytes
 unfolding messageBytes
-name-body name = append-nil (bytesField 1 name)
+bytes-body bytes = append-nil (bytesField 1 bytes)
+
+-- a number below 128 is its own varint
+own-varints : (list : List ℕ) → all (λ n. ltb n 128) list ≡ true → flatMap varint list ≡ list
+unfolding flatMap varint
+own-varints [] h = refl
+own-varints (n ∷ list) h =
+    let small : n < 128 = ltb-true n 128 (and-left (ltb n 128) (all (λ m. ltb m 128) list) h) in
+    rw (ends 9 n small) (ap (λ (l : List ℕ). n ∷ l) (own-varints list (and-right (ltb n 128) (all (λ m. ltb m 128) list) h)))
+
+pub list-body : (list : List ℕ) → all (λ n. ltb n 128) list ≡ true → messageBytes protobuf (numbers list ∷ []) ≡ bytesField 1 list
+unfolding messageBytes packedField
+list-body list h = append-nil (packedField 1 list) ∙ ap (bytesField 1) (own-varints list h)
 
 pub key-numbers : (bits : ℕ) (exported verified : Bool) {e v : ℕ} → e ≡ (if exported then 1 else 0) → v ≡ (if verified then 1 else 0)
     → keyNumbers bits exported verified ≡ (numberField 3 bits ++ numberField 4 e) ++ numberField 5 v
@@ -110,8 +125,8 @@ provider-body-short provider = rw provider-body (omega (arith, number-field-with
 name-field-short : (name : List ℕ) → length name ≤ keyNameMost → length (bytesField 1 name) ≤ 1 + 1 + keyNameMost
 name-field-short name h = omega (arith, bytes-field-within 1 name, one-byte (8 * 1 + 2) (omega arith), one-byte (length name) (omega arith))
 
-pub name-body-short : (name : List ℕ) → length name ≤ keyNameMost → length (messageBytes protobuf (octets name ∷ [])) ≤ bodyMost
-name-body-short name h = rw name-body (omega (arith, name-field-short name h))
+pub bytes-body-short : (name : List ℕ) → length name ≤ keyNameMost → length (messageBytes protobuf (octets name ∷ [])) ≤ bodyMost
+bytes-body-short name h = rw bytes-body (omega (arith, name-field-short name h))
 
 pub key-body-short : (key : Key) → length (key .name) ≤ keyNameMost → length (key .bytes) ≤ dataMost → key .bits ≤ bitsMost
     → length (operationBody protobuf (importKey key)) ≤ bodyMost
@@ -124,3 +139,28 @@ key-body-short key n d b =
     let exported = flag-short 4 (key .exportAllowed) (omega arith) in
     let verified = flag-short 5 (key .verifyAllowed) (omega arith) in
     rw key-body (simp length-append (omega (arith, name-field-short (key .name) n)))
+
+-- ---- how long the bodies of responses are at most
+
+pub version-short : (major minor : ℕ) → major < 128 → minor < 128 → length (outputBytes protobuf (version major minor)) ≤ 4
+version-short major minor h k =
+    rw version-bytes
+    (omega (arith, length-append (numberField 1 major) (numberField 2 minor), number-field-within 1 major, number-field-within 2 minor, one-byte (8 * 1) (omega arith), one-byte (8 * 2) (omega arith), one-byte major h, one-byte minor k))
+
+list-short : (list : List ℕ) → all (λ n. ltb n 128) list ≡ true → length list < 128 → length (messageBytes protobuf (numbers list ∷ [])) ≤ 2 + length list
+list-short list h short =
+    omega (arith, ap length (list-body list h), bytes-field-within 1 list, one-byte (8 * 1 + 2) (omega arith), one-byte (length list) short)
+
+pub providers-short : (list : List ℕ) → all (λ n. ltb n 128) list ≡ true → length list < 128 → length (outputBytes protobuf (providers list)) ≤ 2 + length list
+unfolding outputBytes
+providers-short list h short = list-short list h short
+
+pub opcodes-short : (provider : ℕ) → length (outputBytes protobuf (opcodes (opcodesOf provider))) ≤ 6
+unfolding outputBytes opcodesOf
+opcodes-short provider =
+    either (λ (list : List ℕ). length (messageBytes protobuf (numbers list ∷ [])) ≤ 6) (eqb provider 0)
+    (λ _. omega (arith, list-short coreOpcodes refl (omega arith))) (λ _. list-short keystoreOpcodes refl (omega arith))
+
+pub exported-short : (data′ : List ℕ) → length data′ ≤ dataMost → length (outputBytes protobuf (exportedData data′)) ≤ 3 + dataMost
+exported-short data′ h =
+    omega (arith, ap length (exported-bytes data′), bytes-field-within 1 data′, one-byte (8 * 1 + 2) (omega arith), two-bytes (length data′) (omega arith))

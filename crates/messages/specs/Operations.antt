@@ -75,17 +75,46 @@ whenRead f (broken at) = none
 unfoldable pub readBody : {A : Type 0} → Format → Schema → (body : List ℕ) → (Message → A) → Option A
 readBody format schema body f = whenRead f (readMessage format schema body)
 
+-- the fields of the body that each listed opcode has
+unfoldable pub inputFields : (opcode : ℕ) → Schema
+inputFields opcode =
+    if eqb opcode 9 then uint32 ∷ []
+    else if eqb opcode 6 then bytes ∷ bytes ∷ uint32 ∷ bool ∷ bool ∷ []
+    else if eqb opcode 3 then bytes ∷ []
+    else if eqb opcode 7 then bytes ∷ []
+    else if eqb opcode 5 then bytes ∷ bytes ∷ bytes ∷ []
+    else []
+
+-- what a body asks for, or where its first unreadable field starts
+pub data Asking : Type 0 where
+  asks : Operation → Asking
+  garbled : (at : ℕ) → Asking
+
+unfoldable pub askingOf : (opcode : ℕ) → Message → Asking
+askingOf opcode m =
+    if eqb opcode 1 then asks ping
+    else if eqb opcode 8 then asks listProviders
+    else if eqb opcode 9 then asks (listOpcodes (numberOf (valueAt m 1)))
+    else if eqb opcode 6 then asks (importKey (keyOf m))
+    else if eqb opcode 3 then asks (destroyKey (octetsOf (valueAt m 1)))
+    else if eqb opcode 7 then asks (exportPublicKey (octetsOf (valueAt m 1)))
+    else if eqb opcode 5 then asks (verifySignature (octetsOf (valueAt m 1)) (octetsOf (valueAt m 2)) (octetsOf (valueAt m 3)))
+    else garbled 0
+
+abbrev pub askingBy : (opcode : ℕ) → Reading → Asking
+askingBy opcode (read message) = askingOf opcode message
+askingBy opcode (broken at) = garbled at
+
+unfoldable pub asked : Format → (opcode : ℕ) (body : List ℕ) → Asking
+asked format opcode body = askingBy opcode (readMessage format (inputFields opcode) body)
+
+abbrev pub operationIn : Asking → Option Operation
+operationIn (asks operation) = some operation
+operationIn (garbled at) = none
+
 -- the operation that a listed opcode and a readable body ask for
 unfoldable pub operationOf : Format → (opcode : ℕ) (body : List ℕ) → Option Operation
-operationOf format opcode body =
-    if eqb opcode 1 then readBody format [] body (λ m. ping)
-    else if eqb opcode 8 then readBody format [] body (λ m. listProviders)
-    else if eqb opcode 9 then readBody format (uint32 ∷ []) body (λ m. listOpcodes (numberOf (valueAt m 1)))
-    else if eqb opcode 6 then readBody format (bytes ∷ bytes ∷ uint32 ∷ bool ∷ bool ∷ []) body (λ m. importKey (keyOf m))
-    else if eqb opcode 3 then readBody format (bytes ∷ []) body (λ m. destroyKey (octetsOf (valueAt m 1)))
-    else if eqb opcode 7 then readBody format (bytes ∷ []) body (λ m. exportPublicKey (octetsOf (valueAt m 1)))
-    else if eqb opcode 5 then readBody format (bytes ∷ bytes ∷ bytes ∷ []) body (λ m. verifySignature (octetsOf (valueAt m 1)) (octetsOf (valueAt m 2)) (octetsOf (valueAt m 3)))
-    else none
+operationOf format opcode body = operationIn (asked format opcode body)
 
 -- ---- what a served request answers
 

@@ -1,4 +1,4 @@
--- An output told by its places in the bytes that it was read from, and a packed list taken apart.
+-- An operation or an output told by its places in the bytes that it was read from, and a packed list taken apart.
 use Prim.Native.Nat.{ℕ, _+_, _%_, _^_, _≤_}
 use mathlib.Core.Option.{Option, none, some}
 use mathlib.Core.List.{List, [], _∷_, _++_}
@@ -10,8 +10,12 @@ use Rattle.protobuf.specs.declared.varint.Varint.{Varint}
 use Rattle.protobuf.specs.declared.varint.Varint.the-variants.{Read as readVarint, Unreadable as noVarint}
 use Rattle.messages.specs.Message.{Value, numbersOf}
 use Rattle.messages.specs.Protobuf.{packedOf}
-use Rattle.messages.specs.Operations.{Output, nothing, version, providers, opcodes, exported}
+use Rattle.messages.specs.Operations.{ping, listProviders, listOpcodes, importKey, destroyKey, exportPublicKey, verifySignature, Asking, asks, garbled, Output, nothing, version, providers, opcodes, exported}
+use Rattle.keys.specs.Key.{Key}
 use Rattle.messages.specs.declared.read.Span.{Span}
+use Rattle.messages.specs.declared.ask.KeyPlaces.{KeyPlaces}
+use Rattle.messages.specs.declared.ask.Asked.{Asked}
+use Rattle.messages.specs.declared.ask.Asked.the-variants.{Ping, ListProviders, ListOpcodes, ImportKey, DestroyKey, ExportPublicKey, VerifySignature, Unreadable as notAsked}
 use Rattle.messages.specs.declared.read.Output.{Output as OutputPlaces}
 use Rattle.messages.specs.declared.read.Output.the-variants.{Nothing, Version, Providers, Opcodes, Data}
 use Rattle.messages.specs.declared.read.OutputRead.{OutputRead}
@@ -21,6 +25,25 @@ use Rattle.messages.specs.declared.read.OutputRead.the-variants.{Read, U
 
 abbrev pub spanIn : (bytes : List ℕ) → Span → List ℕ
 spanIn bytes span = take (span .len) (drop (span .start) bytes)
+
+abbrev pub keyIn : (bytes : List ℕ) → KeyPlaces → Key
+keyIn bytes key = record {
+  name = spanIn bytes (key .name);
+  bytes = spanIn bytes (key .bytes);
+  bits = key .bits;
+  exportAllowed = key .exported;
+  verifyAllowed = key .verified;
+}
+
+abbrev pub askingIn : (bytes : List ℕ) → Asked → Asking
+askingIn bytes Ping = asks ping
+askingIn bytes ListProviders = asks listProviders
+askingIn bytes (ListOpcodes provider) = asks (listOpcodes provider)
+askingIn bytes (ImportKey key) = asks (importKey (keyIn bytes key))
+askingIn bytes (DestroyKey name) = asks (destroyKey (spanIn bytes name))
+askingIn bytes (ExportPublicKey name) = asks (exportPublicKey (spanIn bytes name))
+askingIn bytes (VerifySignature name hash signature) = asks (verifySignature (spanIn bytes name) (spanIn bytes hash) (spanIn bytes signature))
+askingIn bytes (notAsked at) = garbled at
 
 abbrev pub entriesOf : Option Value → List ℕ
 entriesOf none = []
@@ -45,6 +68,16 @@ readIn bytes Unreadable = none
 
 abbrev pub SpanWithin : (most : ℕ) → Span → Type 0
 SpanWithin most span = span .start + span .len ≤ most
+
+abbrev pub AskedWithin : (most : ℕ) → Asked → Type 0
+AskedWithin most Ping = Unit {0}
+AskedWithin most ListProviders = Unit {0}
+AskedWithin most (ListOpcodes provider) = Unit {0}
+AskedWithin most (ImportKey key) = SpanWithin most (key .name) × SpanWithin most (key .bytes)
+AskedWithin most (DestroyKey name) = SpanWithin most name
+AskedWithin most (ExportPublicKey name) = SpanWithin most name
+AskedWithin most (VerifySignature name hash signature) = SpanWithin most name × SpanWithin most hash × SpanWithin most signature
+AskedWithin most (notAsked at) = Unit {0}
 
 abbrev pub OutputWithin : (most : ℕ) → OutputPlaces → Type 0
 OutputWithin most Nothing = Unit {0}

@@ -1,5 +1,6 @@
 // What each operation asks and answers, as data and as bytes ("Operations and their fields"), for the service and for a
 // client. specs/ defines it, and proofs/ has that what is written is read as itself.
+pub mod ask;
 pub mod opcodes;
 pub mod read;
 pub mod write;

@@ -18,6 +18,11 @@ pub const PSA_IMPORT_KEY: u16 = 6;
 
 pub const PSA_EXPORT_PUBLIC_KEY: u16 = 7;
 
+// The core's, and the keystore's.
+pub const CORE: [u8; 3] = [1, 8, 9];
+
+pub const KEYSTORE: [u8; 4] = [3, 5, 6, 7];
+
 pub fn is_core(opcode: u16) -> bool
     ensures { λ r. ⌜ r ≡ oneOf coreOpcodes opcode ⌝ }
 {

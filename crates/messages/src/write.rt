@@ -1,18 +1,21 @@
-// The bodies of requests, written over the front of a lent buffer ("Operations and their fields").
+// The bodies of requests and of responses, written over the front of a lent buffer ("Operations and their fields").
 use protobuf::write::bytes_field_size;
 use protobuf::write::write_bytes_field;
 use protobuf::write::write_number_field;
 ghost use mathlib.Core.Path.{_≡_};
+ghost use mathlib.Core.Bool.{true};
 ghost use mathlib.Core.List.{[], _∷_};
 ghost use Prim.Native.Nat.{_+_, _^_, _<_, _≤_};
 ghost use lib.ListN.{length};
+ghost use lib.Dec.{ltb};
 ghost use Rattle.wire.specs.Choice.{if_then_else_};
+ghost use Rattle.wire.specs.Lists.{all};
 ghost use Rattle.wire.specs.code.Wrote.{Wrote};
-ghost use Rattle.messages.specs.Message.{octets};
+ghost use Rattle.messages.specs.Message.{octets, numbers};
 ghost use Rattle.messages.specs.Format.{messageBytes};
 ghost use Rattle.messages.specs.Protobuf.{protobuf};
-ghost use Rattle.messages.specs.Operations.{listOpcodes, importKey, verifySignature, operationBody};
-ghost use Rattle.messages.specs.code.Bodies.{fieldRoom, nameBodyRoom, keyNumbers, keyNumbersRoom, keyBodyRoom, verifyBodyRoom};
+ghost use Rattle.messages.specs.Operations.{listOpcodes, importKey, verifySignature, operationBody, version, outputBytes};
+ghost use Rattle.messages.specs.code.Bodies.{fieldRoom, bytesBodyRoom, keyNumbers, keyNumbersRoom, keyBodyRoom, verifyBodyRoom, versionBodyRoom};
 
 // A bool as its field's number.
 fn flag_number(b: bool) -> u64
@@ -29,12 +32,12 @@ pub fn write_provider_body(out: &mut [u8], provider: u32) -> usize
     write_number_field(out, 1, provider as u64)
 }
 
-// Destroy's and Export's.
-pub fn write_name_body(out: &mut [u8], name: &[u8]) -> usize
-    requires { ⌜ nameBodyRoom (now name) ≤ length (now out) ⌝ }
-    ensures { λ r. ⌜ Wrote (messageBytes protobuf (octets (now (name .entry)) ∷ [])) (now (out .entry)) (now (out .exit)) r ⌝ }
+// Destroy's and Export's; and Export's output.
+pub fn write_bytes_body(out: &mut [u8], bytes: &[u8]) -> usize
+    requires { ⌜ bytesBodyRoom (now bytes) ≤ length (now out) ⌝ }
+    ensures { λ r. ⌜ Wrote (messageBytes protobuf (octets (now (bytes .entry)) ∷ [])) (now (out .entry)) (now (out .exit)) r ⌝ }
 {
-    write_bytes_field(out, 1, name)
+    write_bytes_field(out, 1, bytes)
 }
 
 // The last three fields of Import's.
@@ -89,4 +92,22 @@ pub fn verify_body_size(name: &[u8], hash: &[u8], signature: &[u8]) -> usize
     let hash_size = bytes_field_size(2, hash.len());
     let signature_size = bytes_field_size(3, signature.len());
     name_size + hash_size + signature_size
+}
+
+// Ping's output.
+pub fn write_version_body(out: &mut [u8], major: u32, minor: u32) -> usize
+    requires { ⌜ versionBodyRoom ≤ length (now out) ⌝ }
+    ensures { λ r. ⌜ Wrote (outputBytes protobuf (version major minor)) (now (out .entry)) (now (out .exit)) r ⌝ }
+{
+    let first = write_number_field(out, 1, major as u64);
+    let second = write_number_field(&mut out[first..], 2, minor as u64);
+    first + second
+}
+
+// ListProviders' and ListOpcodes' output: a list of numbers below 128, each of which is its own varint.
+pub fn write_list_body(out: &mut [u8], list: &[u8]) -> usize
+    requires { ⌜ (all (λ n. ltb n 128) (now list) ≡ true) × (bytesBodyRoom (now list) ≤ length (now out)) ⌝ }
+    ensures { λ r. ⌜ Wrote (messageBytes protobuf (numbers (now (list .entry)) ∷ [])) (now (out .entry)) (now (out .exit)) r ⌝ }
+{
+    write_bytes_field(out, 1, list)
 }

@@ -1,8 +1,8 @@
 // The leaves, exported for tests and benchmarks; no part of the product. An enum comes back as numbers. Input that a leaf's
 // `requires` forbids is answered by `false` or by REFUSED, with nothing written, or by zeros where the answer is an array.
+pub mod bodies;
 pub mod connections;
 pub mod headers;
-pub mod messages;
 pub mod registries;
 pub mod signatures;
 

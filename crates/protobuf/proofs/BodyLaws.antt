@@ -4,16 +4,17 @@ use native.Mathlib.Omega.{arith}
 use mathlib.Core.Path.{_≡_}
 use mathlib.Core.List.{List}
 use lib.ListN.{length}
-use Rattle.protobuf.specs.code.Message.{stepAt, allAbsent}
+use Rattle.fields.specs.code.Fields.{allAbsent, ValuesIn, BodyIn}
+use Rattle.protobuf.specs.code.Message.{stepAt}
 use Rattle.protobuf.specs.code.Body.{turnOf, turnAt, bodyAt, bodyOf}
-use Rattle.protobuf.specs.declared.message.Schema.{Schema}
-use Rattle.protobuf.specs.declared.message.Values.{Values}
+use Rattle.fields.specs.declared.Schema.{Schema}
+use Rattle.fields.specs.declared.Values.{Values}
 use Rattle.protobuf.specs.declared.message.Step.{Step}
 use Rattle.protobuf.specs.declared.message.Step.the-variants.{Next, Refuse}
-use Rattle.protobuf.specs.declared.body.Body.{Body}
-use Rattle.protobuf.specs.declared.body.Body.the-variants.{Message, Unreadable}
+use Rattle.fields.specs.declared.Body.{Body}
+use Rattle.fields.specs.declared.Body.the-variants.{Message, Unreadable}
 use Rattle.protobuf.proofs.FieldLaws.{Ahead}
-use Rattle.protobuf.proofs.StepLaws.{ValuesIn, StepAhead, StepIn, step-ahead, step-in}
+use Rattle.protobuf.proofs.StepLaws.{StepAhead, StepIn, step-ahead, step-in}
 use Rattle.wire.proofs.ScanLaws.{TurnAhead, TurnHas, scan-end, scan-on, scan-has}
 
 turn-of-ahead : (n at : ℕ) (t : Step) → StepAhead n at t → TurnAhead at (turnOf at t)
@@ -37,9 +38,6 @@ module _ (k : Schema) (s : List ℕ) where
   refuses at m h e = rw e at (scan-on (turnAt k s) Message (length s) turn-ahead at m h)
 
 -- ---- the spans of a message lie within the body
-abbrev pub BodyIn : ℕ → Body → Type 0
-BodyIn n (Message m) = ValuesIn n m
-BodyIn n (Unreadable at) = Unit {0}
 
 turn-of-in : (n at : ℕ) (t : Step) → StepIn n t → TurnHas (λ _ m. ValuesIn n m) (BodyIn n) (turnOf at t)
 turn-of-in n at (Next m next) h = h

@@ -3,36 +3,26 @@ use Prim.Native.Nat.{ℕ, _+_, _≤_, _<_}
 use native.Mathlib.Omega.{arith}
 use mathlib.Core.List.{List}
 use lib.ListN.{length}
-use lib.Dec.{eqb}
+use Rattle.fields.specs.code.Fields.{kindOf, ValueIn, ValuesIn}
+use Rattle.fields.proofs.FieldsLaws.{withValue-in}
 use Rattle.protobuf.specs.Field.{fieldAt}
 use Rattle.protobuf.specs.Group.{depthMost, groupAt}
-use Rattle.protobuf.specs.code.Message.{kindOf, withValue, ofNumber, ofSpan, ofGroup, itemOf, stepOf, stepAt}
+use Rattle.protobuf.specs.code.Message.{ofNumber, ofSpan, ofGroup, itemOf, stepOf, stepAt}
 use Rattle.protobuf.specs.declared.field.Field.{Field}
 use Rattle.protobuf.specs.declared.field.Field.the-variants.{Number, Span, Fixed, GroupStart, GroupEnd, Unreadable}
 use Rattle.protobuf.specs.declared.group.Group.{Group}
 use Rattle.protobuf.specs.declared.group.Group.the-variants.{Skipped, Unreadable as noGroup}
-use Rattle.protobuf.specs.declared.message.Kind.{Kind}
-use Rattle.protobuf.specs.declared.message.Kind.the-variants.{Bytes, Uint32, Boolean, Unlisted}
-use Rattle.protobuf.specs.declared.message.Schema.{Schema}
-use Rattle.protobuf.specs.declared.message.Value.{Value}
-use Rattle.protobuf.specs.declared.message.Values.{Values}
+use Rattle.fields.specs.declared.Kind.{Kind}
+use Rattle.fields.specs.declared.Kind.the-variants.{Bytes, Uint32, Boolean, Unlisted}
+use Rattle.fields.specs.declared.Schema.{Schema}
+use Rattle.fields.specs.declared.Value.{Value}
+use Rattle.fields.specs.declared.Values.{Values}
 use Rattle.protobuf.specs.declared.message.Item.{Item}
 use Rattle.protobuf.specs.declared.message.Item.the-variants.{Keep, Skip, Refuse}
 use Rattle.protobuf.specs.declared.message.Step.{Step}
 use Rattle.protobuf.specs.declared.message.Step.the-variants.{Next, Refuse as stop}
-use Rattle.wire.proofs.TestLaws.{either}
 use Rattle.protobuf.proofs.FieldLaws.{Ahead, FieldAhead, field-ahead}
 use Rattle.protobuf.proofs.GroupLaws.{GroupAhead, group-ahead}
-
-abbrev pub ValueIn : ℕ → Value → Type 0
-ValueIn n v = v .start + v .len ≤ n
-
-pub record ValuesIn (n : ℕ) (m : Values) : Type 0 where
-  pub in1 : ValueIn n (m .f1)
-  pub in2 : ValueIn n (m .f2)
-  pub in3 : ValueIn n (m .f3)
-  pub in4 : ValueIn n (m .f4)
-  pub in5 : ValueIn n (m .f5)
 
 abbrev ItemAhead : ℕ → ℕ → Item → Type 0
 ItemAhead n at (Keep f v next) = Ahead n at next × ValueIn n v
@@ -74,16 +64,6 @@ item-ahead k s at Unreadable h = tt
 
 item-at : (k : Schema) (s : List ℕ) (at : ℕ) → ItemAhead (length s) at (itemOf k s (fieldAt s at))
 item-at k s at = item-ahead k s at (fieldAt s at) (field-ahead s at)
-
-withValue-in : (n : ℕ) (m : Values) (f : ℕ) (v : Value) → ValuesIn n m → ValueIn n v → ValuesIn n (withValue m f v)
-unfolding withValue
-withValue-in n m f v h l =
-    let P = ValuesIn n in
-    either P (eqb f 1) (λ _. record { in1 = l; in2 = h .in2; in3 = h .in3; in4 = h .in4; in5 = h .in5 })
-    (λ _. either P (eqb f 2) (λ _. record { in1 = h .in1; in2 = l; in3 = h .in3; in4 = h .in4; in5 = h .in5 })
-    (λ _. either P (eqb f 3) (λ _. record { in1 = h .in1; in2 = h .in2; in3 = l; in4 = h .in4; in5 = h .in5 })
-    (λ _. either P (eqb f 4) (λ _. record { in1 = h .in1; in2 = h .in2; in3 = h .in3; in4 = l; in5 = h .in5 })
-    (λ _. either P (eqb f 5) (λ _. record { in1 = h .in1; in2 = h .in2; in3 = h .in3; in4 = h .in4; in5 = l }) (λ _. h)))))
 
 step-of-ahead : (n at : ℕ) (m : Values) (i : Item) → ItemAhead n at i → StepAhead n at (stepOf m i)
 step-of-ahead n at m (Keep f v next) h = h .0

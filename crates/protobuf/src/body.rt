@@ -1,20 +1,14 @@
 // A body read field by field ("Operations and their fields").
-use crate::message::Schema;
 use crate::message::Step;
-use crate::message::Values;
-use crate::message::all_absent;
 use crate::message::read_step;
 use crate::reader::open_reader;
 use crate::reader::read_message;
+use fields::Body;
+use fields::Schema;
+use fields::all_absent;
 ghost use mathlib.Core.Path.{_≡_};
-ghost use Rattle.protobuf.specs.code.Message.{allAbsent};
+ghost use Rattle.fields.specs.code.Fields.{allAbsent};
 ghost use Rattle.protobuf.specs.code.Body.{bodyAt, bodyOf};
-
-// A body that was read: its message, or where its first unreadable field's tag starts.
-pub enum Body {
-    Message(Values),
-    Unreadable(usize),
-}
 
 // The fields of the body `s` from `start` on, read as a message of the schema.
 pub fn read_fields(s: &[u8], start: usize, k: Schema) -> Body

@@ -1,9 +1,9 @@
 // A reader: a body and a place in it, so that the body is read where it lies (document 01, "The form for each place").
-use crate::body::Body;
 use crate::body::read_fields;
-use crate::message::Schema;
+use fields::Body;
+use fields::Schema;
 ghost use mathlib.Core.Path.{_≡_};
-ghost use Rattle.protobuf.specs.code.Message.{allAbsent};
+ghost use Rattle.fields.specs.code.Fields.{allAbsent};
 ghost use Rattle.protobuf.specs.code.Body.{bodyAt};
 
 pub struct Reader<'a> {

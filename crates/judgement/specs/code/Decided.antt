@@ -1,7 +1,6 @@
 -- What the code decides of a request, in the reading copy's terms.
 use Prim.Native.Nat.{ℕ, _+_, _≤_, _<_}
 use mathlib.Core.Path.{_≡_}
-use mathlib.Core.Logic.{_⊎_}
 use mathlib.Core.Bool.{Bool, false, _&&_, not}
 use mathlib.Core.Option.{Option, none, some}
 use mathlib.Core.List.{List, [], _∷_, _++_}
@@ -10,13 +9,12 @@ use lib.Dec.{ltb, eqb}
 use Rattle.wire.specs.Choice.{if_then_else_}
 use Rattle.wire.specs.Lists.{oneOf}
 use Rattle.wire.specs.declared.header.Header.{Header}
-use Rattle.protobuf.specs.code.Message.{allAbsent}
-use Rattle.protobuf.specs.declared.message.Value.{Value}
-use Rattle.protobuf.specs.declared.message.Values.{Values}
 use Rattle.keys.specs.Key.{Key, dataMost, bitsMost}
 use Rattle.keys.specs.Names.{keyNameMost}
 use Rattle.messages.specs.Protobuf.{protobuf}
 use Rattle.messages.specs.Operations as message
+use Rattle.messages.specs.Placed.{SpanWithin, keyIn}
+use Rattle.messages.specs.declared.ask.KeyPlaces.{KeyPlaces}
 use Rattle.registry.specs.Slots.{Entry, free}
 use Rattle.registry.specs.Registry.{lineCount, slotCount, Change, unchanged, fill, clear, addUse}
 use Rattle.registry.specs.code.Check.{keyFrom, bytesIn}
@@ -29,7 +27,6 @@ use Rattle.lookup.specs.declared.Place.the-variants.{Own, Listed, Nothing as No
 use Rattle.messages.specs.Opcodes.{coreOpcodes, keystoreOpcodes, opcodesOf}
 use Rattle.judgement.specs.Status.{statusNumber}
 use Rattle.judgement.specs.Operations.{Result}
-use Rattle.judgement.specs.code.Placed.{keyOf}
 use Rattle.judgement.specs.declared.Status.{Status}
 use Rattle.judgement.specs.declared.Status.the-variants.{WrongProviderId, ContentTypeNotSupported, AcceptTypeNotSupported, WireProtocolVersionNotSupported, ProviderDoesNotExist, OpcodeDoesNotExist, AuthenticatorDoesNotExist}
 use Rattle.judgement.specs.declared.Checked.{Checked}
@@ -98,22 +95,22 @@ outputIn slots list (Data place) = message.exported (bytesAt slots list place)
 abbrev pub outputBytes : (slots : List Entry) (list : List ℕ) → Output → List ℕ
 outputBytes slots list output = message.outputBytes protobuf (outputIn slots list output)
 
-unfoldable pub changeOf : (body : List ℕ) → Values → Edit → Change
-changeOf body v Stays = unchanged
-changeOf body v (Fills slot) = fill slot (keyOf body v)
-changeOf body v (Clears slot) = clear slot
-changeOf body v (Uses slot) = addUse slot
+unfoldable pub changeOf : (body : List ℕ) → Edit → Change
+changeOf body Stays = unchanged
+changeOf body (Fills slot key) = fill slot (keyIn body key)
+changeOf body (Clears slot) = clear slot
+changeOf body (Uses slot) = addUse slot
 
 unfoldable pub resultIn : (slots : List Entry) (list body : List ℕ) → Decision → Result
-resultIn slots list body d = record { status = d .status; output = outputIn slots list (d .output); change = changeOf body (d .values) (d .edit) }
+resultIn slots list body d = record { status = d .status; output = outputIn slots list (d .output); change = changeOf body (d .edit) }
 
 abbrev pub refusedWith : Status → Decision
-refusedWith status = record { status = status; output = Nothing; edit = Stays; values = allAbsent }
+refusedWith status = record { status = status; output = Nothing; edit = Stays }
 
 -- a decision on the key at a place, its use counted
 unfoldable pub countedAt : Place → Decision → Decision
 countedAt (Own slot) d =
-    if eqb (statusNumber (d .status)) 0 then record { status = d .status; output = d .output; edit = Uses slot; values = d .values } else d
+    if eqb (statusNumber (d .status)) 0 then record { status = d .status; output = d .output; edit = Uses slot } else d
 countedAt (Listed span) d = d
 countedAt Nowhere d = d
 
@@ -123,21 +120,16 @@ verifier allowed bytes bits = keyFrom [] bytes bits false allowed
 
 -- ---- what whoever carries a decision out may rely on
 
--- a value's bytes lie within n bytes
-abbrev pub Within : (n : ℕ) → Value → Type 0
-Within n v = v .start + v .len ≤ n
+-- a key's parts lie within n bytes
+abbrev pub KeyWithin : (n : ℕ) → KeyPlaces → Type 0
+KeyWithin n key = SpanWithin n (key .name) × SpanWithin n (key .bytes)
 
-pub record ValuesIn (n : ℕ) (v : Values) : Type 0 where
-  pub name : Within n (v .f1)
-  pub bytes : Within n (v .f2)
-  pub signature : Within n (v .f3)
-
--- the parts of a key that is filled in
-pub record KeyParts (n : ℕ) (v : Values) : Type 0 where
-  pub within : ValuesIn n v
-  pub name : v .f1 .len ≤ keyNameMost
-  pub bytes : v .f2 .len ≤ dataMost
-  pub bits : v .f3 .number ≤ bitsMost
+-- and are no longer than Import allows
+pub record KeyParts (n : ℕ) (key : KeyPlaces) : Type 0 where
+  pub within : KeyWithin n key
+  pub name : key .name .len ≤ keyNameMost
+  pub bytes : key .bytes .len ≤ dataMost
+  pub bits : key .bits ≤ bitsMost
 
 -- the longest body of a response is exported data, a field of a tag, a length and the data; 20 is a writer's room for the
 -- tag and the length
@@ -151,24 +143,18 @@ SafeOutput list Providers = Unit {0}
 SafeOutput list (Opcodes provider) = provider ≤ 1
 SafeOutput list (Data place) = PlaceWithin list place × (length (bytesAt [] list place) ≤ dataMost)
 
-abbrev pub SafeEdit : (n : ℕ) → Values → Edit → Type 0
-SafeEdit n v Stays = Unit {0}
-SafeEdit n v (Fills slot) = (slot .0 < slotCount) × KeyParts n v
-SafeEdit n v (Clears slot) = slot .0 < slotCount
-SafeEdit n v (Uses slot) = slot .0 < slotCount
+abbrev pub SafeEdit : (n : ℕ) → Edit → Type 0
+SafeEdit n Stays = Unit {0}
+SafeEdit n (Fills slot key) = (slot .0 < slotCount) × KeyParts n key
+SafeEdit n (Clears slot) = slot .0 < slotCount
+SafeEdit n (Uses slot) = slot .0 < slotCount
 
 -- d is what x says, on these slots, this list and this body
 pub record Decided (slots : List Entry) (list body : List ℕ) (x : Result) (d : Decision) : Type 0 where
   pub result : resultIn slots list body d ≡ x
   pub output : SafeOutput list (d .output)
-  pub edit : SafeEdit (length body) (d .values) (d .edit)
+  pub edit : SafeEdit (length body) (d .edit)
 
 -- whatever the slots and the list are
 abbrev pub DecidedAnywhere : (body : List ℕ) (x : List Entry → List ListedKey → Result) → Decision → Type 0
 DecidedAnywhere body x d = (slots : List Entry) (list : List ℕ) → Decided slots list body (x slots (keysIn list)) d
-
-abbrev pub oneOfCore : (opcode : ℕ) → Type 0
-oneOfCore opcode = (opcode ≡ 1) ⊎ ((opcode ≡ 8) ⊎ (opcode ≡ 9))
-
-abbrev pub oneOfKeystore : (opcode : ℕ) → Type 0
-oneOfKeystore opcode = (opcode ≡ 3) ⊎ ((opcode ≡ 5) ⊎ ((opcode ≡ 6) ⊎ (opcode ≡ 7)))

@@ -1,4 +1,4 @@
--- How much room the bodies of requests ask for, how long those of legal operations are but Verify's, and the part of Import's
+-- How much room bodies ask for, how long those of legal requests are but Verify's, and the part of Import's
 -- that is written by itself.
 use Prim.Native.Nat.{ℕ, _+_, _*_}
 use mathlib.Core.Bool.{Bool}
@@ -13,8 +13,8 @@ use Rattle.protobuf.specs.Written.{numberField}
 abbrev pub fieldRoom : ℕ
 fieldRoom = 20
 
-abbrev pub nameBodyRoom : (name : List ℕ) → ℕ
-nameBodyRoom name = length name + fieldRoom
+abbrev pub bytesBodyRoom : (bytes : List ℕ) → ℕ
+bytesBodyRoom bytes = length bytes + fieldRoom
 
 -- bits, export allowed, verify allowed
 unfoldable pub keyNumbers : (bits : ℕ) (exported verified : Bool) → List ℕ
@@ -29,6 +29,9 @@ keyBodyRoom name bytes = length name + length bytes + 5 * fieldRoom
 
 abbrev pub verifyBodyRoom : (name hash signature : List ℕ) → ℕ
 verifyBodyRoom name hash signature = length name + length hash + length signature + 3 * fieldRoom
+
+abbrev pub versionBodyRoom : ℕ
+versionBodyRoom = 2 * fieldRoom
 
 -- but for Verify's, whose signature only the client bounds, the longest body of a legal operation is Import's: tag, length and
 -- name; tag, length and data; bits; two permissions

@@ -9,13 +9,14 @@ use Rattle.wire.specs.code.Header.{headerOf}
 use Rattle.wire.specs.declared.header.Header.{Header}
 use Rattle.protobuf.specs.declared.varint.Varint.{Varint}
 use Rattle.protobuf.specs.declared.varint.Varint.the-variants.{Read, Unreadable as noVarint}
-use Rattle.protobuf.specs.declared.message.Schema.{Schema}
-use Rattle.protobuf.specs.declared.body.Body.{Body}
-use Rattle.protobuf.specs.declared.body.Body.the-variants.{Message, Unreadable}
+use Rattle.fields.specs.declared.Schema.{Schema}
+use Rattle.fields.specs.declared.Body.{Body}
+use Rattle.fields.specs.declared.Body.the-variants.{Message, Unreadable}
 use Rattle.rsa.specs.declared.verify.Outcome.{Outcome}
 use Rattle.rsa.specs.declared.verify.Outcome.the-variants.{ValidSignature, InvalidSignature, InvalidKey}
 use Rattle.rsa.specs.declared.verify.Verification.{Verification}
-use Rattle.judgement.specs.code.Placed.{noFields, opcodesFields, importFields, nameFields}
+use Rattle.messages.specs.Operations.{inputFields}
+use Rattle.messages.specs.code.Places.{schemaPlaced}
 
 abbrev pub fieldNumbers : Header → List ℕ
 fieldNumbers h =
@@ -32,7 +33,7 @@ varintNumbers noVarint = 0 ∷ 0 ∷ 0 ∷ []
 -- the schemas of the operations: no fields, ListOpcodes, Import, Destroy and Export
 abbrev pub schemaOf : ℕ → Schema
 schemaOf n =
-    if eqb n 1 then opcodesFields else if eqb n 2 then importFields else if eqb n 3 then nameFields else noFields
+    schemaPlaced (inputFields (if eqb n 1 then 9 else if eqb n 2 then 6 else if eqb n 3 then 7 else 1))
 
 abbrev pub bodyNumbers : Body → List ℕ
 bodyNumbers (Message v) =

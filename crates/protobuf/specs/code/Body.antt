@@ -4,13 +4,14 @@ use Prim.Native.Nat.{ℕ}
 use mathlib.Core.List.{List}
 use lib.ListN.{length}
 use Rattle.wire.specs.Scan.{Turn, on, out, scanAt}
-use Rattle.protobuf.specs.code.Message.{stepAt, allAbsent}
-use Rattle.protobuf.specs.declared.message.Schema.{Schema}
-use Rattle.protobuf.specs.declared.message.Values.{Values}
+use Rattle.fields.specs.code.Fields.{allAbsent}
+use Rattle.protobuf.specs.code.Message.{stepAt}
+use Rattle.fields.specs.declared.Schema.{Schema}
+use Rattle.fields.specs.declared.Values.{Values}
 use Rattle.protobuf.specs.declared.message.Step.{Step}
 use Rattle.protobuf.specs.declared.message.Step.the-variants.{Next, Refuse}
-use Rattle.protobuf.specs.declared.body.Body.{Body}
-use Rattle.protobuf.specs.declared.body.Body.the-variants.{Message, Unreadable}
+use Rattle.fields.specs.declared.Body.{Body}
+use Rattle.fields.specs.declared.Body.the-variants.{Message, Unreadable}
 
 abbrev pub turnOf : ℕ → Step → Turn Values Body
 turnOf at (Next m next) = on m next

@@ -1,16 +1,19 @@
 -- `answer::request::answer_named` meets its contract.
-use borrow.Author.Needs.{needs}
 use Rattle.registry.proofs.WellFormedLaws.{good-of}
 use Rattle.judgement.specs.Operations.{Result}
 use Rattle.judgement.specs.code.Decided.{resultIn}
 use Rattle.judgement.specs.declared.Asker.the-variants.{Named}
 use Rattle.answer.specs.code.Answers.{resultForNamed}
 use Rattle.answer.proofs.AnswerLaws.{decided-answered}
+use borrow.Author.Needs.{needs}
 use Rattle.answer.proofs.request.answer_named.Statement.{statement}
 use Rattle.answer.proofs.request.answer_named.Tie as tie
 
-decide-requires : tie.Need-decide-requires
-decide-requires c κs = search needs
+abbrev result : tie.Start → Result
+result s = resultForNamed (s .args .h) (s .args .body .now) (s .args .registry .now) (s .args .list .now) (s .args .line)
+
+perform-operation-requires : tie.Need-perform-operation-requires
+perform-operation-requires c κs = search needs
 
 write-response-requires : tie.Need-write-response-requires
 write-response-requires c κs = search needs
@@ -18,7 +21,7 @@ write-response-requires c κs = search needs
 make-edit-requires : tie.Need-make-edit-requires
 make-edit-requires c κs =
     let s = c .before .before .before .before .before .before .before .before .before .before .before .before in
-    (good-of (s .args .registry .now) (s .pre .1) .size, s .pre .2, c .before .before .before .before .before .before .decide .ensures .edit)
+    (good-of (s .args .registry .now) (s .pre .0) .size, s .pre .1, c .before .before .before .before .before .before .perform-operation .ensures .edit)
 
 same-length : tie.Need-same-length
 same-length c = search needs
@@ -26,14 +29,11 @@ same-length c = search needs
 same-length-2 : tie.Need-same-length-2
 same-length-2 c = search needs
 
-abbrev result : tie.Start → Result
-result s = resultForNamed (s .args .h) (s .args .body .now) (s .args .registry .now) (s .args .list .now) (s .args .line)
-
 returns : tie.Need-returns
 unfolding resultIn
 returns c =
     let w = c .before .before .before .before .before .before in
-    let d = w .before .before .before .decide in
+    let d = w .before .before .before .perform-operation in
     let s = w .before .before .before .before .before .before .before .before .before in
     let written = decided-answered {x = result s} (s .args .h) (Named (s .args .line)) (d .ensures) (w .write-response .ensures) in
     (written, rw (← d .ensures .result) (c .before .before .make-edit .ensures))
@@ -42,7 +42,7 @@ pub answer-named-spec : {M : Type 1} → statement M
 answer-named-spec =
     tie.close
     (tie.spec
-    decide-requires
+    perform-operation-requires
     write-response-requires
     make-edit-requires
     same-length

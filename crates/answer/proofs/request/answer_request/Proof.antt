@@ -132,7 +132,7 @@ part-answer-nobody-end c = inside (c .before .before .before .before .before .be
 answer-nobody-requires : tie.Need-answer-nobody-requires
 answer-nobody-requires c κs =
     let a = c .before .before .before .before .before .before .before .before in
-    (rw (header a) (passed a), start a .pre .3, start a .pre .4)
+    (rw (header a) (passed a), start a .pre .3, start a .pre .4, start a .pre .5)
 
 enum-known-asker-2 : tie.Need-enum-known-asker-2
 enum-known-asker-2 c = search needs
@@ -156,7 +156,7 @@ answer-named-requires c κs =
     let t = c .before .before .before in
     let a = t .before .before .before .before .before .before in
     let b = by-application (list a) (registry a) (request a) (passed a) _ (sym (found a) ∙ named t) in
-    (rw (header a) (passed a), start a .pre .3, asks (registry a) (requestOf (request a)) _ (b .0) .there, start a .pre .4, start a .pre .5)
+    (start a .pre .3, asks (registry a) (requestOf (request a)) _ (b .0) .there, start a .pre .4, start a .pre .5)
 
 same-length-2 : tie.Need-same-length-2
 same-length-2 c = search needs

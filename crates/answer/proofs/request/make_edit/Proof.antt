@@ -2,12 +2,17 @@
 use Prim.Native.Nat.{_<_}
 use native.Mathlib.Nat.{add-sub-cancel-left}
 use native.Mathlib.Omega.{arith}
-use borrow.Author.Needs.{needs}
 use lib.ListN.{length, length-take}
 use Rattle.registry.specs.Registry.{slotCount, changed}
 use Rattle.judgement.specs.code.Decided.{KeyParts, changeOf}
+use borrow.Author.Needs.{needs}
 use Rattle.answer.proofs.request.make_edit.Statement.{statement}
 use Rattle.answer.proofs.request.make_edit.Tie as tie
+
+-- what is known of a slot to fill, and of the key in the body
+fills : (c : tie.After-edit)
+    → (c .edit .given .0 .0 .0 < slotCount) × KeyParts (length (c .before .before .before .before .args .body .now)) (c .edit .given .0 .1 .0)
+fills c = rw (c .edit .given .1) at (c .before .before .before .before .pre .2)
 
 enum-told : tie.Need-enum-told
 enum-told c = search needs
@@ -15,16 +20,11 @@ enum-told c = search needs
 enum-known-edit : tie.Need-enum-known-edit
 enum-known-edit c = search needs
 
--- what is known of a slot to fill, and of the values in the body
-fills : (c : tie.After-edit)
-    → (c .edit .given .0 .0 .0 < slotCount) × KeyParts (length (c .before .before .before .before .args .body .now)) (c .before .before .before .before .args .d .values)
-fills c = rw (c .edit .given .1) at (c .before .before .before .before .pre .2)
-
 add-b : tie.Need-add-b
-add-b c = omega (arith, fills (c .before .before .before .before .before .before .before .before) .1 .within .name)
+add-b c = omega (arith, fills (c .before .before .before .before) .1 .within .0)
 
 add-f : tie.Need-add-f
-add-f c = omega (arith, fills (c .before .before .before .before .before .before .before .before .before) .1 .within .bytes)
+add-f c = omega (arith, fills (c .before .before .before .before .before) .1 .within .1)
 
 sub-fill-slot : tie.Need-sub-fill-slot
 sub-fill-slot c = search needs
@@ -33,7 +33,7 @@ part-fill-slot-start : tie.Need-part-fill-slot-start
 part-fill-slot-start c = search needs
 
 part-fill-slot-end : tie.Need-part-fill-slot-end
-part-fill-slot-end c = fills (c .before .before .before .before .before .before .before .before .before .before) .1 .within .name
+part-fill-slot-end c = fills (c .before .before .before .before .before .before) .1 .within .0
 
 sub-fill-slot-2 : tie.Need-sub-fill-slot-2
 sub-fill-slot-2 c = search needs
@@ -42,14 +42,14 @@ part-fill-slot-start-2 : tie.Need-part-fill-slot-start-2
 part-fill-slot-start-2 c = search needs
 
 part-fill-slot-end-2 : tie.Need-part-fill-slot-end-2
-part-fill-slot-end-2 c = fills (c .before .before .before .before .before .before .before .before .before .before .before) .1 .within .bytes
+part-fill-slot-end-2 c = fills (c .before .before .before .before .before .before .before) .1 .within .1
 
 cast-fill-slot : tie.Need-cast-fill-slot
-cast-fill-slot c = omega (arith, fills (c .before .before .before .before .before .before .before .before .before .before .before .before .before) .1 .bits)
+cast-fill-slot c = omega (arith, fills (c .before .before .before .before .before .before .before .before .before) .1 .bits)
 
 fill-slot-requires : tie.Need-fill-slot-requires
 fill-slot-requires c κs =
-    let e = c .before .before .before .before .before .before .before .before .before .before .before .before .before .before .before in
+    let e = c .before .before .before .before .before .before .before .before .before in
     let s = e .before .before .before .before in
     let f = fills e in
     (s .pre .0, s .pre .1, f .0, rw (add-sub-cancel-left, length-take) (omega (arith, f .1 .name)), rw (add-sub-cancel-left, length-take) (omega (arith, f .1 .bytes)))
@@ -79,28 +79,21 @@ same-length c = search needs
 
 returns-2 : tie.Need-returns-2
 unfolding changeOf
-returns-2 c =
-    let f = c .before .before in
-    let e = f .before .before .before .before .before .before .before .before .before .before .before .before .before .before .before .before in
-    rw (e .edit .given .1) (simp add-sub-cancel-left at (f .fill-slot .ensures))
+returns-2 c = rw (c .before .before .before .before .before .before .before .before .before .before .before .before .edit .given .1) (simp add-sub-cancel-left at (c .before .before .fill-slot .ensures))
 
 same-length-2 : tie.Need-same-length-2
 same-length-2 c = search needs
 
 returns-3 : tie.Need-returns-3
 unfolding changeOf
-returns-3 c =
-    let e = c .before .before .before .before .before in
-    rw (e .edit2 .given .1) (c .before .before .clear-slot .ensures)
+returns-3 c = rw (c .before .before .before .before .before .edit2 .given .1) (c .before .before .clear-slot .ensures)
 
 same-length-3 : tie.Need-same-length-3
 same-length-3 c = search needs
 
 returns-4 : tie.Need-returns-4
 unfolding changeOf
-returns-4 c =
-    let e = c .before .before .before .before .before in
-    rw (e .edit3 .given .1) (c .before .before .add-use .ensures)
+returns-4 c = rw (c .before .before .before .before .before .edit3 .given .1) (c .before .before .add-use .ensures)
 
 pub make-edit-spec : {M : Type 1} → statement M
 make-edit-spec =

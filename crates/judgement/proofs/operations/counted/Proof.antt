@@ -35,7 +35,7 @@ returns-2 : tie.Need-returns-2
 unfolding countedAt
 returns-2 c =
     let p = c .before in
-    let l = p .before .before .before in
+    let l = p .before .before in
     rw (p .place .given .1, countedAt, eq-eqb _ 0 (sym (l .before .status-number .ensures) ∙ l .if1 .left)) refl
 
 returns-3 : tie.Need-returns-3

@@ -33,9 +33,6 @@ find-key-requires c κs = search needs
 enum-known-slot : tie.Need-enum-known-slot
 enum-known-slot c = search needs
 
-all-absent-requires : tie.Need-all-absent-requires
-all-absent-requires c κs = search needs
-
 enum-told : tie.Need-enum-told
 enum-told c = search needs
 
@@ -51,10 +48,10 @@ refused-requires-3 c κs = search needs
 -- an own key
 returns-2 : tie.Need-returns-2
 returns-2 c body =
-    let k = c .before .before in
+    let k = c .before in
     let f = k .before .before in
     let s = start (f .before) .args in
-    clearing _ _ body _ _ (at-below (s .registry .now) (s .list .now) (s .line) (s .name .now) _ (f .find-key .ensures) _ (k .slot .given .1)) (own-destroyed (s .registry .now) (s .list .now) (s .line) (s .name .now) _ (f .find-key .ensures) (legal (f .before)) _ (k .slot .given .1))
+    clearing _ _ body _ (at-below (s .registry .now) (s .list .now) (s .line) (s .name .now) _ (f .find-key .ensures) _ (k .slot .given .1)) (own-destroyed (s .registry .now) (s .list .now) (s .line) (s .name .now) _ (f .find-key .ensures) (legal (f .before)) _ (k .slot .given .1))
 
 -- one that we ship
 returns-3 : tie.Need-returns-3
@@ -81,7 +78,6 @@ destroy-spec =
     returns
     find-key-requires
     enum-known-slot
-    all-absent-requires
     enum-told
     refused-requires-2
     enum-told-2

@@ -16,7 +16,7 @@ use Rattle.shipped.specs.Shipped.{keysIn}
 use Rattle.lookup.specs.Lookup.{keyNamed}
 use Rattle.lookup.specs.code.Places.{KeyAt}
 use Rattle.judgement.specs.Operations.{importable}
-use Rattle.judgement.specs.code.Placed.{keyOf}
+use Rattle.messages.specs.Placed.{keyIn}
 use Rattle.judgement.specs.declared.Status.the-variants.{PsaErrorInvalidArgument, PsaErrorAlreadyExists, PsaErrorInsufficientStorage}
 use Rattle.judgement.proofs.SourceLaws.{not-nowhere, at-none, at-source}
 use Rattle.judgement.proofs.Results.{importable-name}
@@ -31,7 +31,7 @@ abbrev at-name : tie.After-find-key → tie.Else1
 at-name c = c .before .before .before .before
 
 abbrev key : tie.Start → Key
-key s = keyOf (s .args .body .now) (s .args .v)
+key s = keyIn (s .args .body .now) (s .args .key)
 
 abbrev slots : tie.Start → List Entry
 slots s = slotsOf (s .args .registry .now) (s .args .line)
@@ -44,7 +44,7 @@ same : (c : tie.After-find-key)
     → (let s = start (at-name c) in KeyAt (s .args .registry .now) (s .args .list .now) (s .args .line) (key s .name) (c .find-key .result))
 same c =
     let s = start (at-name c) .args in
-    let v = s .v .f1 in
+    let v = s .key .name in
     let n : v .start + v .len - v .start ≡ v .len = omega arith in
     subst (λ (m : ℕ). KeyAt (s .registry .now) (s .list .now) (s .line) (take m (drop (v .start) (s .body .now))) (c .find-key .result)) n (c .find-key .ensures)
 
@@ -128,8 +128,8 @@ returns-4 c =
     let l = at-name (n .before .before) in
     let s = start l in
     let e = sym (f .find-slot .ensures) ∙ k .empty .given .1 in
-    filling _ _ _ _ _ (slot-below (s .args .registry .now) (s .args .line) [] _ e)
-    (key-parts (s .args .body .now) (s .args .v) (s .pre .3) (allowed l))
+    filling _ _ _ _ (slot-below (s .args .registry .now) (s .args .line) [] _ e) _
+    (key-parts (s .args .body .now) (s .args .key) (s .pre .3) (allowed l))
     (imported _ _ _ (allowed l) (new n) _ e)
 
 pub import-spec : {M : Type 1} → statement M

@@ -9,28 +9,28 @@ use lib.ListN.{length, take, drop}
 use Rattle.wire.proofs.ListLaws.{length-part}
 use Rattle.keys.specs.Names.{legalName, keyNameMost}
 use Rattle.keys.specs.Key.{Key}
-use Rattle.judgement.specs.code.Placed.{keyOf}
+use Rattle.messages.specs.Placed.{keyIn}
 use Rattle.judgement.proofs.DecidedLaws.{bad-name, no-data, long-data, bits-left}
 use Rattle.judgement.proofs.operations.is_importable.Statement.{statement}
 use Rattle.judgement.proofs.operations.is_importable.Tie as tie
 
 abbrev start : tie.After-is-legal → tie.Start
-start c = c .before .before .before .before .before .before .before
+start c = c .before .before .before .before .before .before
 
 abbrev key : tie.Start → Key
-key s = keyOf (s .args .body .now) (s .args .v)
+key s = keyIn (s .args .body .now) (s .args .key)
 
 name-part : (c : tie.After-is-legal) → c .is-legal .result ≡ legalName keyNameMost (key (start c) .name)
 name-part c =
-    let v = start c .args .v .f1 in
+    let v = start c .args .key .name in
     let n : v .start + v .len - v .start ≡ v .len = omega arith in
     c .is-legal .ensures ∙ ap (λ (m : ℕ). legalName keyNameMost (take m (drop (v .start) (start c .args .body .now)))) n
 
 name-passes : (c : tie.Else1) → legalName keyNameMost (key (start (c .before)) .name) ≡ true
 name-passes c = sym (name-part (c .before)) ∙ not-false _ (c .if1 .left)
 
-data-length : (s : tie.Start) → length (key s .bytes) ≡ s .args .v .f2 .len
-data-length s = length-part (s .args .body .now) (s .args .v .f2 .start) (s .args .v .f2 .len) (s .pre .bytes)
+data-length : (s : tie.Start) → length (key s .bytes) ≡ s .args .key .bytes .len
+data-length s = length-part (s .args .body .now) (s .args .key .bytes .start) (s .args .key .bytes .len) (s .pre .1)
 
 add-end : tie.Need-add-end
 add-end c = search needs

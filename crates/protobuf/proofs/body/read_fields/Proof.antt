@@ -5,7 +5,7 @@ use native.Mathlib.Omega.{arith}
 use borrow.Author.Needs.{needs}
 use lib.ListN.{length}
 use denote.Ref.{now}
-use Rattle.protobuf.specs.code.Message.{allAbsent}
+use Rattle.fields.specs.code.Fields.{allAbsent}
 use Rattle.protobuf.specs.code.Body.{bodyAt}
 use Rattle.protobuf.proofs.BodyLaws as laws
 use Rattle.protobuf.proofs.body.read_fields.Statement.{statement}

@@ -40,17 +40,17 @@ use denote.Triple.Statement.{Contract, Triple}
 use denote.Triple.Table.{entered, cited}
 use denote.Triple.Walked.{says, Stays, stay-dropped, walkOf, goes-dropped, Walks, ends-at, walked, walk-meets}
 use denote.Exit.{yes}
-use Rattle.protobuf.specs.code.Message.{allAbsent}
+use Rattle.fields.specs.code.Fields.{allAbsent}
 use Rattle.protobuf.specs.code.Body.{bodyAt}
 use Rattle.protobuf.specs.declared.reader.Reader.{Reader}
-use Rattle.protobuf.specs.declared.message.Schema.{Schema}
-use Rattle.protobuf.specs.declared.body.Body.{Body}
+use Rattle.fields.specs.declared.Schema.{Schema}
+use Rattle.fields.specs.declared.Body.{Body}
 use Rattle.protobuf.proofs.reader.Reader as T
 use Rattle.protobuf.proofs.reader.Reader.Laws as T′
-use Rattle.protobuf.proofs.message.Schema as K
-use Rattle.protobuf.proofs.message.Schema.Laws as K′
-use Rattle.protobuf.proofs.body.Body as R
-use Rattle.protobuf.proofs.body.Body.Laws as R′
+use Rattle.fields.proofs.Schema as K
+use Rattle.fields.proofs.Schema.Laws as K′
+use Rattle.fields.proofs.Body as R
+use Rattle.fields.proofs.Body.Laws as R′
 use Rattle.protobuf.proofs.body.read_fields as g
 use Rattle.protobuf.proofs.body.read_fields.Symbol as g-def
 use Rattle.protobuf.proofs.body.read_fields.Symbol.{name as #read-fields}
