@@ -1,5 +1,1 @@
-pub mod ReadLaws
-pub mod FeedLaws
-pub mod SourceLaws
 pub mod PrintLaws
-pub mod FrontLaws

@@ -1,85 +1,35 @@
 -- What is written is the bill of some three files.
-use mathlib.Core.Path.{_≡_, refl, ap, _∙_, subst}
+use mathlib.Core.Path.{_≡_, refl, sym, ap, _∙_, subst}
 use mathlib.Core.Bool.{Bool, true, false}
 use mathlib.Core.Option.{Option, none, some}
-use mathlib.Core.List.{List, [], _∷_}
-use Prim.Native.Nat.{ℕ, _≤_}
+use mathlib.Core.List.{List, []}
+use Prim.Native.Nat.{ℕ}
 use native.Mathlib.Omega.{arith}
-use borrow.Author.Tests.{le-ltb}
-use denote.Enum.Declared.{tagOf}
-use types.Run.{OneOf, miss}
 use lib.IntN.{ℤ}
 use lib.ListN.{length, take, drop, length-append}
 use lib.Seq.{take-append-seam}
-use Rattle.wire.specs.Choice.{firstOf}
-use Rattle.wire.specs.Lists.{over}
 use Rattle.wire.specs.code.Wrote.{Wrote}
-use Rattle.stream.specs.Rules.{rules}
-use Rattle.stream.proofs.KeptLaws.{rules-connection, rules-kept}
 use Rattle.connection.specs.Connection.{wellFormedConnection}
-use Rattle.connection.proofs.ConnectionLaws.{stored-good}
 use Rattle.registry.specs.WellFormed.{wellFormedRegistry}
-use Rattle.roster.specs.declared.RosterFault.{RosterFault}
 use Rattle.roster.proofs.RosterLaws.{roster-legal}
 use Rattle.shipped.specs.Shipped.{wellFormedList}
-use Rattle.judgement.specs.Judgement.{judgement}
-use Rattle.counters.specs.Counters.{counterMost, largestCount}
-use Rattle.service.specs.Call.{Memory, memoryOf}
-use Rattle.billing.specs.Bill.{refusedRoster, refusedList, noFile, billFor, isListRefused, bill}
-use Rattle.service.proofs.KeptLaws.{keeps}
-use Rattle.billing.specs.Outcome.{billMost, billIn, refusalTests, BillOutcome, outcomeOf, billOutcome}
-use Rattle.billing.specs.declared.Billed.{Billed}
-use Rattle.billing.specs.declared.Billed.the-variants.{Written}
-use Rattle.billing.proofs.Billed.{the-type}
+use Rattle.counters.specs.Counters.{counterMost}
+use Rattle.service.specs.Call.{Memory}
+use Rattle.billing.specs.Bill.{refusedList, noFile, billFor, isListRefused, bill}
+use Rattle.billing.specs.Outcome.{billIn}
 use Rattle.billing.proofs.RulesLaws.{bill-by-rules}
-use Rattle.bill.specs.code.Stream.{leftBy, After}
-use Rattle.bill.specs.Prints.{printed, MayGive, Prints}
-use Rattle.bill.specs.code.Sources.{Started, StartOf, StartRead, StreamTaken, StreamRead, Billable}
-use Rattle.bill.specs.declared.files.File.{File}
-use Rattle.bill.specs.declared.files.File.the-variants.{Open, Missing}
-use Rattle.bill.specs.declared.text.Source.{Source}
-use Rattle.bill.specs.declared.text.Source.the-variants as source
-use Rattle.bill.proofs.SourceLaws.{started-good}
-
--- ---- the bill of well-formed memory
-
-module _ (d e : List ℕ) (answer : Billed) (m : Memory) (room : billMost ≤ length d) (connected : wellFormedConnection (m .connection) ≡ true)
-    (registered : wellFormedRegistry (m .registry) ≡ true) (says : record { answer = answer; out = e } ≡ billOutcome d m) where
-  written : BillOutcome
-  written = record { answer = Written (length (billIn m)); out = over (billIn m) d }
-
-  outcome : record { answer = answer; out = e } ≡ written
-  unfolding written billOutcome outcomeOf firstOf refusalTests
-  outcome = says ∙ rw (le-ltb (length d) billMost room, connected, registered)
-
-  pub bill-wrote : (n : ℕ) → answer ≡ Written n → Wrote (billIn m) d e n
-  unfolding written
-  bill-wrote n w = record {
-    count = let a : answer ≡ Written (length (billIn m)) = ap (λ (o : BillOutcome). o .answer) outcome in cc;
-    bytes = ap (λ (o : BillOutcome). o .out) outcome;
-  }
-
-  -- no other answer is given
-  pub always-written : OneOf (1 ∷ 2 ∷ 3 ∷ []) (tagOf the-type answer) → ⊥
-  unfolding written
-  always-written other =
-      miss (1 ∷ 2 ∷ 3 ∷ []) 0 tt (subst (λ (x : Billed). OneOf (1 ∷ 2 ∷ 3 ∷ []) (tagOf the-type x)) (ap (λ (o : BillOutcome). o .answer) outcome) other)
+use Rattle.starting.specs.Start.{MayGive, withFile, isGood, lineOf}
+use Rattle.starting.specs.code.Stream.{leftBy, After}
+use Rattle.starting.specs.code.Sources.{Started, StartOf, StartRead, StreamTaken, StreamRead, Billable}
+use Rattle.starting.specs.declared.files.File.{File}
+use Rattle.starting.specs.declared.files.File.the-variants.{Open, Missing}
+use Rattle.starting.specs.declared.start.Source.{Source}
+use Rattle.starting.specs.declared.start.Source.the-variants as source
+use Rattle.bill.specs.Prints.{printed, Prints}
 
 -- ---- the bill of a stream
 
 module _ (registry list : List ℕ) (started : Started registry) (most : ℕ) (m : Memory) (a : After list registry most m) where
-  pub after-connected : wellFormedConnection (m .connection) ≡ true
-  unfolding memoryOf
-  after-connected =
-      ap (λ (x : Memory). wellFormedConnection (x .connection)) (a .memory)
-      ∙ stored-good (rules (judgement list) registry (a .stream) .state .connection) (rules-connection (judgement list) registry (a .stream))
-
-  pub after-registered : wellFormedRegistry (m .registry) ≡ true
-  unfolding memoryOf
-  after-registered =
-      ap (λ (x : Memory). wellFormedRegistry (x .registry)) (a .memory)
-      ∙ rules-kept largestCount wellFormedRegistry (judgement list) (keeps list) registry (started-good registry started) (a .stream) .good
-
   by-rules : wellFormedList list ≡ true → billIn m ≡ bill (some (started .file)) (some (a .stream)) (some list)
   unfolding bill isListRefused
   by-rules listed =
@@ -96,44 +46,19 @@ list-refused registry list stream started bad = rw (started .good, bad)
 
 -- ---- what is written, by what became of the three files
 
-module _ (s : Source) (isWhole : Bool) (m : Memory) where
-  pub has-bill : s ≡ source.Good → isWhole ≡ true → Billable s isWhole m → (wellFormedConnection (m .connection) ≡ true) × (wellFormedRegistry (m .registry) ≡ true)
-  unfolding Billable
-  has-bill e w b = rw (e, w) at b
+pub has-bill : (s o : Source) (m : Memory) → o ≡ s → isGood o ≡ true → Billable s m
+    → (wellFormedConnection (m .connection) ≡ true) × (wellFormedRegistry (m .registry) ≡ true)
+unfolding Billable
+has-bill s o m same g b = b (ap isGood (sym same) ∙ g)
 
-  module _ {d e : List ℕ} {r : ℕ} where
-    pub wrote-unread : isWhole ≡ false → Wrote noFile d e r → Wrote (printed s isWhole m) d e r
-    unfolding printed
-    wrote-unread w t = rw w (go s)
-      where
-        go : (x : Source) → Wrote (printed x false m) d e r
-        go source.Unreadable = t
-        go (source.Faulty fault) = t
-        go source.BadList = t
-        go source.Good = t
+module _ (s o : Source) (m : Memory) {d e : List ℕ} {r : ℕ} (same : o ≡ s) where
+  pub wrote-line : isGood o ≡ false → Wrote (lineOf o) d e r → Wrote (printed s m) d e r
+  unfolding printed
+  wrote-line g w = subst (λ (x : Source). Wrote (printed x m) d e r) same (rw g w)
 
-    pub wrote-unreadable : s ≡ source.Unreadable → Wrote noFile d e r → Wrote (printed s isWhole m) d e r
-    unfolding printed
-    wrote-unreadable q t = rw q t
-
-    pub wrote-refused : {fault : RosterFault} → s ≡ source.Faulty fault → isWhole ≡ true → Wrote (refusedRoster fault) d e r → Wrote (printed s isWhole m) d e r
-    unfolding printed
-    wrote-refused q w t = rw (q, w) t
-
-    pub wrote-unlisted : s ≡ source.BadList → isWhole ≡ true → Wrote refusedList d e r → Wrote (printed s isWhole m) d e r
-    unfolding printed
-    wrote-unlisted q w t = rw (q, w) t
-
-    pub wrote-bill : s ≡ source.Good → isWhole ≡ true → Wrote (billIn m) d e r → Wrote (printed s isWhole m) d e r
-    unfolding printed
-    wrote-bill q w t = rw (q, w) t
-
-unread : (s : Source) (m : Memory) {d e : List ℕ} {r : ℕ} → Wrote (printed s false m) d e r → Wrote noFile d e r
-unfolding printed
-unread source.Unreadable m w = w
-unread (source.Faulty fault) m w = w
-unread source.BadList m w = w
-unread source.Good m w = w
+  pub wrote-bill : isGood o ≡ true → Wrote (billIn m) d e r → Wrote (printed s m) d e r
+  unfolding printed
+  wrote-bill g w = subst (λ (x : Source). Wrote (printed x m) d e r) same (rw g w)
 
 -- ---- text at the front of the buffer
 
@@ -163,21 +88,11 @@ module _ (rosterFile streamFile listFile : File) {text d e : List ℕ} {r : ℕ}
 -- ---- the bill of what became of the three files
 
 module _ (registry list : List ℕ) (m : Memory) where
-  pub billable : (stream : File) (s : Source) (isWhole : Bool) → StartOf registry list s → StreamRead stream s registry list isWhole m → Billable s isWhole m
-  unfolding StartOf StreamRead StreamTaken Billable
-  billable stream source.Unreadable isWhole f g = tt
-  billable stream (source.Faulty fault) isWhole f g = tt
-  billable stream source.BadList isWhole f g = tt
-  billable stream source.Good false f g = tt
-  billable (Open fd) source.Good true (started, listed) g =
-      (after-connected registry list started counterMost m g, after-registered registry list started counterMost m g)
-  billable Missing source.Good true f g = absurd (let z : _≡_ {A = ℕ} 0 1 = cc in omega arith)
-
   module _ (listFile : File) (given : MayGive listFile (some list)) where
     -- roster and stream could be opened, and the stream was read to its end
     pub read-prints : (fd fd2 : ℤ) (s : Source) {d e : List ℕ} {r : ℕ} → StartOf registry list s → StreamTaken s registry list m
-        → Wrote (printed s true m) d e r → Prints (Open fd) (Open fd2) listFile e r
-    unfolding MayGive StartOf StreamTaken printed bill isListRefused billFor
+        → Wrote (printed s m) d e r → Prints (Open fd) (Open fd2) listFile e r
+    unfolding MayGive StartOf StreamTaken printed isGood lineOf bill isListRefused billFor
     read-prints fd fd2 source.Unreadable f g w = no-file-prints (Open fd) (Open fd2) listFile w refl
     read-prints fd fd2 (source.Faulty fault) f g w =
         prints (Open fd) (Open fd2) listFile w (some (f .file)) (some []) (some list) tt tt given (rw (f .first))
@@ -188,9 +103,9 @@ module _ (registry list : List ℕ) (m : Memory) where
         (by-rules registry list started counterMost m g listed)
 
     pub outcome-prints : (roster stream : File) (s : Source) (isWhole : Bool) {d e : List ℕ} {r : ℕ} → StartRead roster registry list s
-        → StreamRead stream s registry list isWhole m → Wrote (printed s isWhole m) d e r → Prints roster stream listFile e r
-    unfolding StartRead StreamRead printed
-    outcome-prints roster stream s false f g w = no-file-prints roster stream listFile (unread s m w) refl
+        → StreamRead stream s registry list isWhole m → Wrote (printed (withFile s isWhole) m) d e r → Prints roster stream listFile e r
+    unfolding StartRead StreamRead withFile printed isGood lineOf
+    outcome-prints roster stream s false f g w = no-file-prints roster stream listFile w refl
     outcome-prints (Open fd) (Open fd2) s true f g w = read-prints fd fd2 s f g w
     outcome-prints (Open fd) Missing s true f g w = absurd (let z : _≡_ {A = ℕ} 0 1 = cc in omega arith)
     outcome-prints Missing stream s true f g w = no-file-prints Missing stream listFile (rw f at w) refl

@@ -2,32 +2,20 @@
 -- opened are some bytes.
 use Prim.Native.Nat.{ℕ, _≤_}
 use mathlib.Core.Path.{_≡_}
-use mathlib.Core.Bool.{Bool, true, false}
-use mathlib.Core.Option.{Option, none}
+use mathlib.Core.Option.{Option}
 use mathlib.Core.List.{List}
 use lib.ListN.{length, take}
+use Rattle.wire.specs.Choice.{if_then_else_}
 use Rattle.service.specs.Call.{Memory}
-use Rattle.billing.specs.Bill.{refusedRoster, refusedList, noFile, bill}
+use Rattle.billing.specs.Bill.{bill}
 use Rattle.billing.specs.Outcome.{billIn}
-use Rattle.bill.specs.declared.files.File.{File}
-use Rattle.bill.specs.declared.files.File.the-variants.{Open, Missing}
-use Rattle.bill.specs.declared.text.Source.{Source}
-use Rattle.bill.specs.declared.text.Source.the-variants.{Good, Faulty, BadList, Unreadable}
+use Rattle.starting.specs.Start.{MayGive, isGood, lineOf}
+use Rattle.starting.specs.declared.files.File.{File}
+use Rattle.starting.specs.declared.start.Source.{Source}
 
--- by what became of the roster file and the list, whether the stream was read to its end, and what it left in memory
-unfoldable pub printed : Source → (isWhole : Bool) → Memory → List ℕ
-printed Unreadable isWhole m = noFile
-printed (Faulty fault) true m = refusedRoster fault
-printed (Faulty fault) false m = noFile
-printed BadList true m = refusedList
-printed BadList false m = noFile
-printed Good true m = billIn m
-printed Good false m = noFile
-
--- what reading a file may give: some bytes, or `none` where it can't be read, as where it is missing
-unfoldable pub MayGive : File → Option (List ℕ) → Type 0
-MayGive (Open fd) bytes = Unit {0}
-MayGive Missing bytes = bytes ≡ none
+-- by what became of the three files, and what the stream left in memory
+unfoldable pub printed : Source → Memory → List ℕ
+printed source m = if isGood source then billIn m else lineOf source
 
 -- the first n bytes are the bill of what the three files give
 pub record Prints (rosterFile streamFile listFile : File) (out : List ℕ) (n : ℕ) : Type 0 where

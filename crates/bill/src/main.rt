@@ -2,12 +2,11 @@
 // "The bill"; document 02, "Keys we ship").
 use files::open_argument;
 use libc::STDOUT_FILENO;
-use memory::bill_buffer;
+use starting::memory::bill_buffer;
 use text::write_text;
 
 mod feed;
 mod files;
-mod memory;
 mod text;
 
 fn main() {

@@ -9,8 +9,8 @@ use lib.Seq.{length-take-le}
 use Rattle.counters.specs.Counters.{counterMost}
 use Rattle.service.specs.Call.{chunkMost}
 use Rattle.service.specs.Contract.{lentMemory}
-use Rattle.bill.specs.code.Stream.{turnsMost, After}
-use Rattle.bill.proofs.FeedLaws.{read-bytes, starts, follows, after-more, after-most}
+use Rattle.starting.specs.code.Stream.{turnsMost, After}
+use Rattle.starting.proofs.FeedLaws.{read-bytes, starts, follows, after-more, after-most}
 use Rattle.bill.proofs.feed.take_stream.Statement.{statement}
 use Rattle.bill.proofs.feed.take_stream.Tie as tie
 

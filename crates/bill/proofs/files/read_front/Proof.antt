@@ -6,8 +6,8 @@ use borrow.Author.Needs.{needs}
 use lib.ListN.{length, length-drop}
 use borrow.Rule.Slice.PartMut.{putMid, same-len-mid}
 use Rattle.wire.proofs.BufferLaws.{lent}
-use Rattle.bill.proofs.ReadLaws.{front-within}
-use Rattle.bill.proofs.FeedLaws.{read-bytes}
+use Rattle.starting.proofs.ReadLaws.{front-within}
+use Rattle.starting.proofs.FeedLaws.{read-bytes}
 use Rattle.bill.proofs.files.read_front.Statement.{statement}
 use Rattle.bill.proofs.files.read_front.Tie as tie
 

@@ -1,8 +1,8 @@
 -- `bill::files::read_some` meets its contract.
 use Prim.Native.Nat.{ℕ}
 use mathlib.Core.Path.{subst}
-use Rattle.bill.specs.code.Stream.{ReadWithin}
-use Rattle.bill.proofs.ReadLaws.{input-within}
+use Rattle.starting.specs.code.Stream.{ReadWithin}
+use Rattle.starting.proofs.ReadLaws.{input-within}
 use borrow.Author.Needs.{needs}
 use Rattle.bill.proofs.files.read_some.Statement.{statement}
 use Rattle.bill.proofs.files.read_some.Tie as tie

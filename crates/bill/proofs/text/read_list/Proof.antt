@@ -1,5 +1,5 @@
 -- `bill::text::read_list` meets its contract.
-use Rattle.bill.proofs.SourceLaws.{list-missing, list-open}
+use Rattle.starting.proofs.SourceLaws.{list-missing, list-open}
 use borrow.Author.Needs.{needs}
 use Rattle.bill.proofs.text.read_list.Statement.{statement}
 use Rattle.bill.proofs.text.read_list.Tie as tie

@@ -1,8 +1,8 @@
 -- `bill::text::read_roster` meets its contract.
 use Prim.Native.Nat.{ℕ}
 use mathlib.Core.Path.{sym, subst}
-use Rattle.bill.specs.code.Stream.{KeptWithin}
-use Rattle.bill.proofs.SourceLaws.{front-source, roster-missing, roster-open}
+use Rattle.starting.specs.code.Stream.{KeptWithin}
+use Rattle.starting.proofs.SourceLaws.{front-source, roster-missing, roster-open}
 use borrow.Author.Needs.{needs}
 use Rattle.bill.proofs.text.read_roster.Statement.{statement}
 use Rattle.bill.proofs.text.read_roster.Tie as tie

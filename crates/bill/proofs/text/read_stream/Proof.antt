@@ -1,7 +1,7 @@
 -- `bill::text::read_stream` meets its contract.
 use mathlib.Core.Path.{ap}
-use Rattle.bill.specs.declared.feed.Taken.{Taken}
-use Rattle.bill.proofs.SourceLaws.{start-good, stream-missing, stream-good, stream-faulty, stream-unlisted, stream-unread}
+use Rattle.starting.specs.declared.feed.Taken.{Taken}
+use Rattle.starting.proofs.SourceLaws.{start-good, stream-missing, stream-good, stream-faulty, stream-unlisted, stream-unread}
 use borrow.Author.Needs.{needs}
 use Rattle.bill.proofs.text.read_stream.Statement.{statement}
 use Rattle.bill.proofs.text.read_stream.Tie as tie

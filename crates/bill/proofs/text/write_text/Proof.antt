@@ -5,9 +5,9 @@ use mathlib.Core.Option.{some}
 use native.Mathlib.Omega.{arith}
 use lib.ListN.{length, take}
 use lib.Seq.{length-take-le}
-use Rattle.bill.specs.Prints.{MayGive}
-use Rattle.bill.proofs.SourceLaws.{list-kept, start-read, read-start}
-use Rattle.bill.proofs.PrintLaws.{billable, no-file-prints, outcome-prints}
+use Rattle.starting.specs.Start.{MayGive}
+use Rattle.starting.proofs.SourceLaws.{list-kept, start-read, read-start, billable}
+use Rattle.bill.proofs.PrintLaws.{no-file-prints, outcome-prints}
 use borrow.Author.Needs.{needs}
 use Rattle.bill.proofs.text.write_text.Statement.{statement}
 use Rattle.bill.proofs.text.write_text.Tie as tie
