@@ -1,6 +1,6 @@
 -- What is written is the bill of some three files.
 use mathlib.Core.Path.{_≡_, refl, sym, ap, _∙_, subst}
-use mathlib.Core.Bool.{Bool, true, false}
+use mathlib.Core.Bool.{Bool, true, false, true≢false}
 use mathlib.Core.Option.{Option, none, some}
 use mathlib.Core.List.{List, []}
 use Prim.Native.Nat.{ℕ}
@@ -12,37 +12,19 @@ use Rattle.wire.specs.code.Wrote.{Wrote}
 use Rattle.connection.specs.Connection.{wellFormedConnection}
 use Rattle.registry.specs.WellFormed.{wellFormedRegistry}
 use Rattle.roster.proofs.RosterLaws.{roster-legal}
-use Rattle.shipped.specs.Shipped.{wellFormedList}
 use Rattle.counters.specs.Counters.{counterMost}
 use Rattle.service.specs.Call.{Memory}
-use Rattle.billing.specs.Bill.{refusedList, noFile, billFor, isListRefused, bill}
+use Rattle.billing.specs.Bill.{noFile, isListRefused, bill}
 use Rattle.billing.specs.Outcome.{billIn}
 use Rattle.billing.proofs.RulesLaws.{bill-by-rules}
-use Rattle.starting.specs.Start.{MayGive, withFile, isGood, lineOf}
+use Rattle.starting.specs.Start.{MayGive, isRead, withFile, isGood, lineOf}
 use Rattle.starting.specs.code.Stream.{leftBy, After}
-use Rattle.starting.specs.code.Sources.{Started, StartOf, StartRead, StreamTaken, StreamRead, Billable}
+use Rattle.starting.specs.code.Sources.{StartRead, StreamTaken, StreamRead, Billable}
 use Rattle.starting.specs.declared.files.File.{File}
 use Rattle.starting.specs.declared.files.File.the-variants.{Open, Missing}
 use Rattle.starting.specs.declared.start.Source.{Source}
-use Rattle.starting.specs.declared.start.Source.the-variants as source
+use Rattle.starting.proofs.SourceLaws.{good-read, good-registry, start-bills}
 use Rattle.bill.specs.Prints.{printed, Prints}
-
--- ---- the bill of a stream
-
-module _ (registry list : List ℕ) (started : Started registry) (most : ℕ) (m : Memory) (a : After list registry most m) where
-  by-rules : wellFormedList list ≡ true → billIn m ≡ bill (some (started .file)) (some (a .stream)) (some list)
-  unfolding bill isListRefused
-  by-rules listed =
-      rw (started .good, listed)
-      (ap billIn (a .memory)
-      ∙ ap (λ (r : List ℕ). billIn (leftBy list r (a .stream))) (started .start)
-      ∙ bill-by-rules (started .names) (roster-legal (started .file) (started .names) (started .good)) list (a .stream))
-
--- only the line of a bad list, after a good roster
-list-refused : (registry list stream : List ℕ) (started : Started registry) → wellFormedList list ≡ false
-    → refusedList ≡ bill (some (started .file)) (some stream) (some list)
-unfolding bill isListRefused
-list-refused registry list stream started bad = rw (started .good, bad)
 
 -- ---- what is written, by what became of the three files
 
@@ -87,28 +69,40 @@ module _ (rosterFile streamFile listFile : File) {text d e : List ℕ} {r : ℕ}
 
 -- ---- the bill of what became of the three files
 
-module _ (registry list : List ℕ) (m : Memory) where
-  module _ (listFile : File) (given : MayGive listFile (some list)) where
-    -- roster and stream could be opened, and the stream was read to its end
-    pub read-prints : (fd fd2 : ℤ) (s : Source) {d e : List ℕ} {r : ℕ} → StartOf registry list s → StreamTaken s registry list m
-        → Wrote (printed s m) d e r → Prints (Open fd) (Open fd2) listFile e r
-    unfolding MayGive StartOf StreamTaken printed isGood lineOf bill isListRefused billFor
-    read-prints fd fd2 source.Unreadable f g w = no-file-prints (Open fd) (Open fd2) listFile w refl
-    read-prints fd fd2 (source.Faulty fault) f g w =
-        prints (Open fd) (Open fd2) listFile w (some (f .file)) (some []) (some list) tt tt given (rw (f .first))
-    read-prints fd fd2 source.BadList (started, bad) g w =
-        prints (Open fd) (Open fd2) listFile w (some (started .file)) (some []) (some list) tt tt given (list-refused registry list [] started bad)
-    read-prints fd fd2 source.Good (started, listed) g w =
-        prints (Open fd) (Open fd2) listFile w (some (started .file)) (some (g .stream)) (some list) tt tt given
-        (by-rules registry list started counterMost m g listed)
+module _ (rosterFile listFile : File) (registry list : List ℕ) (m : Memory) (s : Source) (given : MayGive listFile (some list))
+    (start : StartRead rosterFile registry list s) where
+  by-rules : (good : isGood s ≡ true) (a : After list registry counterMost m) → billIn m ≡ bill (start .roster) (some (a .stream)) (some list)
+  unfolding bill isListRefused
+  by-rules good a =
+      let g = good-read rosterFile registry list s start good in
+      rw (g .same, g .good, g .listed)
+      (ap billIn (a .memory)
+      ∙ ap (λ (r : List ℕ). billIn (leftBy list r (a .stream))) (good-registry rosterFile registry list s start good)
+      ∙ bill-by-rules (g .names) (roster-legal (g .file) (g .names) (g .good)) list (a .stream))
 
-    pub outcome-prints : (roster stream : File) (s : Source) (isWhole : Bool) {d e : List ℕ} {r : ℕ} → StartRead roster registry list s
-        → StreamRead stream s registry list isWhole m → Wrote (printed (withFile s isWhole) m) d e r → Prints roster stream listFile e r
-    unfolding StartRead StreamRead withFile printed isGood lineOf
-    outcome-prints roster stream s false f g w = no-file-prints roster stream listFile w refl
-    outcome-prints (Open fd) (Open fd2) s true f g w = read-prints fd fd2 s f g w
-    outcome-prints (Open fd) Missing s true f g w = absurd (let z : _≡_ {A = ℕ} 0 1 = cc in omega arith)
-    outcome-prints Missing stream s true f g w = no-file-prints Missing stream listFile (rw f at w) refl
+  module _ {d e : List ℕ} {r : ℕ} where
+    -- the stream was read to its end, and the start is refused, or good
+    refused-prints : (fd : ℤ) → isGood s ≡ false → Wrote (printed s m) d e r → Prints rosterFile (Open fd) listFile e r
+    unfolding MayGive printed isRead withFile
+    refused-prints fd bad w =
+        prints rosterFile (Open fd) listFile w (start .roster) (some []) (some list) (start .given) tt given
+        (rw bad (ap lineOf (start .is) ∙ start-bills (start .roster) (some []) (some list) (sym (ap isGood (start .is)) ∙ bad)))
+
+    good-prints : (fd : ℤ) → isGood s ≡ true → After list registry counterMost m → Wrote (printed s m) d e r → Prints rosterFile (Open fd) listFile e r
+    unfolding MayGive printed
+    good-prints fd good a w =
+        prints rosterFile (Open fd) listFile w (start .roster) (some (a .stream)) (some list) (start .given) tt given (rw good (by-rules good a))
+
+    pub outcome-prints : (stream : File) (isWhole : Bool) → StreamRead stream s registry list isWhole m → Wrote (printed (withFile s isWhole) m) d e r
+        → Prints rosterFile stream listFile e r
+    unfolding StreamRead StreamTaken withFile printed isGood lineOf
+    outcome-prints stream false g w = no-file-prints rosterFile stream listFile w refl
+    outcome-prints Missing true g w = absurd (true≢false g)
+    outcome-prints (Open fd) true g w = go (isGood s) refl
+      where
+        go : (t : Bool) → isGood s ≡ t → Prints rosterFile (Open fd) listFile e r
+        go true good = good-prints fd good (g good) w
+        go false bad = refused-prints fd bad w
 
 -- ---- a missing file: exactly `no file` is printed
 

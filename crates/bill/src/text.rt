@@ -27,7 +27,7 @@ ghost use Rattle.registry.specs.Registry.{registrySize};
 ghost use Rattle.service.specs.Contract.{lentMemory};
 ghost use Rattle.billing.specs.Outcome.{billMost};
 ghost use Rattle.starting.specs.Start.{withFile};
-ghost use Rattle.starting.specs.code.Sources.{RosterRead, ListRead, StartOf, StreamRead, Billable};
+ghost use Rattle.starting.specs.code.Sources.{RosterRead, ListRead, Ready, StreamRead, Billable};
 ghost use Rattle.bill.specs.Prints.{printed, Prints};
 
 // The text for what became of the files.
@@ -80,7 +80,7 @@ fn read_stream(
     registry: &mut [u8],
     list: &[u8],
 ) -> Taken
-    requires { ⌜ (length (now connection) ≡ connectionSize) × StartOf (now registry) (now list) source ⌝ }
+    requires { ⌜ (length (now connection) ≡ connectionSize) × Ready (now registry) (now list) source ⌝ }
     ensures { λ r. ⌜ StreamRead stream source (now (registry .entry)) (now (list .entry)) (r .«is_whole») (lentMemory (now (connection .exit)) (now (registry .exit)) (r .counters)) ⌝ }
 {
     let File::Open(fd) = stream else {

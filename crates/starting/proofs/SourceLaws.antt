@@ -1,8 +1,8 @@
 -- What becomes of the three files, by what was read of them.
 use mathlib.Core.Path.{_≡_, refl, sym, ap, _∙_, subst}
-use mathlib.Core.Bool.{Bool, true, false, false≢true, not}
+use mathlib.Core.Bool.{Bool, true, false, true≢false, false≢true, not}
 use mathlib.Core.List.{List, [], _∷_}
-use mathlib.Core.Option.{some}
+use mathlib.Core.Option.{Option, none, some}
 use Prim.Native.Nat.{ℕ, _≤_}
 use native.Mathlib.Omega.{arith}
 use borrow.Author.Tests.{eq-eqb}
@@ -10,11 +10,13 @@ use denote.Enum.Declared.{tagOf}
 use types.Run.{OneOf, miss}
 use lib.ListN.{length, take}
 use lib.IntN.{ℤ}
+use Rattle.wire.specs.Choice.{if_then_else_}
+use Rattle.wire.proofs.TestLaws.{some≢none}
 use Rattle.stream.specs.Rules.{rules}
 use Rattle.stream.proofs.KeptLaws.{rules-connection, rules-kept}
 use Rattle.connection.specs.Connection.{wellFormedConnection}
 use Rattle.connection.proofs.ConnectionLaws.{stored-good}
-use Rattle.registry.specs.Registry.{registrySize}
+use Rattle.registry.specs.Registry.{registrySize, registryOf}
 use Rattle.registry.specs.WellFormed.{wellFormedRegistry}
 use Rattle.registry.proofs.KeylessLaws.{registry-good}
 use Rattle.roster.specs.Roster.{Roster, applications, faulty, rosterOf, rosterInto, loadRoster}
@@ -26,9 +28,11 @@ use Rattle.judgement.specs.Judgement.{judgement}
 use Rattle.counters.specs.Counters.{counterMost, largestCount}
 use Rattle.service.specs.Call.{Memory, memoryOf}
 use Rattle.service.proofs.KeptLaws.{keeps}
-use Rattle.starting.specs.Start.{MayGive, isListRefused, withList, withFile, isGood}
+use Rattle.billing.specs.Bill as bills
+use Rattle.billing.specs.Bill.{refusedList, billFor, bill}
+use Rattle.starting.specs.Start.{MayGive, isRead, rosterSource, rosterStart, isListRefused, withList, startOf, withFile, isGood, lineOf}
 use Rattle.starting.specs.code.Stream.{KeptWithin, After}
-use Rattle.starting.specs.code.Sources.{SourceOutcome, sourceWith, sourceFor, sourceOf, loadFront, Started, SourceOf, RosterRead, ListRead, StartOf, StartRead, StreamTaken, StreamRead, Billable}
+use Rattle.starting.specs.code.Sources.{SourceOutcome, sourceWith, sourceFor, sourceOf, loadFront, Starts, RosterRead, ListRead, StartRead, Ready, StreamTaken, StreamRead, Billable}
 use Rattle.starting.specs.declared.files.File.{File}
 use Rattle.starting.specs.declared.files.File.the-variants.{Open, Missing}
 use Rattle.starting.specs.declared.files.Front.{Front}
@@ -52,31 +56,45 @@ module _ (bytes memory : List ℕ) where
 
 -- ---- a roster file that was read
 
-source-of : (file memory : List ℕ) → length memory ≡ registrySize → SourceOf (loadRoster file memory .registry) (sourceFor (loadRoster file memory .answer))
-unfolding SourceOf sourceFor loadRoster rosterInto
-source-of file memory size = rw (eq-eqb (length memory) registrySize size) (go (rosterOf file) refl)
-  where
-    go : (r : Roster) → rosterOf file ≡ r → SourceOf (rosterInto memory r .registry) (sourceFor (rosterInto memory r .answer))
-    go (applications names) q = record { file = file; names = names; good = q; start = refl }
-    go (faulty fault) q = record { file = file; first = q }
+starts-none : (registry : List ℕ) → Starts none registry
+unfolding Starts
+starts-none registry file names e q = absurd (some≢none file (sym e))
 
--- whatever was kept of a file
-pub front-source : (bytes memory : List ℕ) → length memory ≡ registrySize → (read : Front) (o : SourceOutcome)
-    → o ≡ loadFront bytes read memory → SourceOf (o .registry) (o .answer)
-unfolding SourceOf loadFront sourceOf
-front-source bytes memory size (front.Kept n) o e = rw e (source-of (take n bytes) memory size)
-front-source bytes memory size front.Unreadable o e = rw e tt
+module _ (file memory : List ℕ) (size : length memory ≡ registrySize) where
+  loaded-source : sourceFor (loadRoster file memory .answer) ≡ rosterStart (some file)
+  unfolding sourceFor loadRoster rosterInto rosterStart rosterSource
+  loaded-source = rw (eq-eqb (length memory) registrySize size) (go (rosterOf file))
+    where
+      go : (r : Roster) → sourceFor (rosterInto memory r .answer) ≡ rosterSource r
+      go (applications names) = refl
+      go (faulty fault) = refl
+
+  loaded-starts : Starts (some file) (loadRoster file memory .registry)
+  unfolding Starts loadRoster rosterInto
+  loaded-starts other names e q =
+      let same : file ≡ other = cc in
+      rw (eq-eqb (length memory) registrySize size) (ap (λ (r : Roster). rosterInto memory r .registry) (ap rosterOf same ∙ q))
 
 pub roster-missing : (registry : List ℕ) {f : File} → f ≡ Missing → RosterRead f registry source.Unreadable
-unfolding RosterRead
-roster-missing registry e = rw e refl
+unfolding MayGive rosterStart
+roster-missing registry e = record { roster = none; given = rw e refl; is = refl; registered = starts-none registry }
 
-pub roster-open : (registry : List ℕ) (s : Source) {f : File} {fd : ℤ} → f ≡ Open fd → SourceOf registry s → RosterRead f registry s
-unfolding RosterRead
-roster-open registry s e r = rw e r
-
-pub started-good : (registry : List ℕ) → Started registry → wellFormedRegistry registry ≡ true
-started-good registry s = ap wellFormedRegistry (s .start) ∙ registry-good (s .names) (roster-legal (s .file) (s .names) (s .good))
+-- whatever was kept of it
+pub roster-open : {f : File} {fd : ℤ} → f ≡ Open fd → (bytes memory : List ℕ) → length memory ≡ registrySize → (read : Front) (o : SourceOutcome)
+    → o ≡ loadFront bytes read memory → RosterRead f (o .registry) (o .answer)
+unfolding MayGive loadFront sourceOf rosterStart
+roster-open e bytes memory size (front.Kept n) o q = record {
+  roster = some (take n bytes);
+  given = rw e tt;
+  is = ap (λ (x : SourceOutcome). x .answer) q ∙ loaded-source (take n bytes) memory size;
+  registered = subst (Starts (some (take n bytes))) (sym (ap (λ (x : SourceOutcome). x .registry) q)) (loaded-starts (take n bytes) memory size);
+}
+roster-open e bytes memory size front.Unreadable o q = record {
+  roster = none;
+  given = rw e tt;
+  is = ap (λ (x : SourceOutcome). x .answer) q;
+  registered = starts-none (o .registry);
+}
 
 -- ---- and then a list of keys
 
@@ -139,33 +157,69 @@ not-good source.Unreadable other = refl
 
 -- ---- the start, by what was read
 
-start-of : (registry list : List ℕ) (s : Source) → SourceOf registry s → StartOf registry list (withList s (wellFormedList list))
-unfolding SourceOf StartOf withList isListRefused
-start-of registry list source.Unreadable f = tt
-start-of registry list (source.Faulty fault) f = f
-start-of registry list source.BadList f = absurd f
-start-of registry list source.Good f = go (wellFormedList list) refl
-  where
-    go : (t : Bool) → wellFormedList list ≡ t → StartOf registry list (withList source.Good t)
-    go true e = (f, e)
-    go false e = (f, e)
-
 pub start-read : (roster : File) (registry list : List ℕ) (s start : Source) → RosterRead roster registry s → start ≡ withList s (wellFormedList list)
     → StartRead roster registry list start
-unfolding RosterRead StartRead withList isListRefused
-start-read (Open fd) registry list s start r e = subst (StartOf registry list) (sym e) (start-of registry list s r)
-start-read Missing registry list s start r e = e ∙ ap (λ (x : Source). withList x (wellFormedList list)) r
+unfolding startOf
+start-read roster registry list s start r e = record {
+  roster = r .roster;
+  given = r .given;
+  is = e ∙ ap (λ (x : Source). withList x (wellFormedList list)) (r .is);
+  registered = r .registered;
+}
 
--- a file that is missing has no registry
-pub read-start : (roster : File) (registry list : List ℕ) (s : Source) → StartRead roster registry list s → StartOf registry list s
-unfolding StartRead StartOf
-read-start (Open fd) registry list s r = r
-read-start Missing registry list s r = rw r tt
+-- a good start has a good roster and a good list
+pub record GoodStart (roster : Option (List ℕ)) (list : List ℕ) : Type 0 where
+  pub file : List ℕ
+  pub names : List (List ℕ)
+  pub same : roster ≡ some file
+  pub good : rosterOf file ≡ applications names
+  pub listed : wellFormedList list ≡ true
 
-pub start-good : (registry list : List ℕ) {s : Source} → s ≡ source.Good → StartOf registry list s
+good-start : (roster : Option (List ℕ)) (list : List ℕ) → isGood (startOf roster (some list)) ≡ true → GoodStart roster list
+unfolding startOf rosterStart rosterSource withList isListRefused isGood
+good-start none list e = absurd (false≢true e)
+good-start (some file) list e = go (rosterOf file) refl (wellFormedList list) refl e
+  where
+    go : (r : Roster) → rosterOf file ≡ r → (t : Bool) → wellFormedList list ≡ t → isGood (withList (rosterSource r) t) ≡ true → GoodStart (some file) list
+    go (applications names) q true w e = record { file = file; names = names; same = refl; good = q; listed = w }
+    go (applications names) q false w e = absurd (false≢true e)
+    go (faulty fault) q t w e = absurd (false≢true e)
+
+module _ (roster : File) (registry list : List ℕ) (s : Source) (r : StartRead roster registry list s) where
+  pub good-read : isGood s ≡ true → GoodStart (r .roster) list
+  good-read good = good-start (r .roster) list (sym (ap isGood (r .is)) ∙ good)
+
+  pub good-registry : (good : isGood s ≡ true) → registry ≡ registryOf (good-read good .names)
+  unfolding Starts
+  good-registry good = let g = good-read good in r .registered (g .file) (g .names) (g .same) (g .good)
+
+  pub ready : Ready registry list s
+  unfolding Ready
+  ready good =
+      let g = good-read good in
+      (ap wellFormedRegistry (good-registry good) ∙ registry-good (g .names) (roster-legal (g .file) (g .names) (g .good)), g .listed)
+
+pub ready-good : (registry list : List ℕ) {s : Source} → s ≡ source.Good → Ready registry list s
     → (wellFormedRegistry registry ≡ true) × (wellFormedList list ≡ true)
-unfolding StartOf
-start-good registry list e f = let (started, listed) = subst (StartOf registry list) e f in (started-good registry started, listed)
+unfolding Ready isGood
+ready-good registry list e f = f (ap isGood e)
+
+-- the bill of a start that is refused is its line
+pub start-bills : (roster stream list : Option (List ℕ)) → isGood (withFile (startOf roster list) (isRead stream)) ≡ false
+    → lineOf (withFile (startOf roster list) (isRead stream)) ≡ bill roster stream list
+unfolding bill billFor bills.isListRefused isRead startOf rosterStart rosterSource withList isListRefused withFile isGood lineOf
+start-bills none none list e = refl
+start-bills none (some stream) none e = refl
+start-bills none (some stream) (some list) e = refl
+start-bills (some roster) none list e = refl
+start-bills (some roster) (some stream) none e = refl
+start-bills (some roster) (some stream) (some list) e = go (rosterOf roster) (wellFormedList list) refl e
+  where
+    go : (r : Roster) (t : Bool) → wellFormedList list ≡ t → isGood (withList (rosterSource r) t) ≡ false
+        → lineOf (withList (rosterSource r) t) ≡ (if bills.isListRefused r list then refusedList else billFor list r stream)
+    go (applications names) true q e = absurd (true≢false e)
+    go (applications names) false q e = rw q refl
+    go (faulty fault) t q e = refl
 
 -- ---- a stream that was read
 
@@ -175,25 +229,17 @@ module _ (s : Source) (registry list : List ℕ) (isWhole : Bool) (m : Memory) {
   stream-missing e w = rw e w
 
   module _ {fd : ℤ} (e : f ≡ Open fd) where
-    pub stream-good : s ≡ source.Good → After list registry counterMost m → StreamRead f s registry list isWhole m
+    pub stream-good : After list registry counterMost m → StreamRead f s registry list isWhole m
     unfolding StreamRead StreamTaken
-    stream-good q a = rw (e, q) a
+    stream-good a = rw e (λ good. a)
 
-    pub stream-faulty : {fault : RosterFault} → s ≡ source.Faulty fault → StreamRead f s registry list isWhole m
+    pub stream-refused : isGood s ≡ false → StreamRead f s registry list isWhole m
     unfolding StreamRead StreamTaken
-    stream-faulty q = rw (e, q) tt
-
-    pub stream-unlisted : s ≡ source.BadList → StreamRead f s registry list isWhole m
-    unfolding StreamRead StreamTaken
-    stream-unlisted q = rw (e, q) tt
-
-    pub stream-unread : s ≡ source.Unreadable → StreamRead f s registry list isWhole m
-    unfolding StreamRead StreamTaken
-    stream-unread q = rw (e, q) tt
+    stream-refused bad = rw e (λ good. absurd (false≢true (sym bad ∙ good)))
 
 -- ---- what a stream leaves in memory has a bill
 
-module _ (registry list : List ℕ) (started : Started registry) (most : ℕ) (m : Memory) (a : After list registry most m) where
+module _ (registry list : List ℕ) (good : wellFormedRegistry registry ≡ true) (most : ℕ) (m : Memory) (a : After list registry most m) where
   after-connected : wellFormedConnection (m .connection) ≡ true
   unfolding memoryOf
   after-connected =
@@ -204,15 +250,12 @@ module _ (registry list : List ℕ) (started : Started registry) (most : ℕ) (m
   unfolding memoryOf
   after-registered =
       ap (λ (x : Memory). wellFormedRegistry (x .registry)) (a .memory)
-      ∙ rules-kept largestCount wellFormedRegistry (judgement list) (keeps list) registry (started-good registry started) (a .stream) .good
+      ∙ rules-kept largestCount wellFormedRegistry (judgement list) (keeps list) registry good (a .stream) .good
 
-module _ (registry list : List ℕ) (m : Memory) where
-  pub billable : (stream : File) (s : Source) (isWhole : Bool) → StartOf registry list s → StreamRead stream s registry list isWhole m → Billable (withFile s isWhole) m
-  unfolding StartOf StreamRead StreamTaken Billable withFile isGood
-  billable stream s false f g e = absurd (false≢true e)
-  billable stream source.Unreadable true f g e = absurd (false≢true e)
-  billable stream (source.Faulty fault) true f g e = absurd (false≢true e)
-  billable stream source.BadList true f g e = absurd (false≢true e)
-  billable (Open fd) source.Good true (started, listed) g e =
-      (after-connected registry list started counterMost m g, after-registered registry list started counterMost m g)
-  billable Missing source.Good true f g e = absurd (false≢true (sym g))
+pub billable : (stream : File) (registry list : List ℕ) (m : Memory) (s : Source) (isWhole : Bool) → Ready registry list s
+    → StreamRead stream s registry list isWhole m → Billable (withFile s isWhole) m
+unfolding Ready StreamRead StreamTaken Billable withFile isGood
+billable stream registry list m s false f g e = absurd (false≢true e)
+billable Missing registry list m s true f g e = absurd (false≢true (sym g))
+billable (Open fd) registry list m s true f g e =
+    (after-connected registry list (f e .0) counterMost m (g e), after-registered registry list (f e .0) counterMost m (g e))

@@ -3,9 +3,11 @@
 use Prim.Native.Nat.{ℕ}
 use mathlib.Core.Path.{_≡_}
 use mathlib.Core.Bool.{Bool, true, false, not}
-use mathlib.Core.Option.{Option, none}
+use mathlib.Core.Option.{Option, none, some}
 use mathlib.Core.List.{List, []}
 use Rattle.wire.specs.Choice.{if_then_else_}
+use Rattle.roster.specs.Roster.{Roster, applications, faulty, rosterOf}
+use Rattle.shipped.specs.Shipped.{wellFormedList}
 use Rattle.billing.specs.Bill.{refusedRoster, refusedList, noFile}
 use Rattle.starting.specs.declared.files.File.{File}
 use Rattle.starting.specs.declared.files.File.the-variants.{Open, Missing}
@@ -17,19 +19,35 @@ unfoldable pub MayGive : File → Option (List ℕ) → Type 0
 MayGive (Open fd) bytes = Unit {0}
 MayGive Missing bytes = bytes ≡ none
 
+unfoldable pub isRead : Option (List ℕ) → Bool
+isRead none = false
+isRead (some bytes) = true
+
 -- ---- the first that applies: a file that can't be read, the roster's fault, a bad list
 
+unfoldable pub rosterSource : Roster → Source
+rosterSource (applications names) = Good
+rosterSource (faulty fault) = Faulty fault
+
+unfoldable pub rosterStart : (roster : Option (List ℕ)) → Source
+rosterStart none = Unreadable
+rosterStart (some file) = rosterSource (rosterOf file)
+
 -- a bad list is refused after a good roster only
-unfoldable pub isListRefused : Source → (isGood : Bool) → Bool
-isListRefused Good isGood = not isGood
-isListRefused (Faulty fault) isGood = false
-isListRefused BadList isGood = false
-isListRefused Unreadable isGood = false
+unfoldable pub isListRefused : Source → (isListGood : Bool) → Bool
+isListRefused Good isListGood = not isListGood
+isListRefused (Faulty fault) isListGood = false
+isListRefused BadList isListGood = false
+isListRefused Unreadable isListGood = false
 
-unfoldable pub withList : Source → (isGood : Bool) → Source
-withList source isGood = if isListRefused source isGood then BadList else source
+unfoldable pub withList : Source → (isListGood : Bool) → Source
+withList source isListGood = if isListRefused source isListGood then BadList else source
 
--- one file more, that the start does not need, as a stream: by whether it could be read to its end
+unfoldable pub startOf : (roster list : Option (List ℕ)) → Source
+startOf roster none = Unreadable
+startOf roster (some list) = withList (rosterStart roster) (wellFormedList list)
+
+-- one file more that has to be readable, as a stream: by whether it could be read to its end
 unfoldable pub withFile : Source → (isWhole : Bool) → Source
 withFile source true = source
 withFile source false = Unreadable

@@ -1,27 +1,27 @@
--- What becomes of the three files.
+-- What becomes of the files, by what was read of them.
 use Prim.Native.Nat.{ℕ}
 use mathlib.Core.Path.{_≡_}
 use mathlib.Core.Bool.{Bool, true, false}
+use mathlib.Core.Option.{Option, some}
 use mathlib.Core.List.{List}
 use lib.ListN.{take}
 use Rattle.connection.specs.Connection.{wellFormedConnection}
 use Rattle.registry.specs.Registry.{registryOf}
 use Rattle.registry.specs.WellFormed.{wellFormedRegistry}
-use Rattle.roster.specs.Roster.{applications, faulty, rosterOf, RosterOutcome, loadRoster}
+use Rattle.roster.specs.Roster.{applications, rosterOf, RosterOutcome, loadRoster}
 use Rattle.roster.specs.declared.Loaded.{Loaded}
 use Rattle.roster.specs.declared.Loaded.the-variants as loaded
-use Rattle.roster.specs.declared.RosterFault.{RosterFault}
 use Rattle.shipped.specs.Shipped.{wellFormedList}
 use Rattle.counters.specs.Counters.{counterMost}
 use Rattle.service.specs.Call.{Memory}
-use Rattle.starting.specs.Start.{isGood}
+use Rattle.starting.specs.Start.{MayGive, rosterStart, startOf, isGood}
 use Rattle.starting.specs.code.Stream.{KeptWithin, After}
 use Rattle.starting.specs.declared.files.File.{File}
 use Rattle.starting.specs.declared.files.File.the-variants.{Open, Missing}
 use Rattle.starting.specs.declared.files.Front.{Front}
 use Rattle.starting.specs.declared.files.Front.the-variants as front
 use Rattle.starting.specs.declared.start.Source.{Source}
-use Rattle.starting.specs.declared.start.Source.the-variants.{Good, Faulty, BadList, Unreadable}
+use Rattle.starting.specs.declared.start.Source.the-variants.{Good, Faulty, Unreadable}
 
 -- ---- what was kept of a roster file, loaded
 
@@ -43,54 +43,39 @@ unfoldable pub loadFront : (bytes : List ℕ) → Front → (memory : List ℕ) 
 loadFront bytes (front.Kept n) memory = sourceOf (loadRoster (take n bytes) memory)
 loadFront bytes front.Unreadable memory = sourceWith Unreadable memory
 
--- ---- a roster file that was read
+-- ---- files that were read: which bytes they have no contract can say, so that they are some bytes
 
--- a registry without keys, of the names in some good roster file
-pub record Started (registry : List ℕ) : Type 0 where
-  pub file : List ℕ
-  pub names : List (List ℕ)
-  pub good : rosterOf file ≡ applications names
-  pub start : registry ≡ registryOf names
+-- the registry of a good roster file has its names, and no keys
+unfoldable pub Starts : (roster : Option (List ℕ)) (registry : List ℕ) → Type 0
+Starts roster registry =
+    (file : List ℕ) (names : List (List ℕ)) → roster ≡ some file → rosterOf file ≡ applications names → registry ≡ registryOf names
 
--- some roster file that is refused
-pub record Refused (fault : RosterFault) : Type 0 where
-  pub file : List ℕ
-  pub first : rosterOf file ≡ faulty fault
-
-unfoldable pub SourceOf : (registry : List ℕ) → Source → Type 0
-SourceOf registry Good = Started registry
-SourceOf registry (Faulty fault) = Refused fault
-SourceOf registry BadList = ⊥  -- no list was looked at
-SourceOf registry Unreadable = Unit {0}
-
-unfoldable pub RosterRead : File → (registry : List ℕ) → Source → Type 0
-RosterRead (Open fd) registry source = SourceOf registry source
-RosterRead Missing registry source = source ≡ Unreadable
-
--- ---- and then a list of keys
+pub record RosterRead (file : File) (registry : List ℕ) (source : Source) : Type 0 where
+  pub roster : Option (List ℕ)
+  pub given : MayGive file roster
+  pub is : source ≡ rosterStart roster
+  pub registered : Starts roster registry
 
 unfoldable pub ListRead : File → (most : ℕ) → Front → Type 0
 ListRead (Open fd) most read = KeptWithin most read
 ListRead Missing most read = read ≡ front.Unreadable
 
-unfoldable pub StartOf : (registry list : List ℕ) → Source → Type 0
-StartOf registry list Good = Started registry × (wellFormedList list ≡ true)
-StartOf registry list (Faulty fault) = Refused fault
-StartOf registry list BadList = Started registry × (wellFormedList list ≡ false)
-StartOf registry list Unreadable = Unit {0}
+-- roster and list
+pub record StartRead (file : File) (registry list : List ℕ) (source : Source) : Type 0 where
+  pub roster : Option (List ℕ)
+  pub given : MayGive file roster
+  pub is : source ≡ startOf roster (some list)
+  pub registered : Starts roster registry
 
-unfoldable pub StartRead : File → (registry list : List ℕ) → Source → Type 0
-StartRead (Open fd) registry list source = StartOf registry list source
-StartRead Missing registry list source = source ≡ Unreadable
+-- a good start, on which a stream can be run
+unfoldable pub Ready : (registry list : List ℕ) → Source → Type 0
+Ready registry list source = isGood source ≡ true → (wellFormedRegistry registry ≡ true) × (wellFormedList list ≡ true)
 
 -- ---- a stream that was read
 
--- after a good roster and a good list it ran through the call
+-- after a good start it ran through the call
 unfoldable pub StreamTaken : Source → (registry list : List ℕ) → Memory → Type 0
-StreamTaken Good registry list m = After list registry counterMost m
-StreamTaken (Faulty fault) registry list m = Unit {0}
-StreamTaken BadList registry list m = Unit {0}
-StreamTaken Unreadable registry list m = Unit {0}
+StreamTaken source registry list m = isGood source ≡ true → After list registry counterMost m
 
 unfoldable pub StreamRead : File → Source → (registry list : List ℕ) → (isWhole : Bool) → Memory → Type 0
 StreamRead (Open fd) source registry list isWhole m = StreamTaken source registry list m

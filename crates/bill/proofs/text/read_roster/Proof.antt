@@ -2,7 +2,7 @@
 use Prim.Native.Nat.{ℕ}
 use mathlib.Core.Path.{sym, subst}
 use Rattle.starting.specs.code.Stream.{KeptWithin}
-use Rattle.starting.proofs.SourceLaws.{front-source, roster-missing, roster-open}
+use Rattle.starting.proofs.SourceLaws.{roster-missing, roster-open}
 use borrow.Author.Needs.{needs}
 use Rattle.bill.proofs.text.read_roster.Statement.{statement}
 use Rattle.bill.proofs.text.read_roster.Tie as tie
@@ -40,7 +40,7 @@ returns-2 : tie.Need-returns-2
 returns-2 c =
     let load = c .before .before in
     let opened = load .before .before .before .before .before .before .before .before in
-    roster-open _ _ (opened .roster .given .1) (front-source _ _ (opened .before .before .before .pre) _ _ (load .load-front .ensures))
+    roster-open (opened .roster .given .1) _ _ (opened .before .before .before .pre) _ _ (load .load-front .ensures)
 
 pub read-roster-spec : {M : Type 1} → statement M
 read-roster-spec =

@@ -1,7 +1,8 @@
 -- `bill::text::read_stream` meets its contract.
 use mathlib.Core.Path.{ap}
+use Rattle.starting.specs.Start.{isGood}
 use Rattle.starting.specs.declared.feed.Taken.{Taken}
-use Rattle.starting.proofs.SourceLaws.{start-good, stream-missing, stream-good, stream-faulty, stream-unlisted, stream-unread}
+use Rattle.starting.proofs.SourceLaws.{ready-good, stream-missing, stream-good, stream-refused}
 use borrow.Author.Needs.{needs}
 use Rattle.bill.proofs.text.read_stream.Statement.{statement}
 use Rattle.bill.proofs.text.read_stream.Tie as tie
@@ -25,7 +26,7 @@ take-stream-requires : tie.Need-take-stream-requires
 take-stream-requires c κs =
     let told = c .before .before in
     let start = told .before .before .before .before .before .before .before .before in
-    let (good, listed) = start-good _ _ (told .enum-told2 .given .1) (start .pre .1) in
+    let (good, listed) = ready-good _ _ (told .enum-told2 .given .1) (start .pre .1) in
     (start .pre .0, good, listed)
 
 enum-told-3 : tie.Need-enum-told-3
@@ -62,22 +63,25 @@ returns-2 : tie.Need-returns-2
 returns-2 c =
     let stream = c .before .before .before .before in
     let told = stream .before .before .before in
-    stream-good _ _ _ _ _ (told .before .before .before .stream .given .1) (told .enum-told2 .given .1) (stream .take-stream .ensures)
+    stream-good _ _ _ _ _ (told .before .before .before .stream .given .1) (stream .take-stream .ensures)
 
 returns-3 : tie.Need-returns-3
+unfolding isGood
 returns-3 c =
     let told = c .before .before in
-    stream-faulty _ _ _ _ _ (told .before .before .before .stream .given .1) (told .enum-told3 .given .1)
+    stream-refused _ _ _ _ _ (told .before .before .before .stream .given .1) (ap isGood (told .enum-told3 .given .1))
 
 returns-4 : tie.Need-returns-4
+unfolding isGood
 returns-4 c =
     let told = c .before .before in
-    stream-unlisted _ _ _ _ _ (told .before .before .before .stream .given .1) (told .enum-told4 .given .1)
+    stream-refused _ _ _ _ _ (told .before .before .before .stream .given .1) (ap isGood (told .enum-told4 .given .1))
 
 returns-5 : tie.Need-returns-5
+unfolding isGood
 returns-5 c =
     let told = c .before in
-    stream-unread _ _ _ _ _ (told .before .before .before .stream .given .1) (told .enum-told5 .given .1)
+    stream-refused _ _ _ _ _ (told .before .before .before .stream .given .1) (ap isGood (told .enum-told5 .given .1))
 
 pub read-stream-spec : {M : Type 1} → statement M
 read-stream-spec =

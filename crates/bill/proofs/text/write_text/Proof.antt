@@ -6,7 +6,7 @@ use native.Mathlib.Omega.{arith}
 use lib.ListN.{length, take}
 use lib.Seq.{length-take-le}
 use Rattle.starting.specs.Start.{MayGive}
-use Rattle.starting.proofs.SourceLaws.{list-kept, start-read, read-start, billable}
+use Rattle.starting.proofs.SourceLaws.{list-kept, start-read, ready, billable}
 use Rattle.bill.proofs.PrintLaws.{no-file-prints, outcome-prints}
 use borrow.Author.Needs.{needs}
 use Rattle.bill.proofs.text.write_text.Statement.{statement}
@@ -80,7 +80,7 @@ read-stream-requires : tie.Need-read-stream-requires
 read-stream-requires c κs =
     let listed = c .before .before in
     let roster = listed .before .before .before .before .before .before .before .before .before in
-    (sym (roster .before .before .before .connection-memory .ensures), read-start _ _ _ _ (start-read _ _ _ _ _ (roster .read-roster .ensures) (listed .with-list .ensures)))
+    (sym (roster .before .before .before .connection-memory .ensures), ready _ _ _ _ (start-read _ _ _ _ _ (roster .read-roster .ensures) (listed .with-list .ensures)))
 
 slice-aggregate-write-outcome : tie.Need-slice-aggregate-write-outcome
 slice-aggregate-write-outcome c = search needs
@@ -93,7 +93,7 @@ write-outcome-requires c κs =
     let stream = c .before .before .before .before .before in
     let listed = stream .before .before .before in
     let roster = listed .before .before .before .before .before .before .before .before .before in
-    (roster .before .before .before .before .before .before .pre, billable _ _ _ _ _ _ (read-start _ _ _ _ (start-read _ _ _ _ _ (roster .read-roster .ensures) (listed .with-list .ensures))) (stream .read-stream .ensures))
+    (roster .before .before .before .before .before .before .pre, billable _ _ _ _ _ _ (ready _ _ _ _ (start-read _ _ _ _ _ (roster .read-roster .ensures) (listed .with-list .ensures))) (stream .read-stream .ensures))
 
 same-length-2 : tie.Need-same-length-2
 same-length-2 c = search needs
@@ -105,7 +105,7 @@ returns-2 c =
     let listed = stream .before .before .before in
     let told = listed .before .before in
     let roster = told .before .before .before .before .before .before .before in
-    outcome-prints _ _ _ _ (kept told .2) _ _ _ _ (start-read _ _ _ _ _ (roster .read-roster .ensures) (listed .with-list .ensures)) (stream .read-stream .ensures) (wrote .write-outcome .ensures)
+    outcome-prints _ _ _ _ _ _ (kept told .2) (start-read _ _ _ _ _ (roster .read-roster .ensures) (listed .with-list .ensures)) _ _ (stream .read-stream .ensures) (wrote .write-outcome .ensures)
 
 pub write-text-spec : {M : Type 1} → statement M
 write-text-spec =
