@@ -3,54 +3,16 @@ use crate::Asker;
 use crate::Auth;
 use crate::Checked;
 use crate::Status;
-use messages::opcodes::LIST_OPCODES;
-use messages::opcodes::LIST_PROVIDERS;
-use messages::opcodes::PING;
-use messages::opcodes::PSA_ASYMMETRIC_VERIFY;
-use messages::opcodes::PSA_DESTROY_KEY;
-use messages::opcodes::PSA_EXPORT_PUBLIC_KEY;
-use messages::opcodes::PSA_IMPORT_KEY;
+use messages::opcodes::is_listed;
+use messages::opcodes::is_opcode_of;
 use registry::Application;
 use registry::find::find_application;
 use wire::header::Header;
-ghost use mathlib.Core.List.{_++_};
 ghost use mathlib.Core.Path.{_≡_};
 ghost use lib.ListN.{length};
 ghost use Rattle.wire.specs.Choice.{firstOf};
-ghost use Rattle.wire.specs.Lists.{oneOf};
 ghost use Rattle.registry.specs.Registry.{registrySize, applicationNamed};
-ghost use Rattle.messages.specs.Opcodes.{coreOpcodes, keystoreOpcodes, opcodesOf};
 ghost use Rattle.judgement.specs.code.Decided.{headerTests, checkedOf, authOf};
-
-fn is_listed(opcode: u16) -> bool
-    ensures { λ r. ⌜ r ≡ oneOf (coreOpcodes ++ keystoreOpcodes) opcode ⌝ }
-{
-    match opcode {
-        PING
-        | PSA_DESTROY_KEY
-        | PSA_ASYMMETRIC_VERIFY
-        | PSA_IMPORT_KEY
-        | PSA_EXPORT_PUBLIC_KEY
-        | LIST_PROVIDERS
-        | LIST_OPCODES => true,
-        _ => false,
-    }
-}
-
-fn is_opcode_of(provider: u8, opcode: u16) -> bool
-    ensures { λ r. ⌜ r ≡ oneOf (opcodesOf provider) opcode ⌝ }
-{
-    if provider == 0 {
-        return match opcode {
-            PING | LIST_PROVIDERS | LIST_OPCODES => true,
-            _ => false,
-        };
-    }
-    match opcode {
-        PSA_DESTROY_KEY | PSA_ASYMMETRIC_VERIFY | PSA_IMPORT_KEY | PSA_EXPORT_PUBLIC_KEY => true,
-        _ => false,
-    }
-}
 
 // What the header alone decides: version, content type, accept type, opcode, provider, auth type.
 pub fn check_header(h: Header) -> Checked

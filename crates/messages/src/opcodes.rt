@@ -2,7 +2,7 @@
 ghost use mathlib.Core.Path.{_≡_};
 ghost use mathlib.Core.List.{_++_};
 ghost use Rattle.wire.specs.Lists.{oneOf};
-ghost use Rattle.messages.specs.Opcodes.{coreOpcodes, keystoreOpcodes};
+ghost use Rattle.messages.specs.Opcodes.{coreOpcodes, keystoreOpcodes, opcodesOf};
 
 pub const PING: u16 = 1;
 
@@ -18,10 +18,15 @@ pub const PSA_IMPORT_KEY: u16 = 6;
 
 pub const PSA_EXPORT_PUBLIC_KEY: u16 = 7;
 
-// The core's, and the keystore's.
-pub const CORE: [u8; 3] = [1, 8, 9];
+// The core's, and the keystore's, as a response lists them.
+pub const CORE: [u8; 3] = [PING as u8, LIST_PROVIDERS as u8, LIST_OPCODES as u8];
 
-pub const KEYSTORE: [u8; 4] = [3, 5, 6, 7];
+pub const KEYSTORE: [u8; 4] = [
+    PSA_DESTROY_KEY as u8,
+    PSA_ASYMMETRIC_VERIFY as u8,
+    PSA_IMPORT_KEY as u8,
+    PSA_EXPORT_PUBLIC_KEY as u8,
+];
 
 pub fn is_core(opcode: u16) -> bool
     ensures { λ r. ⌜ r ≡ oneOf coreOpcodes opcode ⌝ }
@@ -35,12 +40,9 @@ pub fn is_core(opcode: u16) -> bool
     opcode == LIST_OPCODES
 }
 
-pub fn is_listed(opcode: u16) -> bool
-    ensures { λ r. ⌜ r ≡ oneOf (coreOpcodes ++ keystoreOpcodes) opcode ⌝ }
+fn is_keystore(opcode: u16) -> bool
+    ensures { λ r. ⌜ r ≡ oneOf keystoreOpcodes opcode ⌝ }
 {
-    if is_core(opcode) {
-        return true;
-    }
     if opcode == PSA_DESTROY_KEY {
         return true;
     }
@@ -51,4 +53,23 @@ pub fn is_listed(opcode: u16) -> bool
         return true;
     }
     opcode == PSA_EXPORT_PUBLIC_KEY
+}
+
+pub fn is_listed(opcode: u16) -> bool
+    ensures { λ r. ⌜ r ≡ oneOf (coreOpcodes ++ keystoreOpcodes) opcode ⌝ }
+{
+    if is_core(opcode) {
+        return true;
+    }
+    is_keystore(opcode)
+}
+
+// Whether a provider that there is has the operation.
+pub fn is_opcode_of(provider: u8, opcode: u16) -> bool
+    ensures { λ r. ⌜ r ≡ oneOf (opcodesOf provider) opcode ⌝ }
+{
+    if provider == 0 {
+        return is_core(opcode);
+    }
+    is_keystore(opcode)
 }
