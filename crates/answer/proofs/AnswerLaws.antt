@@ -1,8 +1,8 @@
 -- From the code's chain of tests to the judgement of a request: what is answered at each way out is what `judgement` says.
 use mathlib.Core.Path.{_≡_, refl, sym, ap, subst, _∙_}
-use mathlib.Core.Bool.{Bool, true, false, _&&_, not, and-true, and-false}
+use mathlib.Core.Bool.{Bool, true, false, and-true, and-false}
 use mathlib.Core.Option.{Option, none, some}
-use mathlib.Core.List.{List, [], _∷_, _++_}
+use mathlib.Core.List.{List, _++_}
 use Prim.Native.Nat.{ℕ, _+_, _-_, _≤_, _<_}
 use native.Mathlib.Nat.{add-sub-cancel-left}
 use native.Mathlib.Omega.{arith}
@@ -28,7 +28,7 @@ use Rattle.judgement.specs.Operations.{Result, refuse, operated}
 use Rattle.messages.proofs.OperationLaws.{nothing-bytes}
 use Rattle.judgement.specs.Counts.{Counts, countRefused, count}
 use Rattle.judgement.specs.Judgement.{applicationOf, refusals, askersSlots, resultOf, changedBy, verdictOf, refusedEarly, oversizedStatus, judgement}
-use Rattle.judgement.specs.code.Decided.{headerTests, namedOr, authOf, askersLine, outputBytes, resultIn, Decided, AskerBelow}
+use Rattle.judgement.specs.code.Decided.{headerTestCount, headerTests, namedOr, authOf, askersLine, outputBytes, resultIn, Decided, AskerBelow}
 use Rattle.judgement.specs.declared.Status.{Status}
 use Rattle.judgement.specs.declared.Status.the-variants.{AuthenticationError, NotAuthenticated, BodySizeExceedsLimit}
 use Rattle.judgement.specs.declared.Asker.{Asker}
@@ -43,14 +43,14 @@ use Rattle.answer.specs.declared.Answered.{Answered}
 
 -- no test's status is Success
 pub header-status : (h : Header) (status : Status) → firstOf (headerTests h) ≡ some status → 0 < statusNumber status
-unfolding headerTests statusNumber
+unfolding headerTests refusals statusNumber
 header-status h status e =
     first-has (λ s. 0 < statusNumber s) (headerTests h)
     (omega arith, (omega arith, (omega arith, (omega arith, (omega arith, (omega arith, (omega arith, tt))))))) status e
 
 module _ (h : Header) (passed : PassedHeader h) where
   of-provider : oneOf (opcodesOf (h .provider)) (h .opcode) ≡ true
-  unfolding headerTests
+  unfolding headerTests refusals
   of-provider = not-false _ (none-at (headerTests h) 5 AuthenticationError passed)
 
   pub core-opcode : h .provider ≡ 0 → oneOf coreOpcodes (h .opcode) ≡ true
@@ -58,21 +58,17 @@ module _ (h : Header) (passed : PassedHeader h) where
   core-opcode e = rw (eq-eqb (h .provider) 0 e) at of-provider
 
   pub provider-small : h .provider ≤ 1
-  unfolding headerTests
+  unfolding headerTests refusals
   provider-small = ltb-false _ _ (none-at (headerTests h) 4 AuthenticationError passed)
 
   auth-type-small : h .«auth_type» ≤ 1
-  unfolding headerTests
+  unfolding headerTests refusals
   auth-type-small = ltb-false _ _ (none-at (headerTests h) 6 AuthenticationError passed)
 
 -- ---- the judgement's tests: those of the header, and then these
 
-unfoldable authTests : (registry : List ℕ) → Request → List (Bool × Status)
-authTests registry q =
-    (eqb (q .authType) 0 && ltb 0 (length (q .auth)), AuthenticationError)
-    ∷ (eqb (q .authType) 1 && not (isSome (applicationOf registry q)), AuthenticationError)
-    ∷ (eqb (q .provider) 1 && eqb (q .authType) 0, NotAuthenticated)
-    ∷ []
+abbrev authTests : (registry : List ℕ) → Request → List (Bool × Status)
+authTests registry q = drop headerTestCount (refusals registry q)
 
 -- ---- what the auth bytes decide
 
@@ -88,7 +84,7 @@ module _ (registry : List ℕ) (q : Request) where
   ToldBy (Accepted (Named line)) = Told (some line) none
 
   told : q .authType ≤ 1 → ToldBy (authOf (q .authType) (q .auth) (applicationNamed registry (q .auth)))
-  unfolding authOf namedOr firstOf authTests applicationOf isSome
+  unfolding authOf namedOr firstOf refusals applicationOf isSome
   told small = go (eqb (q .authType) 0) refl (ltb 0 (length (q .auth))) refl (applicationNamed registry (q .auth)) refl
     where
       go :
@@ -113,7 +109,7 @@ authFound registry bytes = authOf (requestOf bytes .authType) (requestOf bytes .
 
 module _ (list registry bytes : List ℕ) where
   all-tests : refusals registry (requestOf bytes) ≡ headerTests (headerOf bytes) ++ authTests registry (requestOf bytes)
-  unfolding refusals headerTests headerOf authTests
+  unfolding refusals headerTests headerOf
   all-tests = refl
 
   refused-result : (status : Status) → firstOf (refusals registry (requestOf bytes)) ≡ some status → resultOf list registry (requestOf bytes) ≡ refuse status

@@ -1,13 +1,13 @@
 -- What the code decides of a request, in the reading copy's terms.
 use Prim.Native.Nat.{ℕ, _+_, _≤_, _<_}
 use mathlib.Core.Path.{_≡_}
-use mathlib.Core.Bool.{Bool, false, _&&_, not}
+use mathlib.Core.Bool.{Bool, false}
 use mathlib.Core.Option.{Option, none, some}
-use mathlib.Core.List.{List, [], _∷_, _++_}
-use lib.ListN.{length, getD}
+use mathlib.Core.List.{List, [], _∷_}
+use lib.ListN.{length, getD, take}
 use lib.Dec.{ltb, eqb}
 use Rattle.wire.specs.Choice.{if_then_else_}
-use Rattle.wire.specs.Lists.{oneOf}
+use Rattle.wire.specs.Request.{Request}
 use Rattle.wire.specs.declared.header.Header.{Header}
 use Rattle.keys.specs.Key.{Key, dataMost, bitsMost}
 use Rattle.keys.specs.Names.{keyNameMost}
@@ -24,11 +24,11 @@ use Rattle.shipped.specs.code.Pairs.{partAt}
 use Rattle.lookup.specs.code.Places.{Within as PlaceWithin}
 use Rattle.lookup.specs.declared.Place.{Place}
 use Rattle.lookup.specs.declared.Place.the-variants.{Own, Listed, Nothing as Nowhere}
-use Rattle.messages.specs.Opcodes.{coreOpcodes, keystoreOpcodes, opcodesOf}
+use Rattle.messages.specs.Opcodes.{opcodesOf}
 use Rattle.judgement.specs.Status.{statusNumber}
 use Rattle.judgement.specs.Operations.{Result}
+use Rattle.judgement.specs.Judgement.{refusals}
 use Rattle.judgement.specs.declared.Status.{Status}
-use Rattle.judgement.specs.declared.Status.the-variants.{WrongProviderId, ContentTypeNotSupported, AcceptTypeNotSupported, WireProtocolVersionNotSupported, ProviderDoesNotExist, OpcodeDoesNotExist, AuthenticatorDoesNotExist}
 use Rattle.judgement.specs.declared.Checked.{Checked}
 use Rattle.judgement.specs.declared.Checked.the-variants.{Passed, Refused}
 use Rattle.judgement.specs.declared.Asker.{Asker}
@@ -43,16 +43,27 @@ use Rattle.judgement.specs.declared.Decision.{Decision}
 
 -- ---- the order's tests of the header alone, and of the auth bytes
 
+-- a request of this header, with no body and no auth bytes
+abbrev pub bareRequest : Header → Request
+bareRequest h = record {
+  major = h .major;
+  minor = h .minor;
+  provider = h .provider;
+  session = h .session;
+  contentType = h .«content_type»;
+  acceptType = h .«accept_type»;
+  authType = h .«auth_type»;
+  opcode = h .opcode;
+  body = [];
+  auth = [];
+}
+
+-- so many of the order's tests, the first, look at the header alone
+abbrev pub headerTestCount : ℕ
+headerTestCount = 7
+
 unfoldable pub headerTests : Header → List (Bool × Status)
-headerTests h =
-    (not (eqb (h .major) 1 && eqb (h .minor) 0), WireProtocolVersionNotSupported)
-    ∷ (not (eqb (h .«content_type») 1), ContentTypeNotSupported)
-    ∷ (not (eqb (h .«accept_type») 1), AcceptTypeNotSupported)
-    ∷ (not (oneOf (coreOpcodes ++ keystoreOpcodes) (h .opcode)), OpcodeDoesNotExist)
-    ∷ (ltb 1 (h .provider), ProviderDoesNotExist)
-    ∷ (not (oneOf (opcodesOf (h .provider)) (h .opcode)), WrongProviderId)
-    ∷ (ltb 1 (h .«auth_type»), AuthenticatorDoesNotExist)
-    ∷ []
+headerTests h = take headerTestCount (refusals [] (bareRequest h))
 
 unfoldable pub checkedOf : Option Status → Checked
 checkedOf none = Passed
