@@ -21,7 +21,7 @@ use Rattle.judgement.specs.Counts.{Counts, noCounts, sum, requestsIn, increment
 use Rattle.judgement.specs.Judgement.{refusedEarly, oversizedStatus, applicationOf, resultOf, verdictOf, judgement}
 use Rattle.judgement.specs.declared.Status.{Status}
 use Rattle.judgement.proofs.JudgementLaws.{asks}
-use Rattle.counters.proofs.CountersLaws.{index-below}
+use Rattle.judgement.proofs.StatusLaws.{index-below}
 
 pub sum-increment : (l : List ℕ) (i : ℕ) → i < length l → sum (increment l i) ≡ suc (sum l)
 unfolding sum increment

@@ -1,3 +1,4 @@
+pub mod StatusLaws
 pub mod SourceLaws
 pub mod Results
 pub mod JudgementLaws

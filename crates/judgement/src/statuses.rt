@@ -7,33 +7,6 @@ ghost use lib.ListN.{getD};
 ghost use Rattle.judgement.specs.Status.{statusNumber, refusedStatuses, refusedCount};
 ghost use Rattle.judgement.specs.Counts.{indexOf};
 
-pub fn status_number(status: Status) -> u16
-    ensures { λ r. ⌜ r ≡ statusNumber status ⌝ }
-{
-    match status {
-        Status::Success => 0,
-        Status::WrongProviderId => 1,
-        Status::ContentTypeNotSupported => 2,
-        Status::AcceptTypeNotSupported => 3,
-        Status::WireProtocolVersionNotSupported => 4,
-        Status::ProviderDoesNotExist => 6,
-        Status::DeserializingBodyFailed => 7,
-        Status::OpcodeDoesNotExist => 9,
-        Status::AuthenticationError => 11,
-        Status::AuthenticatorDoesNotExist => 12,
-        Status::InvalidHeader => 17,
-        Status::NotAuthenticated => 19,
-        Status::BodySizeExceedsLimit => 20,
-        Status::PsaErrorNotPermitted => 1133,
-        Status::PsaErrorNotSupported => 1134,
-        Status::PsaErrorInvalidArgument => 1135,
-        Status::PsaErrorAlreadyExists => 1139,
-        Status::PsaErrorDoesNotExist => 1140,
-        Status::PsaErrorInsufficientStorage => 1142,
-        Status::PsaErrorInvalidSignature => 1149,
-    }
-}
-
 // Where a status stands among the counters of refused requests; Success stands behind them.
 pub fn refused_index(status: Status) -> usize
     ensures { λ r. ⌜ r ≡ indexOf status refusedStatuses ⌝ }
@@ -63,7 +36,7 @@ pub fn refused_index(status: Status) -> usize
 }
 
 // The numbers of the statuses but Success, in the order of their counters.
-const REFUSED_NUMBERS: [u64; REFUSED_STATUSES] = [
+const REFUSED_NUMBERS: [u16; REFUSED_STATUSES] = [
     1,
     2,
     3,
@@ -85,10 +58,27 @@ const REFUSED_NUMBERS: [u64; REFUSED_STATUSES] = [
     1149,
 ];
 
+fn wide(number: u16) -> u64
+    ensures { λ r. ⌜ r ≡ number ⌝ }
+{
+    number as u64
+}
+
 // The number of the status whose refused requests counter i counts.
 pub fn refused_number(i: usize) -> u64
     requires { ⌜ i < refusedCount ⌝ }
     ensures { λ r. ⌜ r ≡ statusNumber (getD refusedStatuses i Status.Success) ⌝ }
 {
+    wide(REFUSED_NUMBERS[i])
+}
+
+pub fn status_number(status: Status) -> u16
+    ensures { λ r. ⌜ r ≡ statusNumber status ⌝ }
+{
+    let i = refused_index(status);
+    // Success.
+    if i == REFUSED_STATUSES {
+        return 0;
+    }
     REFUSED_NUMBERS[i]
 }

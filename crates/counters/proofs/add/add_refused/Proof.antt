@@ -5,9 +5,10 @@ use native.Mathlib.Numerals.{add-one}
 use native.Mathlib.Omega.{arith}
 use borrow.Author.Needs.{needs}
 use Rattle.judgement.specs.Counts.{increment, countServed, countRefused}
+use Rattle.judgement.proofs.StatusLaws.{index-below}
 use Rattle.counters.specs.Counters.{counterMost, maximum}
 use Rattle.counters.specs.code.Counted.{countEvent, refusedAfter, EventBelow, LowFor}
-use Rattle.counters.proofs.CountersLaws.{at-most-maximum, index-below}
+use Rattle.counters.proofs.CountersLaws.{at-most-maximum}
 use Rattle.counters.proofs.add.add_refused.Statement.{statement}
 use Rattle.counters.proofs.add.add_refused.Tie as tie
 
