@@ -24,9 +24,8 @@ use Rattle.messages.specs.Format.{messageBytes}
 use Rattle.messages.specs.Protobuf.{protobuf}
 use Rattle.messages.specs.Operations.{Operation, ping, listProviders, listOpcodes, importKey, destroyKey, exportPublicKey, verifySignature, opcodeOf, providerOf, operationBody}
 use Rattle.messages.proofs.WriteLaws.{provider-body-short, bytes-body-short, key-body-short}
-use Rattle.client_requests.specs.Writing.{Sender, senderOf, authTypeOf, authOf, legalSender, legalKeyName, legalKeyData, legalKeyBits, legalBody, requestBodyMost, requestFor, writeTests, writeOutcome}
+use Rattle.client_requests.specs.Writing.{Sender, senderOf, authTypeOf, authOf, legalSender, legalKeyName, legalKeyData, legalKeyBits, legalBody, requestBodyMost, requestAround, requestFor, writeTests, writeOutcome}
 use Rattle.client_requests.specs.code.Judged.{judgedAs}
-use Rattle.client_requests.specs.code.Around.{requestAround}
 use Rattle.client_requests.specs.declared.WriteRefusal.{WriteRefusal}
 use Rattle.client_requests.specs.declared.Written.the-variants.{Bytes, Refused}
 use Rattle.client_requests.specs.declared.judge.Judged.the-variants.{Legal, Refused as Forbidden}
@@ -90,7 +89,7 @@ pub around-on : (session : ℕ) (sender : Sender) (provider opcode size : ℕ) (
     → Wrote (requestHeader provider session 1 1 (authTypeOf sender) size (length (authOf sender)) opcode) l m k
     → Wrote (authOf sender) (take (length m - (k + size)) (drop (k + size) m)) n r
     → Wrote (requestBytes (requestAround session sender provider opcode (take size (drop requestLeast l)))) l (putMid (k + size) (length m - (k + size)) m n) (k + size + r)
-unfolding requestBytes requestAround
+unfolding requestBytes
 around-on session sender provider opcode size l {m} {n} {k} {r} room x y =
     let start : k ≡ requestLeast = x .count ∙ header-length provider session 1 1 (authTypeOf sender) size (length (authOf sender)) opcode in
     let z = wrote-on (behind-too _ l m k size (omega arith) x) y in
@@ -98,7 +97,7 @@ around-on session sender provider opcode size l {m} {n} {k} {r} room x y =
 
 request-length : (session : ℕ) (sender : Sender) (provider opcode : ℕ) (body : List ℕ)
     → length (requestBytes (requestAround session sender provider opcode body)) ≡ requestLeast + (length body + length (authOf sender))
-unfolding requestBytes requestAround
+unfolding requestBytes
 request-length session sender provider opcode body = simp (length-append, header-length)
 
 -- ---- the whole outcome
@@ -122,7 +121,7 @@ module _ (out : List ℕ) (session : ℕ) (sender : Sender) (operation : Operati
   pub written-outcome : {after : List ℕ} {r : ℕ} → judgedAs (firstOf (writeTests out sender operation)) ≡ Legal
       → Whole (operationBody protobuf operation) out after r
       → record { answer = Bytes r; out = after } ≡ writeOutcome out session sender operation
-  unfolding writeOutcome requestFor requestAround
+  unfolding writeOutcome requestFor
   written-outcome e w = rw (told-legal (firstOf (writeTests out sender operation)) e, writeOutcome, w .count, w .bytes)
 
   -- a body was written behind the header's place before
@@ -159,7 +158,7 @@ requestMost = requestLeast + (requestBodyMost + applicationNameMost)
 
 pub request-short : (out : List ℕ) (session : ℕ) (sender : Sender) (operation : Operation) → firstOf (writeTests out sender operation) ≡ none
     → length (requestBytes (requestFor session sender operation)) ≤ requestMost
-unfolding requestFor requestAround judgedAs
+unfolding requestFor judgedAs
 request-short out session sender operation e =
     let p = passed out sender operation (ap judgedAs e) in
     omega (

@@ -35,19 +35,24 @@ abbrev pub authOf : Sender → List ℕ
 authOf none = []
 authOf (some name) = name
 
-unfoldable pub requestFor : (session : ℕ) → Sender → Operation → Request
-requestFor session sender operation = record {
+-- around a body, of version 1.0 and with Protocol Buffers both ways
+abbrev pub requestAround : (session : ℕ) → Sender → (provider opcode : ℕ) (body : List ℕ) → Request
+requestAround session sender provider opcode body = record {
   major = 1;
   minor = 0;
-  provider = providerOf operation;
+  provider = provider;
   session = session;
   contentType = 1;
   acceptType = 1;
   authType = authTypeOf sender;
-  opcode = opcodeOf operation;
-  body = operationBody protobuf operation;
+  opcode = opcode;
+  body = body;
   auth = authOf sender;
 }
+
+unfoldable pub requestFor : (session : ℕ) → Sender → Operation → Request
+requestFor session sender operation =
+    requestAround session sender (providerOf operation) (opcodeOf operation) (operationBody protobuf operation)
 
 -- ---- what is refused, before a byte is written: a buffer below 5,120 bytes; names; data; bits; hash; body
 

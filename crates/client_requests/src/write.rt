@@ -28,8 +28,7 @@ ghost use Rattle.wire.specs.Choice.{if_then_else_};
 ghost use Rattle.wire.specs.Request.{requestLeast, requestBytes};
 ghost use Rattle.wire.specs.code.Wrote.{Wrote};
 ghost use Rattle.messages.specs.Operations.{ping, listProviders, listOpcodes, importKey, destroyKey, exportPublicKey, verifySignature};
-ghost use Rattle.client_requests.specs.Writing.{senderOf, authOf, legalSender, requestBufferLeast, requestBodyMost, writeOutcome};
-ghost use Rattle.client_requests.specs.code.Around.{requestAround};
+ghost use Rattle.client_requests.specs.Writing.{senderOf, authOf, requestAround, legalSender, requestBufferLeast, requestBodyMost, writeOutcome};
 
 // Of every request that is written.
 const HEADER_LENGTH: usize = 28;
