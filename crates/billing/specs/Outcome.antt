@@ -11,6 +11,7 @@ use Rattle.keys.specs.Names.{applicationNameMost}
 use Rattle.connection.specs.Connection.{wellFormedConnection}
 use Rattle.registry.specs.Registry.{lineCount, slotCount, namesIn}
 use Rattle.registry.specs.WellFormed.{wellFormedRegistry}
+use Rattle.judgement.specs.Status.{refusedCount}
 use Rattle.service.specs.Call.{Memory, stateIn}
 use Rattle.billing.specs.Bill.{billOf}
 use Rattle.billing.specs.declared.Billed.{Billed}
@@ -20,6 +21,18 @@ use Rattle.billing.specs.declared.Billed.the-variants.{Written, BufferTo
 abbrev pub digitsMost : ℕ
 digitsMost = 20
 
+-- "dropped" and "refused", the longest words
+abbrev pub wordMost : ℕ
+wordMost = 7
+
+-- a word and a number
+abbrev pub countLineMost : ℕ
+countLineMost = wordMost + (1 + digitsMost) + 1
+
+-- "refused" and two numbers
+abbrev pub refusedLineMost : ℕ
+refusedLineMost = wordMost + (1 + digitsMost) + (1 + digitsMost) + 1
+
 -- "line", a number, a name and a number
 abbrev pub applicationLineMost : ℕ
 applicationLineMost = 4 + (1 + digitsMost) + (1 + applicationNameMost) + (1 + digitsMost) + 1
@@ -28,9 +41,14 @@ applicationLineMost = 4 + (1 + digitsMost) + (1 + applicationNameMost) + (1 + di
 abbrev pub keyLineMost : ℕ
 keyLineMost = 3 + (1 + digitsMost) + (1 + digitsMost) + (1 + digitsMost) + 1
 
--- a buffer of so many bytes has room for every bill: the lines of totals and statuses, and those of each application and its keys
+-- bytes that no bill needs: the least buffer is the 6,336 bytes that callers were told
+abbrev pub billSpare : ℕ
+billSpare = 86
+
+-- a buffer of so many bytes has room for every bill: four lines of totals, a line for each status, and for each application its
+-- line and those of its keys
 abbrev pub billMost : ℕ
-billMost = 1152 + lineCount * (applicationLineMost + slotCount * keyLineMost)
+billMost = billSpare + 4 * countLineMost + refusedCount * refusedLineMost + lineCount * (applicationLineMost + slotCount * keyLineMost)
 
 -- the names of the used lines, which come first
 unfoldable pub usedNames : (names : List (List ℕ)) → List (List ℕ)

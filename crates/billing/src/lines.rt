@@ -23,8 +23,8 @@ ghost use Rattle.registry.specs.WellFormed.{wellFormedRegistry};
 ghost use Rattle.judgement.specs.Status.{refusedStatuses, refusedCount};
 ghost use Rattle.billing.specs.Ascii.{ascii};
 ghost use Rattle.billing.specs.Bill.{decimal, textLine, applicationLines, keyLine, slotLines, keyLines, refusedLines};
-ghost use Rattle.billing.specs.Outcome.{applicationLineMost, keyLineMost, usedNames};
-ghost use Rattle.billing.specs.code.Text.{wordMost, countLineMost, refusedLineMost, Placed, refusedLine};
+ghost use Rattle.billing.specs.Outcome.{wordMost, countLineMost, refusedLineMost, applicationLineMost, keyLineMost, usedNames};
+ghost use Rattle.billing.specs.code.Text.{Placed, refusedLine};
 
 // A line of a word and a number.
 pub fn write_count(out: &mut [u8], at: usize, word: &[u8], n: u64) -> usize

@@ -8,23 +8,6 @@ use Rattle.wire.specs.Choice.{if_then_else_}
 use Rattle.wire.specs.Lists.{put}
 use Rattle.billing.specs.Ascii.{ascii}
 use Rattle.billing.specs.Bill.{decimal, textLine}
-use Rattle.billing.specs.Outcome.{digitsMost}
-
--- ---- the longest texts
-
--- "dropped" and "refused"
-abbrev pub wordMost : ℕ
-wordMost = 7
-
--- a word and a number
-abbrev pub countLineMost : ℕ
-countLineMost = wordMost + (1 + digitsMost) + 1
-
--- "refused" and two numbers
-abbrev pub refusedLineMost : ℕ
-refusedLineMost = wordMost + (1 + digitsMost) + (1 + digitsMost) + 1
-
--- ---- what is written
 
 -- text was written into d from `at` on, which is now e; it ends at r
 pub record Placed (text d e : List ℕ) (at r : ℕ) : Type 0 where

@@ -4,7 +4,7 @@ use Prim.Native.Nat.{_+_, _-_, _*_, _≤_}
 use native.Mathlib.Omega.{arith}
 use borrow.Author.Needs.{needs}
 use Rattle.judgement.specs.Status.{refusedCount}
-use Rattle.billing.specs.code.Text.{refusedLineMost}
+use Rattle.billing.specs.Outcome.{refusedLineMost}
 use Rattle.billing.proofs.PlacedLaws.{Leaves, leaves-all, leaves-rest, leaves-none}
 use Rattle.billing.proofs.LineLaws.{refusedFrom, refused-next, refused-end}
 use Rattle.billing.proofs.lines.write_refusals.Statement.{statement}

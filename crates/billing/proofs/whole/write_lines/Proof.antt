@@ -8,8 +8,7 @@ use Rattle.counters.specs.Counters.{totalsOf}
 use Rattle.service.specs.Call.{stateIn}
 use Rattle.billing.specs.Ascii.{ascii}
 use Rattle.billing.specs.Bill.{billOf}
-use Rattle.billing.specs.code.Text.{countLineMost, refusedLineMost}
-use Rattle.billing.specs.Outcome.{applicationLineMost, keyLineMost, billIn}
+use Rattle.billing.specs.Outcome.{countLineMost, refusedLineMost, applicationLineMost, keyLineMost, billIn}
 use Rattle.billing.proofs.PlacedLaws.{placed-on, placed-front}
 use Rattle.billing.proofs.whole.write_lines.Statement.{statement}
 use Rattle.billing.proofs.whole.write_lines.Tie as tie
