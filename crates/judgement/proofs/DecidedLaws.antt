@@ -29,7 +29,7 @@ use Rattle.lookup.specs.declared.Place.the-variants.{Own, Listed, Nothing as No
 use Rattle.lookup.proofs.LookupLaws.{Alike}
 use Rattle.rsa.specs.Signature.{verification}
 use Rattle.messages.specs.Protobuf.{protobuf}
-use Rattle.messages.specs.Operations.{Operation, Asking, asks, garbled, asked, operationOf, nothing}
+use Rattle.messages.specs.Operations.{Operation, asks, garbled, asked, operationOf, nothing}
 use Rattle.messages.specs.Operations as message
 use Rattle.messages.specs.Placed.{keyIn}
 use Rattle.messages.specs.declared.ask.KeyPlaces.{KeyPlaces}

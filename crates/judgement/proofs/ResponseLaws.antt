@@ -3,11 +3,9 @@ use mathlib.Core.Path.{_≡_, refl, ap}
 use mathlib.Core.Bool.{true}
 use mathlib.Core.Option.{Option, none, some}
 use mathlib.Core.List.{List, [], _∷_, _++_}
-use Prim.Native.Nat.{ℕ, _+_, _*_, _/_, _≤_, _<_}
+use Prim.Native.Nat.{ℕ, _+_, _≤_, _<_}
 use native.Mathlib.Omega.{arith}
-use borrow.Author.Tests.{lt-ltb}
-use lib.ListN.{length, take, getD, length-append}
-use lib.Dec.{ltb}
+use lib.ListN.{length, take, getD}
 use Rattle.wire.specs.Numbers.{littleEndianOf}
 use Rattle.wire.specs.Request.{Request, requestOf}
 use Rattle.wire.specs.Response.{responseHeader, responseBytes}

@@ -5,7 +5,7 @@ use mathlib.Core.Path.{_≡_, refl, ap}
 use mathlib.Core.Option.{some}
 use mathlib.Core.List.{List, [], _++_, append-nil, map}
 use lib.ListN.{length}
-use Rattle.protobuf.specs.Written.{numberField, bytesField, packedField}
+use Rattle.protobuf.specs.Written.{numberField, bytesField}
 use Rattle.messages.specs.Message.{Message, kindOf, AllFit, numberOf, octetsOf, numbersOf, valueAt}
 use Rattle.messages.specs.Format.{Format, messageBytes, readMessage}
 use Rattle.messages.specs.Protobuf.{protobuf}
@@ -64,14 +64,6 @@ nothing-bytes = refl
 pub version-bytes : (major minor : ℕ) → outputBytes protobuf (version major minor) ≡ numberField 1 major ++ numberField 2 minor
 unfolding outputBytes messageBytes
 version-bytes major minor = ap (λ (l : List ℕ). numberField 1 major ++ l) (append-nil (numberField 2 minor))
-
-pub providers-bytes : (list : List ℕ) → outputBytes protobuf (providers list) ≡ packedField 1 list
-unfolding outputBytes messageBytes
-providers-bytes list = append-nil (packedField 1 list)
-
-pub opcodes-bytes : (list : List ℕ) → outputBytes protobuf (opcodes list) ≡ packedField 1 list
-unfolding outputBytes messageBytes
-opcodes-bytes list = append-nil (packedField 1 list)
 
 pub exported-bytes : (data′ : List ℕ) → outputBytes protobuf (exported data′) ≡ bytesField 1 data′
 unfolding outputBytes messageBytes

@@ -22,14 +22,12 @@ use Rattle.protobuf.specs.declared.field.Field.the-variants.{Number, Span, Fixe
 use Rattle.protobuf.specs.declared.group.Group.{Group}
 use Rattle.protobuf.specs.declared.group.Group.the-variants.{Skipped, Unreadable as noGroup}
 use Rattle.fields.specs.declared.Kind.{Kind as ProtoKind}
-use Rattle.fields.specs.declared.Kind.the-variants.{Bytes, Uint32, Boolean, Unlisted}
-use Rattle.fields.specs.declared.Schema.{Schema as ProtoSchema}
 use Rattle.fields.specs.declared.Value.{Value as Place}
 use Rattle.fields.specs.declared.Values.{Values as Places}
 use Rattle.fields.specs.declared.Body.{Body}
-use Rattle.fields.specs.declared.Body.the-variants.{Message as Readable, Unreadable}
-use Rattle.messages.specs.Message.{Kind, uint32, bool, bytes, uint32s, Value, number, flag, octets, numbers, Schema, Message, kindAt, absent}
-use Rattle.messages.specs.Format.{skipped, fieldWith, listed, Reading, read, broken, SoFar, turnOf, turnAt, readMessage}
+use Rattle.fields.specs.declared.Body.the-variants.{Message as Readable}
+use Rattle.messages.specs.Message.{Kind, uint32, bool, bytes, uint32s, number, flag, octets, numbers, Schema, Message, kindAt, absent}
+use Rattle.messages.specs.Format.{skipped, fieldWith, listed, Reading, read, SoFar, turnOf, turnAt, readMessage}
 use Rattle.messages.specs.code.Places.{kindPlaced, schemaPlaced, NoLists, valueOf, valuesOf, five, seen}
 use Rattle.messages.specs.Protobuf.{ofVarint, ofSpan, isOfWire, ofGroup, fieldOf, protobuf}
 

@@ -11,7 +11,6 @@ use Rattle.fields.specs.declared.Schema.{Schema}
 use Rattle.fields.specs.declared.Values.{Values}
 use Rattle.protobuf.specs.declared.message.Step.{Step}
 use Rattle.protobuf.specs.declared.message.Step.the-variants.{Next, Refuse}
-use Rattle.fields.specs.declared.Body.{Body}
 use Rattle.fields.specs.declared.Body.the-variants.{Message, Unreadable}
 use Rattle.protobuf.proofs.FieldLaws.{Ahead}
 use Rattle.protobuf.proofs.StepLaws.{StepAhead, StepIn, step-ahead, step-in}

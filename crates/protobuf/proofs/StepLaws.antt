@@ -15,7 +15,6 @@ use Rattle.protobuf.specs.declared.group.Group.the-variants.{Skipped, Un
 use Rattle.fields.specs.declared.Kind.{Kind}
 use Rattle.fields.specs.declared.Kind.the-variants.{Bytes, Uint32, Boolean, Unlisted}
 use Rattle.fields.specs.declared.Schema.{Schema}
-use Rattle.fields.specs.declared.Value.{Value}
 use Rattle.fields.specs.declared.Values.{Values}
 use Rattle.protobuf.specs.declared.message.Item.{Item}
 use Rattle.protobuf.specs.declared.message.Item.the-variants.{Keep, Skip, Refuse}
