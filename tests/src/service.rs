@@ -3,48 +3,34 @@
 
 use crate::ask::{record, registry_of};
 use crate::lent::to_reference;
-use razidkot::{Connection, Counters, Registry, LEAST_RESPONSE_BUFFER, LONGEST_CHUNK};
+use razidkot::{Buffers, Connection, List, Registry, Service, LONGEST_CHUNK};
 use reference::rules;
 
-struct Service {
-    registry: Registry,
-    connection: Connection,
-    counters: Counters,
+/// A service with a roster of these names, no keys, and a good list.
+fn service_of(names: &[Vec<u8>], list: &[u8]) -> Service {
+    let roster: Vec<u8> = names.iter().flat_map(|name| record(1, name)).collect();
+    let registry = Registry::load(&roster).expect("a good roster");
+    Service::new(registry, List::from_bytes(list).expect("a good list"))
 }
 
-impl Service {
-    fn new(names: &[Vec<u8>]) -> Service {
-        let roster: Vec<u8> = names.iter().flat_map(|name| record(1, name)).collect();
-        Service {
-            registry: Registry::load(&roster).expect("a good roster"),
-            connection: Connection::open(),
-            counters: Counters::default(),
-        }
+/// Hands the stream over in chunks of these sizes, over and over; gives the responses.
+pub fn send(
+    service: &mut Service,
+    connection: &mut Connection,
+    stream: &[u8],
+    sizes: &[usize],
+) -> Vec<Vec<u8>> {
+    let (mut responses, mut buffers) = (Vec::new(), Buffers::new());
+    let mut sizes = sizes.iter().copied().cycle();
+    let mut rest = stream;
+    while !rest.is_empty() {
+        let size = sizes.next().unwrap_or(LONGEST_CHUNK).min(rest.len());
+        let answer = service.call(connection, &rest[..size], &mut buffers);
+        let answer = answer.expect("a call that is taken");
+        responses.extend(answer.response.map(<[u8]>::to_vec));
+        rest = &rest[answer.taken..];
     }
-
-    /// Hands the stream over in chunks of these sizes, over and over; gives the responses.
-    fn send(&mut self, list: &[u8], stream: &[u8], sizes: &[usize]) -> Vec<Vec<u8>> {
-        let mut buffer = [0x55; LEAST_RESPONSE_BUFFER];
-        let mut sizes = sizes.iter().copied().cycle();
-        let mut responses = Vec::new();
-        let mut rest = stream;
-        while !rest.is_empty() {
-            let size = sizes.next().unwrap_or(LONGEST_CHUNK).min(rest.len());
-            let Service {
-                registry,
-                connection,
-                counters,
-            } = self;
-            let answer = connection
-                .call(registry, list, counters, &rest[..size], &mut buffer)
-                .expect("a call that is taken");
-            if answer.written > 0 {
-                responses.push(buffer[..answer.written].to_vec());
-            }
-            rest = &rest[answer.taken..];
-        }
-        responses
-    }
+    responses
 }
 
 /// `responses_with_list` with the empty list.
@@ -61,15 +47,15 @@ pub fn responses_with_list(
     stream: &[u8],
     sizes: &[usize],
 ) -> Vec<Vec<u8>> {
-    let mut service = Service::new(names);
-    let responses = service.send(list, stream, sizes);
+    let (mut service, mut connection) = (service_of(names, list), Connection::open());
+    let responses = send(&mut service, &mut connection, stream, sizes);
     let expected = rules::run_with_list(&registry_of(names), list, stream);
     assert_eq!(responses, expected.responses);
-    assert!(service.registry.memory() == expected.registry, "registry");
-    let connection = expected.connection.to_memory();
-    assert!(service.connection.memory() == connection, "connection");
+    assert!(service.registry().memory() == expected.registry, "registry");
+    let held = expected.connection.to_memory();
+    assert!(connection.memory() == held, "connection");
     let is_closed = expected.connection == rules::ConnectionState::Closed;
-    assert_eq!(service.connection.is_closed(), is_closed);
-    assert_eq!(to_reference(&service.counters), expected.counters);
+    assert_eq!(connection.is_closed(), is_closed);
+    assert_eq!(to_reference(service.counters()), expected.counters);
     responses
 }

@@ -1,9 +1,10 @@
 //! Both sides of each bound, and the ★ cases, on the compiled service and under the rules of the
 //! reference: document 01, "Either side of each bound".
 
-use razidkot::{Connection, Counters, Refusal, Registry};
+use razidkot::Refusal;
 use razidkot_tests::ask::*;
 use razidkot_tests::layout::{Key, SLOTS};
+use razidkot_tests::lent::Lent;
 use razidkot_tests::requests::{with_header_size, with_lengths};
 use razidkot_tests::service;
 
@@ -176,10 +177,11 @@ fn a_ninth_import_under_a_held_name_already_exists() {
 
 #[test]
 fn a_buffer_of_1_024_bytes_is_enough_and_one_of_1_023_is_not() {
-    let mut registry = Registry::load(b"").expect("a roster of none");
-    let (mut connection, mut counters) = (Connection::open(), Counters::default());
-    let mut call =
-        |buffer: &mut [u8]| connection.call(&mut registry, b"", &mut counters, &ping(), buffer);
-    assert_eq!(call(&mut [0; 1_023]), Err(Refusal::ResponseBufferTooSmall));
-    assert_eq!(call(&mut [0; 1_024]).map(|answer| answer.written), Ok(28));
+    let mut lent = Lent::fresh(&registry_of(&[]), b"");
+    let mut call = |buffer| {
+        lent.renew_response(buffer, 0x55);
+        lent.call_proved(&ping()).result()
+    };
+    assert_eq!(call(1_023), Err(Refusal::ResponseBufferTooSmall));
+    assert_eq!(call(1_024).map(|answer| answer.written), Ok(28));
 }

@@ -5,12 +5,12 @@
 mod programs;
 
 use programs::{compile, printed, printed_by_package, repository, C, CPP};
-use razidkot::{Connection, Counters, Registry, LEAST_RESPONSE_BUFFER};
 use razidkot_client::raw::{self, Answer, OutputNumbers};
 use razidkot_client::{
     Opcode, Operation, Provider, ReadRefusal, Reader, Reading, Request, Response, Status,
     WriteRefusal, LEAST_REQUEST_BUFFER,
 };
+use razidkot_tests::service::responses;
 use std::collections::BTreeMap;
 use std::fmt::Debug;
 use std::fs;
@@ -378,17 +378,7 @@ fn bytes_of(request: &Request) -> Vec<u8> {
 
 /// All responses of a fresh connection to these bytes, joined.
 fn served(bytes: &[u8]) -> Vec<u8> {
-    let mut registry = Registry::load(b"\x01\x01\x00b").expect("a roster");
-    let (mut connection, mut counters) = (Connection::open(), Counters::default());
-    let (mut rest, mut joined) = (bytes, Vec::new());
-    while !rest.is_empty() {
-        let mut response = [0; LEAST_RESPONSE_BUFFER];
-        let answer = connection.call(&mut registry, b"", &mut counters, rest, &mut response);
-        let answer = answer.expect("a call that is taken");
-        joined.extend_from_slice(&response[..answer.written]);
-        rest = &rest[answer.taken..];
-    }
-    joined
+    responses(&[b"b".to_vec()], bytes, &[]).concat()
 }
 
 /// Hands the bytes to one reader after the other, in chunks of this length.

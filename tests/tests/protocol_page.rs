@@ -8,13 +8,14 @@ use page::drafts::drafts;
 use page::labels::{header_fields, provider_text, Field, Headers};
 use page::play::{play, Setting};
 use page::text::{examples, number, page, repository_file, table, Example};
-use razidkot::{Connection, Counters, Refusal, Registry, RosterFault, Status};
-use razidkot::{LEAST_RESPONSE_BUFFER, LONGEST_LIST, MOST_LISTED_KEYS};
+use razidkot::{Connection, List, Refusal, Registry, RosterFault, Service, Status};
+use razidkot::{LONGEST_LIST, MOST_LISTED_KEYS};
 use razidkot_client::{Opcode, Provider, ReadRefusal, WriteRefusal};
 use razidkot_tests::ask::{request, PING};
 use razidkot_tests::foreign;
 use razidkot_tests::layout::SLOTS;
 use razidkot_tests::requests::with_lengths;
+use razidkot_tests::service::send;
 use std::collections::{BTreeMap, BTreeSet};
 use std::fmt::Debug;
 
@@ -377,31 +378,27 @@ fn the_fields_are_those_of_the_proto_file() {
 
 // ---- The order of judgement
 
-/// The status of each response to these bytes, on a fresh connection.
-fn statuses(registry: &mut Registry, bytes: &[u8]) -> Vec<u64> {
-    let (mut connection, mut counters) = (Connection::open(), Counters::default());
-    let (mut rest, mut statuses) = (bytes, Vec::new());
-    while !rest.is_empty() {
-        let mut response = [0; LEAST_RESPONSE_BUFFER];
-        let answer = connection.call(registry, b"", &mut counters, rest, &mut response);
-        let answer = answer.expect("a call that is taken");
-        if answer.written > 0 {
-            statuses.push(u16::from_le_bytes([response[24], response[25]]).into());
-        }
-        rest = &rest[answer.taken..];
-    }
-    statuses
+/// A service of this roster, without shipped keys.
+fn service_of(roster: &[u8]) -> Service {
+    Service::new(Registry::load(roster).expect("a roster"), List::new())
 }
 
-/// A registry in which `ct` holds as many keys as it may: `a` and those behind it.
-fn full_registry() -> Registry {
-    let mut registry = Registry::load(b"\x01\x02\0ct").expect("a roster");
+/// The status of each response to these bytes, on a fresh connection.
+fn statuses(service: &mut Service, bytes: &[u8]) -> Vec<u64> {
+    let responses = send(service, &mut Connection::open(), bytes, &[]);
+    let status = |response: &Vec<u8>| u16::from_le_bytes([response[24], response[25]]).into();
+    responses.iter().map(status).collect()
+}
+
+/// A service in which `ct` holds as many keys as it may: `a` and those behind it.
+fn full_service() -> Service {
+    let mut service = service_of(b"\x01\x02\0ct");
     for name in (b'a'..).take(SLOTS) {
         let mut import = drafts()[0].bytes();
         import[28 + 2] = name;
-        assert_eq!(statuses(&mut registry, &import), [0]);
+        assert_eq!(statuses(&mut service, &import), [0]);
     }
-    registry
+    service
 }
 
 fn order_of_judgement() -> Vec<u64> {
@@ -420,10 +417,10 @@ fn order_of_judgement() -> Vec<u64> {
 #[test]
 fn the_order_of_judgement_is_that_of_the_compiled_service() {
     let order = order_of_judgement();
-    let mut registry = full_registry();
+    let mut service = full_service();
     for draft in drafts() {
         let first = order.iter().copied().find(|&status| draft.has(status));
-        let said = statuses(&mut registry, &draft.bytes());
+        let said = statuses(&mut service, &draft.bytes());
         assert_eq!(said, Vec::from_iter(first), "{draft:?}");
     }
     // Every status of the third step is there, or named below the table.
@@ -525,8 +522,8 @@ fn ping_of_header_size(size: u64) -> Vec<u8> {
 #[test]
 fn the_limits_of_a_request_are_those_of_the_compiled_service() {
     let limits = limits();
-    let mut registry = Registry::load(b"").expect("a roster of nobody");
-    let mut status = |request: Vec<u8>| statuses(&mut registry, &request)[0];
+    let mut service = service_of(b"");
+    let mut status = |request: Vec<u8>| statuses(&mut service, &request)[0];
     let (least, most) = limits["H of a request"];
     for (size, expected) in [(least - 1, 17), (least, 0), (most, 0), (most + 1, 17)] {
         assert_eq!(status(ping_of_header_size(size)), expected, "H {size}");

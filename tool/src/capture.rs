@@ -3,8 +3,7 @@
 use crate::arguments::Arguments;
 use crate::request::Request;
 use crate::{input, list, roster, Failure};
-use razidkot::{Connection, Counters, Held, List, Registry, Status};
-use razidkot::{LEAST_RESPONSE_BUFFER, LONGEST_CHUNK};
+use razidkot::{Buffers, Connection, Held, List, Service, Status, LONGEST_CHUNK};
 use std::fs::File;
 use std::io::{self, Write};
 use std::path::PathBuf;
@@ -28,7 +27,7 @@ pub fn run(mut arguments: Arguments, out: &mut dyn Write) -> Result<(), Failure>
 
     let registry = roster::load(&roster)?;
     let list = list.map_or(Ok(List::new()), |file| list::load(&file))?;
-    let mut capture = Capture::new(registry, list);
+    let mut capture = Capture::new(Service::new(registry, list));
     let failed = |error| Failure::at(&file, error);
     let mut stream = File::open(&file).map_err(failed)?;
     let mut chunk = vec![0; LONGEST_CHUNK];
@@ -44,45 +43,35 @@ pub fn run(mut arguments: Arguments, out: &mut dyn Write) -> Result<(), Failure>
 
 /// The service, and what is needed to show the request that it is at.
 struct Capture {
-    registry: Registry,
-    list: List,
+    service: Service,
     connection: Connection,
-    counters: Counters,
     /// The first bytes of that request.
     request: Vec<u8>,
 }
 
 impl Capture {
-    fn new(registry: Registry, list: List) -> Capture {
+    fn new(service: Service) -> Capture {
         Capture {
-            registry,
-            list,
+            service,
             connection: Connection::open(),
-            counters: Counters::default(),
             request: Vec::new(),
         }
     }
 
     /// Shows the requests that this chunk finishes.
     fn show(&mut self, chunk: &[u8], out: &mut dyn Write) -> io::Result<()> {
-        let mut response = [0; LEAST_RESPONSE_BUFFER];
+        let mut buffers = Buffers::new();
         let mut rest = chunk;
         while !rest.is_empty() {
-            let offset = self.counters.answered;
-            let Capture {
-                registry,
-                list,
-                connection,
-                counters,
-                ..
-            } = self;
-            let answer = connection
-                .call(registry, list.bytes(), counters, rest, &mut response)
-                .expect("room, a chunk in bounds, and counters of fewer than 2^62 bytes");
+            let offset = self.service.counters().answered;
+            let answer = self
+                .service
+                .call(&mut self.connection, rest, &mut buffers)
+                .expect("a chunk in bounds, and counters of fewer than 2^62 bytes");
             let (taken, behind) = rest.split_at(answer.taken);
             let room = LONGEST_REQUEST - self.request.len();
             self.request.extend(&taken[..taken.len().min(room)]);
-            if answer.written > 0 {
+            if let Some(response) = answer.response {
                 let status = u16::from_le_bytes([response[24], response[25]]);
                 self.show_request(offset, status, out)?;
             }
@@ -93,7 +82,7 @@ impl Capture {
 
     /// Shows the request that was just answered, and begins the next.
     fn show_request(&mut self, offset: u64, status: u16, out: &mut dyn Write) -> io::Result<()> {
-        let length = self.counters.answered - offset;
+        let length = self.service.counters().answered - offset;
         let name = Status::from_number(status).map_or("-".into(), |status| format!("{status:?}"));
         // One with a wrong start has no header whose fields could be told.
         let request = Request::new(&self.request);
@@ -110,13 +99,14 @@ impl Capture {
 
     /// Shows what is behind the last request.
     fn end(&self, out: &mut dyn Write) -> io::Result<()> {
-        let (offset, held) = (self.counters.answered, self.connection.held());
+        let counters = self.service.counters();
+        let (offset, held) = (counters.answered, self.connection.held());
         let length = held.count();
         if length > 0 {
             let what = said(held);
             writeln!(out, "{offset:>10} {length:>10}    held {what}")?;
         }
-        let length = self.counters.dropped;
+        let length = counters.dropped;
         if length > 0 {
             writeln!(out, "{offset:>10} {length:>10} dropped behind a close")?;
         }

@@ -70,7 +70,7 @@ fn request_length(request: &[u8]) -> u64 {
 #[cfg(test)]
 mod tests {
     use super::Held;
-    use crate::{Connection, Counters, Registry, LEAST_RESPONSE_BUFFER};
+    use crate::{Buffers, Connection, List, Registry, Service};
 
     /// A Ping with this header size and these lengths of body and auth bytes; zeros fill it up.
     fn request(header: u16, content: u32, auth: u16) -> Vec<u8> {
@@ -87,15 +87,15 @@ mod tests {
 
     /// The connection behind these bytes, and the bill's `held` of it.
     fn behind(bytes: &[u8]) -> (Connection, u64) {
-        let mut registry = Registry::load(b"").expect("a roster of nobody");
-        let (mut connection, mut counters) = (Connection::open(), Counters::default());
-        let mut response = [0; LEAST_RESPONSE_BUFFER];
+        let registry = Registry::load(b"").expect("a roster of nobody");
+        let mut service = Service::new(registry, List::new());
+        let (mut connection, mut buffers) = (Connection::open(), Buffers::new());
         let mut rest = bytes;
         while !rest.is_empty() {
-            let answer = connection.call(&mut registry, b"", &mut counters, rest, &mut response);
+            let answer = service.call(&mut connection, rest, &mut buffers);
             rest = &rest[answer.expect("a call that is taken").taken..];
         }
-        let bill = connection.bill(&registry, &counters);
+        let bill = service.bill(&connection);
         let held = bill
             .lines()
             .last()

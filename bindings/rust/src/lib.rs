@@ -1,49 +1,43 @@
 //! The compiled, proved key service, for Rust. It reads requests on a connection, keeps a registry
 //! of public keys for a roster of applications, writes responses and counts.
 //!
-//! Load a [`Registry`] from a roster file, open a [`Connection`], and hand bytes over with
-//! [`Connection::call`]. Each call writes one response at most. Several connections can share a
-//! registry and counters, and `&mut` has them take turns. Each call is lent a [`List`] of keys that
-//! are every application's.
+//! Make a [`Service`] of a [`Registry`], which is loaded from a roster file, and of a [`List`] of keys
+//! that are every application's. Open a [`Connection`] for each client, and hand its bytes over with
+//! [`Service::call`]. Each call writes one response at most. Any number of connections share a
+//! service.
 //!
 //! ```
-//! use razidkot::{Connection, Counters, List, Registry, LEAST_RESPONSE_BUFFER};
+//! use razidkot::{Buffers, Connection, List, Refusal, Registry, Service, Status, LONGEST_CHUNK};
 //!
 //! /// Hands over all of the bytes, and gives the responses.
 //! fn send(
-//!     registry: &mut Registry,
-//!     list: &List,
+//!     service: &mut Service,
 //!     connection: &mut Connection,
-//!     counters: &mut Counters,
 //!     bytes: &[u8],
-//! ) -> Result<Vec<Vec<u8>>, razidkot::Refusal> {
-//!     let mut responses = Vec::new();
-//!     let mut buffer = [0; LEAST_RESPONSE_BUFFER];
-//!     for chunk in bytes.chunks(4_096) {
+//! ) -> Result<Vec<Vec<u8>>, Refusal> {
+//!     let (mut responses, mut buffers) = (Vec::new(), Buffers::new());
+//!     for chunk in bytes.chunks(LONGEST_CHUNK) {
 //!         let mut rest = chunk;
 //!         while !rest.is_empty() {
-//!             let answer = connection.call(registry, list.bytes(), counters, rest, &mut buffer)?;
-//!             if answer.written > 0 {
-//!                 responses.push(buffer[..answer.written].to_vec());
-//!             }
+//!             let answer = service.call(connection, rest, &mut buffers)?;
+//!             responses.extend(answer.response.map(<[u8]>::to_vec));
 //!             rest = &rest[answer.taken..];
 //!         }
 //!     }
 //!     Ok(responses)
 //! }
 //!
-//! let mut registry = Registry::load(b"\x01\x07\x00scanner")?;
 //! let mut list = List::new();
 //! list.push(b"release-2027", b"\xAA\xBB")?;
+//! let mut service = Service::new(Registry::load(b"\x01\x07\x00scanner")?, list);
 //! let mut connection = Connection::open();
-//! let mut counters = Counters::default();
 //! // No request begins like this: one response with status 17, and the connection is closed.
-//! let http = b"GET / HTTP/1.0";
-//! let responses = send(&mut registry, &list, &mut connection, &mut counters, http)?;
+//! let responses = send(&mut service, &mut connection, b"GET / HTTP/1.0")?;
 //! assert_eq!(responses.len(), 1);
 //! assert_eq!(responses[0][24..26], [17, 0]);
 //! assert!(connection.is_closed());
-//! assert_eq!(counters.refused_with(razidkot::Status::InvalidHeader), 1);
+//! let counters = service.counters();
+//! assert_eq!(counters.refused_with(Status::InvalidHeader), 1);
 //! assert_eq!((counters.answered, counters.dropped), (6, 8));
 //! # Ok::<(), Box<dyn std::error::Error>>(())
 //! ```
@@ -56,15 +50,19 @@ mod foreign;
 mod held;
 mod list;
 pub mod raw;
+mod refusal;
 mod registry;
+mod service;
 
 pub use application::{Application, Key, SLOTS};
-pub use connection::{Answer, Connection, Refusal};
+pub use connection::Connection;
 pub use counters::Counters;
 pub use held::Held;
 pub use list::{List, ListFault, ListedKey, LONGEST_LIST, MOST_LISTED_KEYS};
 pub use razidkot_status::{Status, REFUSED_STATUSES};
+pub use refusal::Refusal;
 pub use registry::{IllFormed, Registry, RosterFault};
+pub use service::{Answer, Buffers, Service};
 
 /// The one size of registry memory.
 pub const REGISTRY_SIZE: usize = 41_672;

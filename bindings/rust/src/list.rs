@@ -95,7 +95,7 @@ impl List {
         read(&self.bytes).expect("a good list").into_iter()
     }
 
-    /// The list's bytes, to be lent to a call or written to a file.
+    /// The list's bytes, to be written to a file or lent to [`raw::call`].
     pub fn bytes(&self) -> &[u8] {
         &self.bytes
     }

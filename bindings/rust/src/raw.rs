@@ -56,20 +56,18 @@ pub struct Answer {
 }
 
 impl Answer {
-    /// The same with a type for each case.
-    pub fn result(self) -> Result<crate::Answer, Refusal> {
+    /// The answer of a call that is taken; else why it is not.
+    pub fn result(self) -> Result<Answer, Refusal> {
         match self.code {
-            0 => Ok(crate::Answer {
-                taken: self.taken,
-                written: self.written,
-            }),
+            0 => Ok(self),
             code => Err(Refusal::ALL[code as usize - 1]),
         }
     }
 }
 
-/// [`Connection::call`](crate::Connection::call) on any memory; the response buffer and the chunk
-/// are judged before connection, registry, counters and list.
+/// [`Service::call`](crate::Service::call) on any memory. The response is written to the front of
+/// `response`, and bytes past it stay. The response buffer and the chunk are judged before connection,
+/// registry, counters and list.
 ///
 /// ```
 /// use razidkot::{raw, Counters, Refusal, CONNECTION_SIZE, REGISTRY_SIZE};

@@ -1,18 +1,18 @@
 //! A client of the key service in Rust: lists the providers, imports a key, exports it, asks for one
 //! that is not there and destroys the first; then it has signatures checked with another. It prints
-//! what came back. It reads from any stream; here the service is in the same program (`service.rs`)
+//! what came back. It reads from any stream; here the service is in the same program (`stream.rs`)
 //! and stands for a socket.
 //!
 //!     rt staticlib abi && rt staticlib client_abi && cargo run --quiet -p razidkot-client-example
 
 mod client;
 mod series;
-mod service;
+mod stream;
 
 use client::Client;
 use razidkot_client::{Import, Operation, Output, Reader, Reading, Request, Verify};
-use service::Service;
 use std::error::Error;
+use stream::Stream;
 
 /// The application whose keys these are.
 const SCANNER: Option<&[u8]> = Some(b"scanner");
@@ -35,7 +35,7 @@ const SERIES: Import = Import {
 
 fn main() -> Result<(), Box<dyn Error>> {
     // One record: tag 1, the length in two bytes, the name.
-    let mut client = Client::new(Service::start(b"\x01\x07\x00scanner")?);
+    let mut client = Client::new(Stream::open(b"\x01\x07\x00scanner")?);
 
     // A session of its own for each request, so that no response is taken for another's.
     let list = request(1, None, Operation::ListProviders);

@@ -4,7 +4,7 @@
 //!
 //!     rt staticlib abi && cargo run --quiet -p razidkot-example
 
-use razidkot::{Connection, Counters, List, Registry, LEAST_RESPONSE_BUFFER};
+use razidkot::{raw, Buffers, Connection, List, Registry, Service, LEAST_RESPONSE_BUFFER};
 use std::error::Error;
 
 const PING: u16 = 1;
@@ -15,14 +15,13 @@ const SCANNER: &[u8] = b"scanner";
 
 fn main() -> Result<(), Box<dyn Error>> {
     // One record: tag 1, the length in two bytes, the name.
-    let mut registry = Registry::load(b"\x01\x07\x00scanner")?;
+    let registry = Registry::load(b"\x01\x07\x00scanner")?;
     // The keys that every application has.
     let mut list = List::new();
     list.push(b"release", b"\xCC\xDD")?;
-    let list = list.bytes();
+    let mut service = Service::new(registry, list);
     let mut connection = Connection::open();
-    let mut counters = Counters::default();
-    let mut response = [0; LEAST_RESPONSE_BUFFER];
+    let mut buffers = Buffers::new();
 
     // The key "a", data AA BB, 2,048 bits, export allowed; then its name alone, and that of a key
     // which the scanner has not imported.
@@ -39,31 +38,46 @@ fn main() -> Result<(), Box<dyn Error>> {
     for chunk in stream.chunks(40) {
         let mut rest = chunk;
         while !rest.is_empty() {
-            let answer =
-                connection.call(&mut registry, list, &mut counters, rest, &mut response)?;
-            if answer.written > 0 {
-                print_response(&response[..answer.written]);
+            let answer = service.call(&mut connection, rest, &mut buffers)?;
+            if let Some(response) = answer.response {
+                print_response(response);
             }
             rest = &rest[answer.taken..];
         }
     }
+    let counters = service.counters();
     println!("taken {} answered {}", counters.taken, counters.answered);
     println!(
         "served scanner {} unauthenticated {}",
         counters.served[0], counters.unauthenticated
     );
 
-    // A buffer that is too small: nothing is taken.
-    if let Err(refusal) = connection.call(&mut registry, list, &mut counters, &stream, &mut []) {
-        println!("without a buffer C{} taken 0", refusal.number());
-    }
-    // A list without its last byte.
-    let cut = &list[..list.len() - 1];
-    let refused = connection.call(&mut registry, cut, &mut counters, &stream, &mut response);
-    if let Err(refusal) = refused {
-        println!("with a cut list C{} taken 0", refusal.number());
-    }
+    print_refusals(&service, &connection, &stream);
     Ok(())
+}
+
+/// What the types rule out, and a program can do that keeps the memory itself: a buffer that is too
+/// small, and a list without its last byte. Nothing is taken.
+fn print_refusals(service: &Service, connection: &Connection, stream: &[u8]) {
+    let mut registry = service.registry().memory().to_vec();
+    let mut connection = connection.memory().to_vec();
+    let mut counters = service.counters().clone();
+    let list = service.list().bytes();
+    let mut refused = |list: &[u8], response: &mut [u8]| {
+        let answer = raw::call(
+            stream,
+            &mut connection,
+            &mut registry,
+            list,
+            &mut counters,
+            response,
+        );
+        format!("C{} taken {}", answer.code, answer.taken)
+    };
+    println!("without a buffer {}", refused(list, &mut []));
+    let cut = &list[..list.len() - 1];
+    let response = &mut [0; LEAST_RESPONSE_BUFFER];
+    println!("with a cut list {}", refused(cut, response));
 }
 
 /// A request of provider 0 with auth type 0 and no body.

@@ -1,8 +1,8 @@
 //! An example, and no part of what is proved: the glue between the key service and a Unix socket.
 //! The service does no transport; document 01 leaves that to others, and they can begin from here.
 //!
-//! Many connections share one registry and one set of counters, behind a lock that each call holds
-//! for its own length ([`Service`]). A thread accepts ([`Server`]), and a thread for each connection
+//! Many connections share one [`razidkot::Service`], behind a lock that each call holds for its own
+//! length ([`Shared`]). A thread accepts ([`Server`]), and a thread for each connection
 //! reads, calls and writes ([`serve`]). Nothing is swallowed: what an error of the socket cost is
 //! said ([`Say`]), and [`Totals`] adds up.
 #![forbid(unsafe_code)]
@@ -14,7 +14,7 @@ mod listener;
 mod peer;
 mod say;
 mod server;
-mod service;
+mod shared;
 
 pub use address::SocketError;
 pub use capture::{Capture, CaptureError, Captured, Rest};
@@ -22,4 +22,4 @@ pub use ended::{Ended, Fault, Undelivered};
 pub use peer::serve;
 pub use say::{say_on_stderr, Say};
 pub use server::{Server, Settings, StartError, Totals};
-pub use service::Service;
+pub use shared::Shared;

@@ -1,6 +1,6 @@
 //! The thread that accepts connections, with a thread for each.
 
-use crate::{serve, Ended, Say, Service};
+use crate::{serve, Ended, Say, Shared};
 use std::io::{self, ErrorKind};
 use std::net::Shutdown;
 use std::os::unix::net::{UnixListener, UnixStream};
@@ -17,7 +17,7 @@ const STEP: Duration = Duration::from_millis(5);
 
 pub struct Listener {
     socket: UnixListener,
-    service: Arc<Service>,
+    shared: Arc<Shared>,
     patience: Duration,
     say: Say,
     /// Once the server stops: when it ends the connections that have not ended by then.
@@ -45,14 +45,14 @@ pub struct Sum {
 impl Listener {
     pub fn new(
         socket: UnixListener,
-        service: Arc<Service>,
+        shared: Arc<Shared>,
         patience: Duration,
         say: Say,
         stopping: Arc<OnceLock<Instant>>,
     ) -> Listener {
         Listener {
             socket,
-            service,
+            shared,
             patience,
             say,
             stopping,
@@ -104,9 +104,9 @@ impl Listener {
 
     fn spawn(&self, number: u64, stream: &Arc<UnixStream>) -> io::Result<Running> {
         let (weak, say) = (Arc::downgrade(stream), self.say);
-        let (stream, service) = (Arc::clone(stream), Arc::clone(&self.service));
+        let (stream, shared) = (Arc::clone(stream), Arc::clone(&self.shared));
         let thread = thread::Builder::new().spawn(move || {
-            let ended = serve(&stream, &service);
+            let ended = serve(&stream, &shared);
             ended.report(number, say);
             ended
         })?;

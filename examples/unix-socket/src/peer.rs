@@ -1,7 +1,7 @@
 //! One connection: bytes read from its peer, handed to the service, and responses written.
 
-use crate::{Ended, Fault, Rest, Service, Undelivered};
-use razidkot::{Connection, LEAST_RESPONSE_BUFFER};
+use crate::{Ended, Fault, Rest, Shared, Undelivered};
+use razidkot::{Buffers, Connection};
 use std::io::{self, ErrorKind, Read, Write};
 use std::net::Shutdown;
 use std::os::unix::net::UnixStream;
@@ -10,13 +10,12 @@ use std::os::unix::net::UnixStream;
 const CHUNK: usize = 8_192;
 
 /// Serves a peer until it ends, can't be read from, or sends what is no request.
-pub fn serve(stream: &UnixStream, service: &Service) -> Ended {
+pub fn serve(stream: &UnixStream, shared: &Shared) -> Ended {
     let mut peer = Peer {
         stream,
-        service,
+        shared,
         connection: Connection::open(),
         rest: Rest::default(),
-        response: [0; LEAST_RESPONSE_BUFFER],
         undelivered: None,
     };
     let fault = peer.serve().err();
@@ -24,7 +23,7 @@ pub fn serve(stream: &UnixStream, service: &Service) -> Ended {
         true => 0,
         false => peer.rest.length(),
     };
-    service.end(peer.rest);
+    shared.end(peer.rest);
     Ended {
         unfinished,
         undelivered: peer.undelivered,
@@ -32,13 +31,12 @@ pub fn serve(stream: &UnixStream, service: &Service) -> Ended {
     }
 }
 
-/// What each connection has for itself; registry and counters are the service's.
+/// What each connection has for itself, and what is shared.
 struct Peer<'a> {
     stream: &'a UnixStream,
-    service: &'a Service,
+    shared: &'a Shared,
     connection: Connection,
     rest: Rest,
-    response: [u8; LEAST_RESPONSE_BUFFER],
     undelivered: Option<Undelivered>,
 }
 
@@ -62,18 +60,19 @@ impl Peer<'_> {
     /// Hands a chunk over, and what is left of it again, until all of it is taken. Every response
     /// is written whole before the next call, which writes over it.
     fn take(&mut self, chunk: &[u8]) -> Result<(), Fault> {
+        let mut buffers = Buffers::new();
         let mut left = chunk;
         while !left.is_empty() {
             let (connection, rest) = (&mut self.connection, &mut self.rest);
             let answer = self
-                .service
-                .call(connection, rest, left, &mut self.response)
+                .shared
+                .call(connection, rest, left, &mut buffers)
                 .map_err(|refusal| Fault::NotTaken {
                     refusal,
                     bytes: left.len(),
                 })?;
-            if answer.written > 0 {
-                self.deliver(answer.written);
+            if let Some(response) = answer.response {
+                self.deliver(response);
             }
             left = &left[answer.taken..];
         }
@@ -82,13 +81,13 @@ impl Peer<'_> {
 
     /// Writes the response. Once one has failed, part of it may be out, and no other may follow;
     /// requests are taken on, so that what is counted doesn't hang on when the peer left.
-    fn deliver(&mut self, written: usize) {
+    fn deliver(&mut self, response: &[u8]) {
         if let Some(undelivered) = &mut self.undelivered {
             undelivered.responses += 1;
-            undelivered.bytes += written as u64;
+            undelivered.bytes += response.len() as u64;
             return;
         }
-        if let Err((left, error)) = write_whole(self.stream, &self.response[..written]) {
+        if let Err((left, error)) = write_whole(self.stream, response) {
             self.undelivered = Some(Undelivered {
                 error,
                 responses: 1,

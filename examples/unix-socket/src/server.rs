@@ -2,8 +2,8 @@
 
 use crate::address::{self, Address, SocketError};
 use crate::listener::{Listener, Sum};
-use crate::{Capture, CaptureError, Captured, Say, Service};
-use razidkot::{Counters, List, ListFault, Registry, RosterFault};
+use crate::{Capture, CaptureError, Captured, Say, Shared};
+use razidkot::{Counters, List, ListFault, Registry, RosterFault, Service};
 use std::fmt;
 use std::io;
 use std::net::Shutdown;
@@ -38,7 +38,7 @@ pub struct Server {
     address: Address,
     /// The listening socket; it is a stream's type that can be shut down.
     socket: UnixStream,
-    service: Arc<Service>,
+    shared: Arc<Shared>,
     patience: Duration,
     stopping: Arc<OnceLock<Instant>>,
     listening: JoinHandle<Sum>,
@@ -74,20 +74,20 @@ impl Server {
     pub fn start(settings: Settings) -> Result<Server, StartError> {
         let registry = Registry::load(settings.roster).map_err(StartError::Roster)?;
         let list = List::from_bytes(settings.list).map_err(StartError::List)?;
-        let service = Arc::new(Service::new(registry, list));
+        let shared = Arc::new(Shared::new(Service::new(registry, list)));
         let no_socket = |error| StartError::Socket(settings.socket.to_path_buf(), error);
         let (listener, address) =
             address::listen(settings.socket, settings.say).map_err(no_socket)?;
         if let Some(path) = settings.capture {
             let no_capture = |error| StartError::Capture(path.to_path_buf(), error);
-            service.capture(Capture::open(path, settings.say).map_err(no_capture)?);
+            shared.capture(Capture::open(path, settings.say).map_err(no_capture)?);
         }
         let socket = listener.try_clone();
         let socket = socket.map_err(|error| no_socket(SocketError::Failed(error)))?;
         let stopping = Arc::new(OnceLock::new());
         let listener = Listener::new(
             listener,
-            Arc::clone(&service),
+            Arc::clone(&shared),
             settings.patience,
             settings.say,
             Arc::clone(&stopping),
@@ -96,7 +96,7 @@ impl Server {
         Ok(Server {
             address,
             socket: UnixStream::from(OwnedFd::from(socket)),
-            service,
+            shared,
             patience: settings.patience,
             stopping,
             listening: listening.map_err(StartError::Thread)?,
@@ -113,12 +113,12 @@ impl Server {
         stopped.expect("a listening socket can be shut down");
         let sum = self.listening.join().expect("a listener does not panic");
         Totals {
-            counters: self.service.counters(),
-            bill: self.service.bill(sum.unfinished),
+            counters: self.shared.counters(),
+            bill: self.shared.bill(sum.unfinished),
             connections: sum.connections,
             unfinished: sum.unfinished,
             undelivered: sum.undelivered,
-            captured: self.service.end_capture(),
+            captured: self.shared.end_capture(),
         }
     }
 }

@@ -4,9 +4,9 @@ use super::labels::{self, Field, Headers};
 use super::text::{line_of, steps, without_names, Example, Line, Step};
 use super::wanted::Wanted;
 use super::Fault;
-use razidkot::{Connection, Counters, List, Registry, Status};
-use razidkot::{LEAST_RESPONSE_BUFFER, LONGEST_CHUNK};
+use razidkot::{Buffers, Connection, Counters, List, Registry, Service, Status, LONGEST_CHUNK};
 use razidkot_client::{Output, Reader, Reading, Response};
+use razidkot_tests::lent::Lent;
 use std::collections::{BTreeSet, VecDeque};
 use std::mem;
 
@@ -20,10 +20,8 @@ pub struct Setting {
 
 pub struct Play<'a> {
     setting: &'a Setting,
-    registry: Registry,
-    list: List,
+    service: Service,
     connection: Connection,
-    counters: Counters,
     /// What is sent and not yet handed over: several requests may share a chunk.
     unsent: Vec<u8>,
     /// How many bytes were sent in all at the end of each group that has no verdict yet.
@@ -115,10 +113,8 @@ impl<'a> Play<'a> {
         let registry = Registry::load(&setting.roster).map_err(|fault| fault.to_string())?;
         Ok(Play {
             setting,
-            registry,
-            list: List::new(),
+            service: Service::new(registry, List::new()),
             connection: Connection::open(),
-            counters: Counters::default(),
             unsent: Vec::new(),
             ends: VecDeque::new(),
             sent: 0,
@@ -148,7 +144,10 @@ impl<'a> Play<'a> {
 
     fn load(&mut self, _: &str, lines: &[&str]) -> Done {
         let loaded = Registry::load(&joined(&parsed(lines)?));
-        self.registry = loaded.map_err(|fault| fault.to_string())?;
+        let registry = loaded.map_err(|fault| fault.to_string())?;
+        let counters = self.service.counters().clone();
+        self.service = Service::new(registry, self.service.list().clone());
+        *self.service.counters_mut() = counters;
         Ok(())
     }
 
@@ -165,19 +164,21 @@ impl<'a> Play<'a> {
     fn lend(&mut self, _: &str, lines: &[&str]) -> Done {
         self.hand_over()?;
         let lent = List::from_bytes(&joined(&parsed(lines)?));
-        self.list = lent.map_err(|fault| fault.to_string())?;
+        self.service
+            .set_list(lent.map_err(|fault| fault.to_string())?);
         Ok(())
     }
 
-    /// With an empty chunk, which a call that is taken does nothing with.
+    /// With an empty chunk, which a call that is taken does nothing with. The service keeps good
+    /// lists only, so its memory is copied, and lent with this one.
     fn refuse_list(&mut self, code: &str, lines: &[&str]) -> Done {
-        let list = joined(&parsed(lines)?);
-        let (registry, counters) = (&mut self.registry, &mut self.counters);
-        let response = &mut [0xEE; LEAST_RESPONSE_BUFFER];
-        match self
-            .connection
-            .call(registry, &list, counters, b"", response)
-        {
+        let mut lent = Lent::new(
+            self.connection.memory().to_vec(),
+            self.service.registry().memory().to_vec(),
+            joined(&parsed(lines)?),
+            self.service.counters().clone(),
+        );
+        match lent.call_both(b"").result() {
             Ok(_) => Err("it is taken".to_string()),
             Err(said) => {
                 self.shown.insert(format!("call C{}", said.number()));
@@ -209,19 +210,13 @@ impl<'a> Play<'a> {
     }
 
     fn call_until_taken(&mut self, chunk: &[u8]) -> Done {
-        let mut rest = chunk;
+        let (mut rest, mut buffers) = (chunk, Buffers::new());
         while !rest.is_empty() {
-            let mut response = [0xEE; LEAST_RESPONSE_BUFFER];
-            let registry = &mut self.registry;
-            let counters = &mut self.counters;
-            let answer =
-                self.connection
-                    .call(registry, self.list.bytes(), counters, rest, &mut response);
+            let answer = self.service.call(&mut self.connection, rest, &mut buffers);
             let answer = answer.map_err(|refusal| refusal.to_string())?;
-            if answer.written > 0 {
-                let response = response[..answer.written].to_vec();
-                self.responses.push_back((self.counters.taken, response));
-            }
+            let taken = self.service.counters().taken;
+            let response = answer.response.map(|response| (taken, response.to_vec()));
+            self.responses.extend(response);
             rest = &rest[answer.taken..];
         }
         Ok(())
@@ -342,13 +337,13 @@ impl<'a> Play<'a> {
 
     fn counters_are(&mut self, _: &str, lines: &[&str]) -> Done {
         self.hand_over()?;
-        let said = counted(&self.counters);
+        let said = counted(self.service.counters());
         same(said.iter().map(String::as_str).collect(), lines.to_vec())
     }
 
     fn bill_is(&mut self, _: &str, lines: &[&str]) -> Done {
         self.hand_over()?;
-        let bill = self.connection.bill(&self.registry, &self.counters);
+        let bill = self.service.bill(&self.connection);
         same(bill.lines().collect(), lines.to_vec())
     }
 }
