@@ -10,7 +10,7 @@ use registry::SLOTS;
 use registry::Slot;
 use registry::find::slot_at;
 use registry::key::key_uses;
-use registry::names::wide;
+use wire::number::wide;
 ghost use mathlib.Core.Bool.{true};
 ghost use mathlib.Core.List.{[], _∷_};
 ghost use mathlib.Core.Path.{_≡_};

@@ -7,9 +7,10 @@ use crate::look::wanted;
 use crate::state::COUNT_AT;
 use crate::state::append;
 use crate::state::is_well_formed;
+use wire::number::least;
 use wire::number::read_u16;
 ghost use mathlib.Core.Path.{_≡_};
-ghost use Prim.Native.Nat.{_≤_, min};
+ghost use Prim.Native.Nat.{_≤_};
 ghost use lib.ListN.{length};
 ghost use Rattle.client_responses.specs.State.{askedIn, bytesIn, readOutcome};
 ghost use Rattle.client_responses.specs.Handed.{handed, SaidWithin};
@@ -19,13 +20,6 @@ ghost use Rattle.client_responses.specs.code.Looked.{Holding, Run, Fille
 pub struct ReadAnswer {
     pub said: Said,
     pub taken: usize,
-}
-
-// The smaller of two numbers.
-fn least(a: usize, b: usize) -> usize
-    ensures { λ r. ⌜ r ≡ min a b ⌝ }
-{
-    if a < b { a } else { b }
 }
 
 // How many bytes of `rest` can be put behind those held before more can be said of them.

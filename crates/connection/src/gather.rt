@@ -6,8 +6,9 @@ use stream::frame::Frame;
 use stream::frame::read_frame;
 use stream::frame::request_length;
 use wire::header::header_length;
+use wire::number::least;
 ghost use mathlib.Core.Path.{_≡_};
-ghost use Prim.Native.Nat.{_≤_, _<_, min};
+ghost use Prim.Native.Nat.{_≤_, _<_};
 ghost use lib.ListN.{length};
 ghost use Rattle.stream.specs.Frame.{unfinished, next};
 ghost use Rattle.connection.specs.Connection.{heldMost};
@@ -32,13 +33,6 @@ fn wanted(bytes: &[u8]) -> usize
         return header;
     }
     request_length(bytes) as usize
-}
-
-// The smaller of two numbers.
-fn least(a: usize, b: usize) -> usize
-    ensures { λ r. ⌜ r ≡ min a b ⌝ }
-{
-    if a < b { a } else { b }
 }
 
 // Takes on as many bytes of the chunk, from `used` on, as are wanted or left.

@@ -1,19 +1,12 @@
-// Names: which are legal, and where one stands among blocks that begin with names
-// ("Roster, registry, connection, tally").
+// Where a name stands among blocks that begin with names ("Roster, registry, connection, tally").
 use wire::bytes::equal;
+use wire::number::wide;
 ghost use mathlib.Core.Path.{_≡_};
 ghost use mathlib.Core.Bool.{not};
-ghost use Prim.Native.Nat.{_+_, _*_, _≤_, _<_};
+ghost use Prim.Native.Nat.{_+_, _*_, _≤_};
 ghost use lib.ListN.{length, drop};
 ghost use Rattle.registry.specs.Names.{indexFrom, isNew, distinct};
 ghost use Rattle.registry.specs.code.Check.{blockNames};
-
-// A byte as a size. The contract also says its bound, which proofs need of a name's length byte.
-pub fn wide(x: u8) -> usize
-    ensures { λ r. ⌜ (r ≡ x) × (r < 256) ⌝ }
-{
-    x as usize
-}
 
 // The number of the first block from `from` on whose name is `name`, or `count` where there is none: blocks of `size`
 // bytes behind `head` bytes.

@@ -7,7 +7,6 @@ use crate::SLOT_SIZE;
 use crate::USES_AT;
 use crate::USES_MOST;
 use crate::VERIFY_AT;
-use crate::names::wide;
 use keys::DATA_MOST;
 use keys::KEY_NAME_MOST;
 use keys::bits::are_legal_bits;
@@ -15,14 +14,16 @@ use keys::names::is_legal;
 use wire::bytes::all_zero;
 use wire::bytes::clear;
 use wire::bytes::copy_into;
-use wire::number::bytes_of_u16;
 use wire::number::read_u16;
 use wire::number::read_u32;
+use wire::number::wide;
+use wire::number::write_u16;
+use wire::number::write_u32;
 ghost use mathlib.Core.Path.{_≡_};
 ghost use Prim.Native.Nat.{_+_, _≤_, _<_};
 ghost use lib.ListN.{length};
 ghost use Rattle.wire.specs.Lists.{padded};
-ghost use Rattle.wire.specs.Numbers.{littleEndianOf, field};
+ghost use Rattle.wire.specs.Numbers.{field};
 ghost use Rattle.keys.specs.Key.{dataMost};
 ghost use Rattle.keys.specs.Names.{keyNameMost};
 ghost use Rattle.registry.specs.Slots.{flag, slotSize, keyBytes, used, usedSlot, wellFormedSlot};
@@ -79,30 +80,6 @@ pub fn write_padded(dst: &mut [u8], src: &[u8])
 {
     let k = copy_into(dst, src);
     clear(&mut dst[k..]);
-}
-
-// Writes a number in two bytes.
-fn write_u16(dst: &mut [u8], n: u16)
-    requires { ⌜ length (now dst) ≡ 2 ⌝ }
-    ensures { λ _. ⌜ now (dst .exit) ≡ littleEndianOf 2 n ⌝ }
-{
-    let bytes = bytes_of_u16(n);
-    dst[0] = bytes[0];
-    dst[1] = bytes[1];
-}
-
-// In four bytes.
-fn write_u32(dst: &mut [u8], n: u32)
-    requires { ⌜ length (now dst) ≡ 4 ⌝ }
-    ensures { λ _. ⌜ now (dst .exit) ≡ littleEndianOf 4 n ⌝ }
-{
-    let n1 = n / 256;
-    let n2 = n1 / 256;
-    let n3 = n2 / 256;
-    dst[0] = (n % 256) as u8;
-    dst[1] = (n1 % 256) as u8;
-    dst[2] = (n2 % 256) as u8;
-    dst[3] = n3 as u8;
 }
 
 fn flag_byte(b: bool) -> u8

@@ -1,4 +1,5 @@
 // Elements in DER (X.690), read where they lie.
+use wire::number::wide;
 ghost use mathlib.Core.Path.{_≡_};
 ghost use Prim.Native.Nat.{_<_};
 ghost use lib.ListN.{getD};
@@ -12,12 +13,6 @@ pub const SEQUENCE: usize = 0x30;
 pub enum Element {
     Contents { start: usize, len: usize },
     Unreadable,
-}
-
-fn wide(x: u8) -> usize
-    ensures { λ r. ⌜ (r ≡ x) × (r < 256) ⌝ }
-{
-    x as usize
 }
 
 // The byte at i, or 0 behind the end.

@@ -1,13 +1,13 @@
--- `registry::slots::write_u16` meets its contract.
+-- `wire::number::write_u16` meets its contract.
 use Prim.Native.Nat.{ℕ}
 use mathlib.Core.Path.{_≡_, refl, ap, _∙_}
 use mathlib.Core.List.{List, [], _∷_}
 use native.Mathlib.Omega.{arith}
 use lib.ListN.{length, getD, set}
 use Rattle.wire.specs.Numbers.{littleEndianOf}
 use borrow.Author.Needs.{needs}
-use Rattle.registry.proofs.slots.write_u16.Statement.{statement}
-use Rattle.registry.proofs.slots.write_u16.Tie as tie
+use Rattle.wire.proofs.number.write_u16.Statement.{statement}
+use Rattle.wire.proofs.number.write_u16.Tie as tie
 
 bytes-of-u16-requires : tie.Need-bytes-of-u16-requires
 bytes-of-u16-requires c κs = search needs
