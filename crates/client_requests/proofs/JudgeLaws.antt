@@ -9,13 +9,14 @@ use borrow.Author.Tests.{ltb-false, lt-leb, not-false}
 use lib.ListN.{length, getD}
 use lib.Dec.{ltb, eqb}
 use Rattle.wire.specs.Choice.{firstOf}
+use Rattle.wire.specs.Request.{contentMost}
 use Rattle.wire.proofs.TestLaws.{none-at}
 use Rattle.keys.specs.Names.{keyNameMost, legalName}
 use Rattle.keys.specs.Key.{Key, legalData, importBits}
 use Rattle.messages.specs.Protobuf.{protobuf}
 use Rattle.messages.specs.Operations.{Operation, ping, importKey, destroyKey, verifySignature, operationBody}
 use Rattle.messages.proofs.WriteLaws.{verify-body-least}
-use Rattle.client_requests.specs.Writing.{Sender, requestBufferLeast, hashSize, requestBodyMost, legalSender, legalKeyName, legalKeyData, legalKeyBits, legalHash, legalBody, writeTests}
+use Rattle.client_requests.specs.Writing.{Sender, requestBufferLeast, hashSize, legalSender, legalKeyName, legalKeyData, legalKeyBits, legalHash, legalBody, writeTests}
 use Rattle.client_requests.specs.code.Judged.{judgedAs, firstRefusal}
 use Rattle.client_requests.specs.declared.WriteRefusal.{WriteRefusal}
 use Rattle.client_requests.specs.declared.WriteRefusal.the-variants.{BufferTooSmall, ApplicationNameIllegal, KeyNameIllegal, DataIllegal, BitsIllegal, HashIllegal, BodyTooLong}
@@ -86,10 +87,10 @@ module _ (out : List ℕ) (sender : Sender) where
       ∙ joined (senderTests ++ nameTest name) (size ++ body)
 
 -- what verify carries is too long by itself
-pub too-long : (name hash signature : List ℕ) → requestBodyMost < length name + length hash + length signature
+pub too-long : (name hash signature : List ℕ) → contentMost < length name + length hash + length signature
     → false ≡ legalBody (verifySignature name hash signature)
 too-long name hash signature h =
-    let long : requestBodyMost < length (operationBody protobuf (verifySignature name hash signature)) = omega (arith, verify-body-least name hash signature) in
+    let long : contentMost < length (operationBody protobuf (verifySignature name hash signature)) = omega (arith, verify-body-least name hash signature) in
     sym (lt-leb _ _ long)
 
 -- ---- what holds where every test is passed

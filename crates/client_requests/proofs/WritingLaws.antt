@@ -12,7 +12,7 @@ use lib.Seq.{drop-drop, take-length, length-take-le, take-at, drop-at, drop-appe
 use Rattle.wire.specs.Choice.{if_then_else_, firstOf}
 use Rattle.wire.specs.Lists.{over}
 use Rattle.wire.specs.Numbers.{littleEndianOf}
-use Rattle.wire.specs.Request.{requestLeast, requestHeader, requestBytes}
+use Rattle.wire.specs.Request.{requestLeast, contentMost, requestHeader, requestBytes}
 use Rattle.wire.specs.code.Wrote.{Wrote}
 use Rattle.wire.proofs.ListLaws.{length-part}
 use Rattle.wire.proofs.BufferLaws.{onward, wrote-on}
@@ -24,7 +24,7 @@ use Rattle.messages.specs.Format.{messageBytes}
 use Rattle.messages.specs.Protobuf.{protobuf}
 use Rattle.messages.specs.Operations.{Operation, ping, listProviders, listOpcodes, importKey, destroyKey, exportPublicKey, verifySignature, opcodeOf, providerOf, operationBody}
 use Rattle.messages.proofs.WriteLaws.{provider-body-short, bytes-body-short, key-body-short}
-use Rattle.client_requests.specs.Writing.{Sender, senderOf, authTypeOf, authOf, legalSender, legalKeyName, legalKeyData, legalKeyBits, legalBody, requestBodyMost, requestAround, requestFor, writeTests, writeOutcome}
+use Rattle.client_requests.specs.Writing.{Sender, senderOf, authTypeOf, authOf, legalSender, legalKeyName, legalKeyData, legalKeyBits, legalBody, requestAround, requestFor, writeTests, writeOutcome}
 use Rattle.client_requests.specs.code.Judged.{judgedAs}
 use Rattle.client_requests.specs.declared.WriteRefusal.{WriteRefusal}
 use Rattle.client_requests.specs.declared.Written.the-variants.{Bytes, Refused}
@@ -51,7 +51,7 @@ auth-short (some name) e = legal-short applicationNameMost name e
 
 pub body-short :
     (operation : Operation) → legalKeyName operation ≡ true → legalKeyData operation ≡ true → legalKeyBits operation ≡ true → legalBody operation ≡ true
-    → length (operationBody protobuf operation) ≤ requestBodyMost
+    → length (operationBody protobuf operation) ≤ contentMost
 unfolding operationBody messageBytes importBits
 body-short ping n d b w = omega arith
 body-short listProviders n d b w = omega arith
@@ -62,10 +62,10 @@ body-short (exportPublicKey name) n d b w = omega (arith, bytes-body-short name 
 body-short (verifySignature name hash signature) n d b w = leb-true _ _ w
 
 module _ {out : List ℕ} {sender : Sender} {operation : Operation} (p : Passed out sender operation) where
-  pub passed-short : length (operationBody protobuf operation) ≤ requestBodyMost
+  pub passed-short : length (operationBody protobuf operation) ≤ contentMost
   passed-short = body-short operation (p .name) (p .bytes) (p .bits) (p .body)
 
-  pub written-short : {d e : List ℕ} {r : ℕ} → Wrote (operationBody protobuf operation) d e r → r ≤ requestBodyMost
+  pub written-short : {d e : List ℕ} {r : ℕ} → Wrote (operationBody protobuf operation) d e r → r ≤ contentMost
   written-short w = omega (arith, w .count, passed-short)
 
 -- ---- around a body that is there
@@ -154,7 +154,7 @@ module _ (out : List ℕ) (session : ℕ) (sender : Sender) (operation : Operati
 -- ---- A REQUEST THAT IS WRITTEN IS SHORT: 28 bytes, at most 4,096 of body, at most 64 of auth
 
 abbrev pub requestMost : ℕ
-requestMost = requestLeast + (requestBodyMost + applicationNameMost)
+requestMost = requestLeast + (contentMost + applicationNameMost)
 
 pub request-short : (out : List ℕ) (session : ℕ) (sender : Sender) (operation : Operation) → firstOf (writeTests out sender operation) ≡ none
     → length (requestBytes (requestFor session sender operation)) ≤ requestMost

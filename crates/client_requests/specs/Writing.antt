@@ -7,7 +7,7 @@ use lib.ListN.{length}
 use lib.Dec.{ltb, leb, eqb}
 use Rattle.wire.specs.Choice.{if_then_else_, firstOf}
 use Rattle.wire.specs.Lists.{over}
-use Rattle.wire.specs.Request.{Request, requestBytes}
+use Rattle.wire.specs.Request.{contentMost, Request, requestBytes}
 use Rattle.keys.specs.Names.{applicationNameMost, keyNameMost, legalName}
 use Rattle.keys.specs.Key.{legalData, importBits}
 use Rattle.messages.specs.Protobuf.{protobuf}
@@ -58,9 +58,6 @@ requestFor session sender operation =
 
 abbrev pub requestBufferLeast : ℕ
 requestBufferLeast = 5120
-
-abbrev pub requestBodyMost : ℕ
-requestBodyMost = 4096
 
 abbrev pub legalSender : Sender → Bool
 legalSender none = true
@@ -113,7 +110,7 @@ legalBody (listOpcodes provider) = true
 legalBody (importKey key) = true
 legalBody (destroyKey name) = true
 legalBody (exportPublicKey name) = true
-legalBody (verifySignature name hash signature) = leb (length (operationBody protobuf (verifySignature name hash signature))) requestBodyMost
+legalBody (verifySignature name hash signature) = leb (length (operationBody protobuf (verifySignature name hash signature))) contentMost
 
 unfoldable pub writeTests : (out : List ℕ) → Sender → Operation → List (Bool × WriteRefusal)
 writeTests out sender operation =

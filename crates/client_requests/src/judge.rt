@@ -8,6 +8,7 @@ use keys::bits::are_legal_bits;
 use keys::names::is_legal;
 use messages::HASH_SIZE;
 use messages::write::verify_body_size;
+use wire::header::CONTENT_MOST;
 ghost use mathlib.Core.Bool.{Bool};
 ghost use mathlib.Core.List.{[], _∷_};
 ghost use mathlib.Core.Path.{_≡_};
@@ -20,8 +21,8 @@ ghost use Rattle.client_requests.specs.code.Judged.{judgedAs, firstRefus
 // The shortest buffer for a request.
 pub const REQUEST_BUFFER_LEAST: usize = 5120;
 
-// The longest body of a request.
-const BODY_MOST: usize = 4096;
+// The longest body of a request, as a size.
+const BODY_MOST: usize = CONTENT_MOST as usize;
 
 pub enum Judged {
     Legal,

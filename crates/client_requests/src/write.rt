@@ -19,19 +19,17 @@ use messages::write::write_key_body;
 use messages::write::write_provider_body;
 use messages::write::write_verify_body;
 use wire::bytes::copy_into;
-use wire::request::request_header;
+use wire::header::REQUEST_LEAST;
+use wire::header::request_header;
 ghost use mathlib.Core.Bool.{true};
 ghost use mathlib.Core.Path.{_≡_};
 ghost use Prim.Native.Nat.{_≤_};
 ghost use lib.ListN.{length, take, drop};
 ghost use Rattle.wire.specs.Choice.{if_then_else_};
-ghost use Rattle.wire.specs.Request.{requestLeast, requestBytes};
+ghost use Rattle.wire.specs.Request.{requestLeast, contentMost, requestBytes};
 ghost use Rattle.wire.specs.code.Wrote.{Wrote};
 ghost use Rattle.messages.specs.Operations.{ping, listProviders, listOpcodes, importKey, destroyKey, exportPublicKey, verifySignature};
-ghost use Rattle.client_requests.specs.Writing.{senderOf, authOf, requestAround, legalSender, requestBufferLeast, requestBodyMost, writeOutcome};
-
-// Of every request that is written.
-const HEADER_LENGTH: usize = 28;
+ghost use Rattle.client_requests.specs.Writing.{senderOf, authOf, requestAround, legalSender, requestBufferLeast, writeOutcome};
 
 // Providers.
 const CORE: u8 = 0;
@@ -61,7 +59,7 @@ fn write_around(
     opcode: u16,
     size: usize,
 ) -> usize
-    requires { ⌜ (requestBufferLeast ≤ length (now out)) × (legalSender (senderOf named (now application)) ≡ true) × (size ≤ requestBodyMost) ⌝ }
+    requires { ⌜ (requestBufferLeast ≤ length (now out)) × (legalSender (senderOf named (now application)) ≡ true) × (size ≤ contentMost) ⌝ }
     ensures { λ r. ⌜ Wrote (requestBytes (requestAround session (senderOf named (now (application .entry))) provider opcode (take size (drop requestLeast (now (out .entry)))))) (now (out .entry)) (now (out .exit)) r ⌝ }
 {
     let auth = auth_length(named, application);
@@ -122,7 +120,7 @@ pub fn write_list_opcodes(
     match judge_sender(out, named, application) {
         Judged::Refused(refusal) => Written::Refused(refusal),
         Judged::Legal => {
-            let size = write_provider_body(&mut out[HEADER_LENGTH..], provider);
+            let size = write_provider_body(&mut out[REQUEST_LEAST..], provider);
             let length = write_around(out, session, named, application, CORE, LIST_OPCODES, size);
             Written::Bytes(length)
         }
@@ -146,7 +144,7 @@ pub fn write_import(
         Judged::Refused(refusal) => Written::Refused(refusal),
         Judged::Legal => {
             let size = write_key_body(
-                &mut out[HEADER_LENGTH..],
+                &mut out[REQUEST_LEAST..],
                 name,
                 bytes,
                 bits,
@@ -179,7 +177,7 @@ pub fn write_destroy(
     match judge_name(out, named, application, name) {
         Judged::Refused(refusal) => Written::Refused(refusal),
         Judged::Legal => {
-            let size = write_bytes_body(&mut out[HEADER_LENGTH..], name);
+            let size = write_bytes_body(&mut out[REQUEST_LEAST..], name);
             let length = write_around(
                 out,
                 session,
@@ -206,7 +204,7 @@ pub fn write_export(
     match judge_name(out, named, application, name) {
         Judged::Refused(refusal) => Written::Refused(refusal),
         Judged::Legal => {
-            let size = write_bytes_body(&mut out[HEADER_LENGTH..], name);
+            let size = write_bytes_body(&mut out[REQUEST_LEAST..], name);
             let length = write_around(
                 out,
                 session,
@@ -235,7 +233,7 @@ pub fn write_verify(
     match judge_verify(out, named, application, name, hash, signature) {
         Judged::Refused(refusal) => Written::Refused(refusal),
         Judged::Legal => {
-            let size = write_verify_body(&mut out[HEADER_LENGTH..], name, hash, signature);
+            let size = write_verify_body(&mut out[REQUEST_LEAST..], name, hash, signature);
             let length = write_around(
                 out,
                 session,

@@ -11,9 +11,11 @@ use messages::read::Output;
 use messages::read::OutputRead;
 use messages::read::Span;
 use messages::read::read_output;
+use wire::header::MAGIC;
 use wire::number::read_u16;
 use wire::number::read_u32;
 use wire::number::read_u64;
+use wire::response::RESPONSE_HEADER_SIZE;
 use wire::response::RESPONSE_LEAST;
 use wire::response::ResponseHeader;
 use wire::response::read_response;
@@ -29,11 +31,6 @@ ghost use Rattle.messages.specs.Placed.{OutputWithin, SpanWithin};
 ghost use Rattle.client_responses.specs.Reading.{providerFor, responseContentMost, isIts, isInvalidHeader, headerTests, bodyReply, foundBehind, found};
 ghost use Rattle.client_responses.specs.State.{countAt, bytesAt, responseMost, stateSize, askedIn, bytesIn, wellFormedState};
 ghost use Rattle.client_responses.specs.code.Looked.{bodyAt, spanMoved, outputMoved, checkOf, wantedOf, Looked, Run};
-
-pub const MAGIC: u32 = 0x5EC0A710;
-
-// H of every response.
-pub const HEADER_SIZE: u16 = 20;
 
 // The status's number, and the output, whose places are places in the state's memory.
 pub struct Response {
@@ -210,7 +207,7 @@ pub fn look(memory: &[u8]) -> Said
     if read_u32(bytes, 0) != MAGIC {
         return Said::Refused(ReadRefusal::WrongMagic);
     }
-    if read_u16(bytes, 4) != HEADER_SIZE {
+    if read_u16(bytes, 4) != RESPONSE_HEADER_SIZE {
         return Said::Refused(ReadRefusal::WrongHeaderSize);
     }
     if count < RESPONSE_LEAST {
@@ -248,7 +245,7 @@ pub fn first_run(memory: &[u8], chunk: &[u8]) -> usize
     if read_u32(chunk, 0) != MAGIC {
         return 6;
     }
-    if read_u16(chunk, 4) != HEADER_SIZE {
+    if read_u16(chunk, 4) != RESPONSE_HEADER_SIZE {
         return 6;
     }
     let h = read_response(chunk);

@@ -2,8 +2,8 @@
 // and what it is, `change` writes it, `gather` takes on a request's bytes. docs/LAYOUT.md has its bytes, and specs/ defines
 // them.
 use stream::frame::AUTH_MOST;
-use stream::frame::CONTENT_MOST;
 use stream::frame::HEADER_MOST;
+use wire::header::CONTENT_MOST;
 
 pub mod change;
 pub mod check;

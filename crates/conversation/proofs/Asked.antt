@@ -20,7 +20,7 @@ use Rattle.messages.specs.Operations.{Operation, ping, listProviders, listOpcod
 use Rattle.messages.proofs.OperationLaws.{asked-back}
 use Rattle.messages.proofs.WriteLaws.{verify-body-least}
 use Rattle.client_requests.proofs.WritingLaws.{auth-short, body-short}
-use Rattle.client_requests.specs.Writing.{Sender, requestFor, legalSender, legalKeyName, legalKeyData, legalKeyBits, legalHash, legalBody, requestBodyMost}
+use Rattle.client_requests.specs.Writing.{Sender, requestFor, legalSender, legalKeyName, legalKeyData, legalKeyBits, legalHash, legalBody}
 use Rattle.stream.specs.Frame.{contentMost, authMost, legalStart, oversized, whole, next}
 use Rattle.stream.proofs.FrameLaws.{next-whole}
 use Rattle.registry.specs.Registry.{applicationNamed}
@@ -49,7 +49,7 @@ pub record Writable (sender : Sender) (operation : Operation) : Type 0 where
 
 -- ---- the body is short, and the values fit
 
-short-body : (sender : Sender) (operation : Operation) → Writable sender operation → length (operationBody protobuf operation) ≤ requestBodyMost
+short-body : (sender : Sender) (operation : Operation) → Writable sender operation → length (operationBody protobuf operation) ≤ contentMost
 short-body sender operation w = body-short operation (w .name-legal) (w .data-legal) (w .bits-legal) (w .body-legal)
 
 fits : (sender : Sender) (operation : Operation) → Writable sender operation → AllFit (protobuf .lengthMost) (inputOf operation)

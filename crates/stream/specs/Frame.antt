@@ -7,13 +7,10 @@ use lib.Dec.{leb, ltb, eqb}
 use Rattle.wire.specs.Choice.{if_then_else_}
 use Rattle.wire.specs.Request.{magicNumber, magic, headerSize, contentLength, authLength, headerLength, requestLength}
 -- the bounds of H, C and A
-pub use Rattle.wire.specs.Request.{headerLeast}
+pub use Rattle.wire.specs.Request.{headerLeast, contentMost}
 
 abbrev pub headerMost : ℕ
 headerMost = 64
-
-abbrev pub contentMost : ℕ
-contentMost = 4096
 
 abbrev pub authMost : ℕ
 authMost = 256

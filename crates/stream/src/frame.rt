@@ -1,4 +1,7 @@
 // Framing: what the bytes not yet read begin with ("A whole stream under the rules").
+use wire::header::CONTENT_MOST;
+use wire::header::HEADER_LEAST;
+use wire::header::MAGIC;
 use wire::header::header_length;
 use wire::number::read_u16;
 use wire::number::read_u32;
@@ -9,14 +12,8 @@ ghost use Rattle.wire.specs.Request.{requestLeast, requestLength};
 ghost use Rattle.stream.specs.Frame.{legalStart, oversized, next};
 ghost use Rattle.stream.specs.code.Framed.{frameOf};
 
-pub const MAGIC: u32 = 0x5EC0A710;
-
-// The bounds of H, C and A.
-pub const HEADER_LEAST: u16 = 22;
-
+// The most that H and A may be.
 pub const HEADER_MOST: u16 = 64;
-
-pub const CONTENT_MOST: u32 = 4096;
 
 pub const AUTH_MOST: u16 = 256;
 
