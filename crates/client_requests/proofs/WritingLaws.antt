@@ -17,9 +17,8 @@ use Rattle.wire.specs.code.Wrote.{Wrote}
 use Rattle.wire.proofs.ListLaws.{length-part}
 use Rattle.wire.proofs.BufferLaws.{onward, wrote-on}
 use Rattle.keys.specs.Names.{applicationNameMost, keyNameMost}
-use Rattle.keys.specs.Key.{importBits}
 use Rattle.keys.proofs.NameLaws.{legal-short}
-use Rattle.keys.proofs.KeyLaws.{legal-data, legal-bits}
+use Rattle.keys.proofs.KeyLaws.{legal-data, legal-bits, import-legal}
 use Rattle.messages.specs.Format.{messageBytes}
 use Rattle.messages.specs.Protobuf.{protobuf}
 use Rattle.messages.specs.Operations.{Operation, ping, listProviders, listOpcodes, importKey, destroyKey, exportPublicKey, verifySignature, opcodeOf, providerOf, operationBody}
@@ -52,11 +51,11 @@ auth-short (some name) e = legal-short applicationNameMost name e
 pub body-short :
     (operation : Operation) → legalKeyName operation ≡ true → legalKeyData operation ≡ true → legalKeyBits operation ≡ true → legalBody operation ≡ true
     → length (operationBody protobuf operation) ≤ contentMost
-unfolding operationBody messageBytes importBits
+unfolding operationBody messageBytes
 body-short ping n d b w = omega arith
 body-short listProviders n d b w = omega arith
 body-short (listOpcodes provider) n d b w = omega (arith, provider-body-short provider)
-body-short (importKey key) n d b w = omega (arith, key-body-short key (legal-short keyNameMost (key .name) n) (legal-data (key .bytes) d) (legal-bits (key .bits) b))
+body-short (importKey key) n d b w = omega (arith, key-body-short key (legal-short keyNameMost (key .name) n) (legal-data (key .bytes) d) (legal-bits (key .bits) (import-legal (key .bits) b)))
 body-short (destroyKey name) n d b w = omega (arith, bytes-body-short name (legal-short keyNameMost name n))
 body-short (exportPublicKey name) n d b w = omega (arith, bytes-body-short name (legal-short keyNameMost name n))
 body-short (verifySignature name hash signature) n d b w = leb-true _ _ w

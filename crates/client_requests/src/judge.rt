@@ -2,9 +2,9 @@
 // signatures").
 use crate::WriteRefusal;
 use keys::APPLICATION_NAME_MOST;
-use keys::DATA_MOST;
 use keys::KEY_NAME_MOST;
-use keys::bits::are_legal_bits;
+use keys::bits::are_import_bits;
+use keys::data::is_legal_data;
 use keys::names::is_legal;
 use messages::HASH_SIZE;
 use messages::write::verify_body_size;
@@ -13,7 +13,6 @@ ghost use mathlib.Core.Bool.{Bool};
 ghost use mathlib.Core.List.{[], _∷_};
 ghost use mathlib.Core.Path.{_≡_};
 ghost use Rattle.wire.specs.Choice.{firstOf};
-ghost use Rattle.keys.specs.Key.{legalData};
 ghost use Rattle.messages.specs.Operations.{ping, importKey, destroyKey, verifySignature};
 ghost use Rattle.client_requests.specs.Writing.{senderOf, legalSender, legalBody, writeTests};
 ghost use Rattle.client_requests.specs.code.Judged.{judgedAs, firstRefusal};
@@ -37,18 +36,6 @@ fn is_legal_sender(named: bool, application: &[u8]) -> bool
         return true;
     }
     is_legal(application, APPLICATION_NAME_MOST)
-}
-
-fn is_legal_data(bytes: &[u8]) -> bool
-    ensures { λ r. ⌜ r ≡ legalData (now (bytes .entry)) ⌝ }
-{
-    if bytes.len() < 1 {
-        return false;
-    }
-    if DATA_MOST < bytes.len() {
-        return false;
-    }
-    true
 }
 
 // Whether verify's body is short enough. A field that is too long by itself is told before sizes are added up.
@@ -123,8 +110,8 @@ pub fn judge_key(
     ensures { λ r. ⌜ ((exported verified : Bool) → r ≡ judgedAs (firstOf (writeTests (now (out .entry)) (senderOf named (now (application .entry))) (importKey (record { name = now (name .entry); bytes = now (bytes .entry); bits = bits; exportAllowed = exported; verifyAllowed = verified }))))) ⌝ }
 {
     let names = judge_name(out, named, application, name);
-    let data = judge(!is_legal_data(bytes), WriteRefusal::DataIllegal);
-    let size = judge(!are_legal_bits(bits as usize), WriteRefusal::BitsIllegal);
+    let data = judge(!is_legal_data(bytes.len()), WriteRefusal::DataIllegal);
+    let size = judge(!are_import_bits(bits as usize), WriteRefusal::BitsIllegal);
     first_refusal(names, first_refusal(data, size))
 }
 

@@ -11,9 +11,8 @@ use lib.ListN.{length, length-append}
 use Rattle.wire.specs.Request.{magicNumber, magic, headerSize, contentLength, authLength, requestOf, requestBytes}
 use Rattle.wire.proofs.RequestLaws.{request-magic, request-size, request-content, request-auth, request-long, request-back}
 use Rattle.keys.specs.Names.{keyNameMost}
-use Rattle.keys.specs.Key.{importBits}
 use Rattle.keys.proofs.NameLaws.{legal-short}
-use Rattle.keys.proofs.KeyLaws.{legal-data, legal-bits}
+use Rattle.keys.proofs.KeyLaws.{legal-data, legal-bits, import-legal}
 use Rattle.messages.specs.Message.{AllFit}
 use Rattle.messages.specs.Protobuf.{protobuf}
 use Rattle.messages.specs.Operations.{Operation, ping, listProviders, listOpcodes, importKey, destroyKey, exportPublicKey, verifySignature, inputOf, operationBody, operationOf}
@@ -53,14 +52,13 @@ short-body : (sender : Sender) (operation : Operation) → Writable sender opera
 short-body sender operation w = body-short operation (w .name-legal) (w .data-legal) (w .bits-legal) (w .body-legal)
 
 fits : (sender : Sender) (operation : Operation) → Writable sender operation → AllFit (protobuf .lengthMost) (inputOf operation)
-unfolding importBits
 fits sender ping w = tt
 fits sender listProviders w = tt
 fits sender (listOpcodes provider) w = (w .small, tt)
 fits sender (importKey key) w =
     let n = legal-short keyNameMost (key .name) (w .name-legal) in
     let d = legal-data (key .bytes) (w .data-legal) in
-    let b = legal-bits (key .bits) (w .bits-legal) in
+    let b = legal-bits (key .bits) (import-legal (key .bits) (w .bits-legal)) in
     (omega arith, (omega arith, (omega arith, (tt, (tt, tt)))))
 fits sender (destroyKey name) w = let n = legal-short keyNameMost name (w .name-legal) in (omega arith, tt)
 fits sender (exportPublicKey name) w = let n = legal-short keyNameMost name (w .name-legal) in (omega arith, tt)

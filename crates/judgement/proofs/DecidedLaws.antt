@@ -5,13 +5,13 @@ use mathlib.Core.Option.{none, some}
 use mathlib.Core.List.{List, []}
 use Prim.Native.Nat.{ℕ, _≤_, _<_}
 use native.Mathlib.Omega.{arith}
-use borrow.Author.Tests.{eq-eqb, ne-eqb, lt-ltb, le-ltb, lt-leb, le-leb}
+use borrow.Author.Tests.{eq-eqb, ne-eqb, lt-ltb, le-ltb}
 use lib.ListN.{length, getD}
 use lib.Dec.{eqb}
 use Rattle.wire.proofs.ListLaws.{length-part}
 use Rattle.wire.proofs.TestLaws.{some≢none}
 use Rattle.keys.specs.Names.{legalName, keyNameMost}
-use Rattle.keys.specs.Key.{Key, dataMost, legalData, legalBits, importBits}
+use Rattle.keys.specs.Key.{Key, legalData, importBits}
 use Rattle.registry.specs.Slots.{Entry, free, held}
 use Rattle.registry.specs.Registry.{slotCount, slotsOf, slotNamed, unchanged, fill, clear}
 use Rattle.registry.specs.declared.Line.{Line}
@@ -136,17 +136,13 @@ module _ (key : Key) where
   bad-name n = rw n
 
   module _ (n : legalName keyNameMost (key .name) ≡ true) where
-    pub no-data : length (key .bytes) ≡ 0 → importable key ≡ false
-    unfolding importable legalData
-    no-data h = rw (n, lt-leb 1 (length (key .bytes)) (omega arith))
+    pub bad-data : legalData (key .bytes) ≡ false → importable key ≡ false
+    unfolding importable
+    bad-data d = rw (n, d)
 
-    pub long-data : dataMost < length (key .bytes) → importable key ≡ false
-    unfolding importable legalData
-    long-data h = rw (n, le-leb 1 (length (key .bytes)) (omega arith), lt-leb (length (key .bytes)) dataMost h)
-
-    pub bits-left : 1 ≤ length (key .bytes) → length (key .bytes) ≤ dataMost → importable key ≡ legalBits (key .bits)
-    unfolding importable legalData importBits
-    bits-left l h = rw (n, le-leb 1 (length (key .bytes)) l, le-leb (length (key .bytes)) dataMost h) (and-true _)
+    pub bits-left : legalData (key .bytes) ≡ true → importable key ≡ importBits (key .bits)
+    unfolding importable
+    bits-left d = rw (n, d) (and-true _)
 
 module _ (slots : List Entry) (keys : List ListedKey) (key : Key) where
   pub bad-key : importable key ≡ false → performImport key slots keys ≡ refuse PsaErrorInvalidArgument

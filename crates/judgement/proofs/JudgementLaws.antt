@@ -12,11 +12,12 @@ use Rattle.wire.proofs.TestLaws.{some≢none, every-at, either}
 use Rattle.stream.specs.Frame.{oversized}
 use Rattle.stream.specs.Rules.{Verdict, judge}
 use Rattle.keys.specs.Names.{legalName, keyNameMost}
-use Rattle.keys.specs.Key.{Key, legalData, legalBits, importBits}
+use Rattle.keys.specs.Key.{Key, legalData, importBits}
 use Rattle.registry.specs.Slots.{Entry}
 use Rattle.registry.specs.Registry.{namesIn, applicationNamed, unchanged, changed}
 use Rattle.registry.specs.WellFormed.{wellFormedRegistry}
 use Rattle.registry.specs.declared.Line.{Line}
+use Rattle.keys.proofs.KeyLaws.{import-legal}
 use Rattle.registry.proofs.SlotLaws.{Legal}
 use Rattle.registry.proofs.RegistryLaws.{Used, named-used}
 use Rattle.registry.proofs.WellFormedLaws.{Allowed, stays, fills, clears, uses, change-kept}
@@ -43,10 +44,10 @@ asks r q line e = go (eqb (q .authType) 0) e
 -- ---- the registry after a request
 
 pub importable-legal : (key : Key) → importable key ≡ true → Legal key
-unfolding importable importBits
+unfolding importable
 importable-legal key e =
-    let tests : List Bool = legalName keyNameMost (key .name) ∷ legalData (key .bytes) ∷ legalBits (key .bits) ∷ [] in
-    record { name = every-at tests 0 e; bytes = every-at tests 1 e; bits = every-at tests 2 e }
+    let tests : List Bool = legalName keyNameMost (key .name) ∷ legalData (key .bytes) ∷ importBits (key .bits) ∷ [] in
+    record { name = every-at tests 0 e; bytes = every-at tests 1 e; bits = import-legal _ (every-at tests 2 e) }
 
 use-allowed : (slots : List Entry) (keys : List ListedKey) (name : List ℕ) (source : Source) → keyNamed name slots keys ≡ some source
     → (output : Output) → Allowed slots (counted source (success output unchanged) .change)

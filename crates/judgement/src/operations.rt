@@ -5,9 +5,9 @@ use crate::Output;
 use crate::Status;
 use crate::signature::verify;
 use crate::statuses::status_number;
-use keys::DATA_MOST;
 use keys::KEY_NAME_MOST;
-use keys::bits::are_legal_bits;
+use keys::bits::are_import_bits;
+use keys::data::is_legal_data;
 use keys::names::is_legal;
 use lookup::Place;
 use lookup::find::find_key;
@@ -94,13 +94,10 @@ fn is_importable(body: &[u8], key: KeyPlaces) -> bool
     if !is_legal(&body[start..end], KEY_NAME_MOST) {
         return false;
     }
-    if bytes.len == 0 {
+    if !is_legal_data(bytes.len) {
         return false;
     }
-    if DATA_MOST < bytes.len {
-        return false;
-    }
-    are_legal_bits(key.bits as usize)
+    are_import_bits(key.bits as usize)
 }
 
 // Import, of a key in its body.

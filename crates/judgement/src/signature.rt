@@ -6,7 +6,7 @@ use crate::operations::counted;
 use crate::operations::refused;
 use crate::operations::served;
 use keys::KEY_NAME_MOST;
-use keys::bits::are_legal_bits;
+use keys::bits::are_import_bits;
 use keys::names::is_legal;
 use lookup::Place;
 use lookup::find::find_key;
@@ -54,8 +54,7 @@ pub fn verify_with(
     if hash.len() != HASH_SIZE {
         return refused(Status::PsaErrorInvalidArgument);
     }
-    // Import's own rule.
-    if !are_legal_bits(bits) {
+    if !are_import_bits(bits) {
         return refused(Status::PsaErrorNotSupported);
     }
     let verification = rsa::verify::verify(key, bits, hash, signature);

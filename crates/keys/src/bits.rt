@@ -2,7 +2,7 @@
 use crate::BITS_LEAST;
 use crate::BITS_MOST;
 ghost use mathlib.Core.Path.{_≡_};
-ghost use Rattle.keys.specs.Key.{legalBits};
+ghost use Rattle.keys.specs.Key.{legalBits, importBits};
 
 // Whether a key in a registry may have this many bits.
 pub fn are_legal_bits(bits: usize) -> bool
@@ -15,4 +15,11 @@ pub fn are_legal_bits(bits: usize) -> bool
         return false;
     }
     bits % 8 == 0
+}
+
+// Whether Import takes a key of this many bits.
+pub fn are_import_bits(bits: usize) -> bool
+    ensures { λ r. ⌜ r ≡ importBits bits ⌝ }
+{
+    are_legal_bits(bits)
 }

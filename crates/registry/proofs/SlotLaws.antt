@@ -4,14 +4,14 @@ use mathlib.Core.Bool.{Bool, true, false, or-true, or-false}
 use mathlib.Core.List.{List, [], _∷_, _++_, append-assoc, append-nil}
 use Prim.Native.Nat.{ℕ, zero, suc, _+_, _-_, _≤_, _<_}
 use native.Mathlib.Omega.{arith}
-use borrow.Author.Tests.{ne-eqb, eqb-false, le-leb, lt-leb}
+use borrow.Author.Tests.{ne-eqb, eqb-false, leb-true, leb-false}
 use lib.ListN.{length, take, drop, getD, replicate, length-append, length-replicate, length-take, length-drop}
 use lib.Seq.{take-at, take-append-seam, drop-append-seam, drop-at, drop-drop, getD-drop}
 use lib.Dec.{leb, eqb}
 use Rattle.wire.specs.Choice.{if_then_else_}
 use Rattle.wire.specs.Lists.{all, every, isZero, padded}
 use Rattle.wire.specs.Numbers.{littleEndianOf, field}
-use Rattle.keys.proofs.KeyLaws.{legal-data}
+use Rattle.keys.proofs.KeyLaws.{legal-data, data-by-length, long-data}
 use Rattle.wire.proofs.TestLaws.{every-at}
 use Rattle.wire.proofs.ListLaws.{all-zeros, length-padded}
 use Rattle.wire.proofs.NumberLaws.{length-number, field-back}
@@ -64,19 +64,19 @@ module _ (slot : List ℕ) (long : length slot ≡ slotSize) where
   data-length : field dataLengthAt 2 slot ≤ dataMost → length (dataIn slot) ≡ field dataLengthAt 2 slot
   data-length h = simp (length-take, length-drop) (omega arith)
 
-  pub data-ok : 1 ≤ field dataLengthAt 2 slot → field dataLengthAt 2 slot ≤ dataMost → legalData (dataIn slot) ≡ true
-  unfolding legalData
-  data-ok l h = rw (data-length h, le-leb _ _ l, le-leb _ _ h)
+  -- the length alone decides, also where it is more than the slot has bytes
+  pub data-judged : legalData (replicate (field dataLengthAt 2 slot) 0) ≡ legalData (dataIn slot)
+  data-judged = go (leb (field dataLengthAt 2 slot) dataMost) refl
+    where
+      zeros : length {A = ℕ} (replicate (field dataLengthAt 2 slot) 0) ≡ field dataLengthAt 2 slot
+      zeros = length-replicate {A = ℕ} (field dataLengthAt 2 slot) 0
 
-  pub data-long : dataMost < field dataLengthAt 2 slot → legalData (dataIn slot) ≡ false
-  unfolding legalData
-  data-long h =
-      let more : dataMost < length (dataIn slot) = simp (length-take, length-drop) (omega arith) in
-      rw (le-leb 1 (length (dataIn slot)) (omega arith), lt-leb _ dataMost more)
-
-pub data-none : (slot : List ℕ) → field dataLengthAt 2 slot ≡ 0 → legalData (dataIn slot) ≡ false
-unfolding legalData
-data-none slot h = rw h
+      go : (t : Bool) → leb (field dataLengthAt 2 slot) dataMost ≡ t → legalData (replicate (field dataLengthAt 2 slot) 0) ≡ legalData (dataIn slot)
+      go true e = data-by-length _ _ (zeros ∙ sym (data-length (leb-true _ _ e)))
+      go false e =
+          let long-field : dataMost < field dataLengthAt 2 slot = leb-false _ _ e in
+          let more : dataMost < length (dataIn slot) = simp (length-take, length-drop) (omega arith) in
+          long-data _ (omega (arith, zeros, long-field)) ∙ sym (long-data _ more)
 
 -- ---- a key that is written and read again
 

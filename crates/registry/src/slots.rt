@@ -7,9 +7,9 @@ use crate::SLOT_SIZE;
 use crate::USES_AT;
 use crate::USES_MOST;
 use crate::VERIFY_AT;
-use keys::DATA_MOST;
 use keys::KEY_NAME_MOST;
 use keys::bits::are_legal_bits;
+use keys::data::is_legal_data;
 use keys::names::is_legal;
 use wire::bytes::all_zero;
 use wire::bytes::clear;
@@ -54,10 +54,7 @@ pub fn is_slot(s: &[u8]) -> bool
         return false;
     }
     let d = size_at(s, DATA_LENGTH_AT);
-    if d == 0 {
-        return false;
-    }
-    if DATA_MOST < d {
+    if !is_legal_data(d) {
         return false;
     }
     let f = DATA_AT + d;

@@ -1,6 +1,6 @@
 // One pair of the list: a key's name, then its data.
-use keys::DATA_MOST;
 use keys::KEY_NAME_MOST;
+use keys::data::is_legal_data;
 use keys::names::is_legal;
 use records::file::is_whole;
 use records::file::record_length;
@@ -35,10 +35,7 @@ fn data_length(bytes: &[u8]) -> usize
         return 0;
     }
     let n = record_length(bytes);
-    if n <= 3 {
-        return 0;
-    }
-    if 3 + DATA_MOST < n {
+    if !is_legal_data(n - 3) {
         return 0;
     }
     n

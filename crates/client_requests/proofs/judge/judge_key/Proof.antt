@@ -1,6 +1,6 @@
 -- `client_requests::judge::judge_key` meets its contract.
+use mathlib.Core.Path.{refl}
 use borrow.Author.Needs.{needs}
-use Rattle.keys.specs.Key.{importBits}
 use Rattle.client_requests.specs.Writing.{senderOf}
 use Rattle.client_requests.proofs.JudgeLaws.{key-judged}
 use Rattle.client_requests.proofs.judge.judge_key.Statement.{statement}
@@ -15,8 +15,8 @@ is-legal-data-requires c κs = search needs
 judge-requires : tie.Need-judge-requires
 judge-requires c κs = search needs
 
-are-legal-bits-requires : tie.Need-are-legal-bits-requires
-are-legal-bits-requires c κs = search needs
+are-import-bits-requires : tie.Need-are-import-bits-requires
+are-import-bits-requires c κs = search needs
 
 judge-requires-2 : tie.Need-judge-requires-2
 judge-requires-2 c κs = search needs
@@ -28,14 +28,13 @@ first-refusal-requires-2 : tie.Need-first-refusal-requires-2
 first-refusal-requires-2 c κs = search needs
 
 returns : tie.Need-returns
-unfolding importBits
 returns c =
     let a = c .before .before .before .before .before .before .before .before .before .before .before .args in
     λ exported verified.
     rw (
       ← key-judged (a .out .now) (senderOf (a .named) (a .application .now)) (record { name = a .name .now; bytes = a .bytes .now; bits = a .bits; exportAllowed = exported; verifyAllowed = verified }),
-      ← c .before .before .before .are-legal-bits .ensures,
-      ← c .before .before .before .before .before .is-legal-data .ensures,
+      ← c .before .before .before .are-import-bits .ensures,
+      ← c .before .before .before .before .before .is-legal-data .ensures (a .bytes .now) refl,
       ← c .before .before .judge2 .ensures,
       ← c .before .before .before .before .judge .ensures,
       ← c .before .before .before .before .before .before .judge-name .ensures,
@@ -50,7 +49,7 @@ judge-key-spec =
     judge-name-requires
     is-legal-data-requires
     judge-requires
-    are-legal-bits-requires
+    are-import-bits-requires
     judge-requires-2
     first-refusal-requires
     first-refusal-requires-2

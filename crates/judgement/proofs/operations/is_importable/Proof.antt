@@ -8,9 +8,9 @@ use borrow.Author.Tests.{not-true, not-false}
 use lib.ListN.{length, take, drop}
 use Rattle.wire.proofs.ListLaws.{length-part}
 use Rattle.keys.specs.Names.{legalName, keyNameMost}
-use Rattle.keys.specs.Key.{Key}
+use Rattle.keys.specs.Key.{Key, legalData}
 use Rattle.messages.specs.Placed.{keyIn}
-use Rattle.judgement.proofs.DecidedLaws.{bad-name, no-data, long-data, bits-left}
+use Rattle.judgement.proofs.DecidedLaws.{bad-name, bad-data, bits-left}
 use Rattle.judgement.proofs.operations.is_importable.Statement.{statement}
 use Rattle.judgement.proofs.operations.is_importable.Tie as tie
 
@@ -50,29 +50,28 @@ is-legal-requires c κs = search needs
 returns : tie.Need-returns
 returns c = sym (bad-name _ (sym (name-part (c .before)) ∙ not-true _ (c .if1 .taken)))
 
+data-part : (c : tie.After-is-legal-data) → c .is-legal-data .result ≡ legalData (key (start (c .before .before)) .bytes)
+data-part c = let s = start (c .before .before) in c .is-legal-data .ensures (key s .bytes) (data-length s)
+
+is-legal-data-requires : tie.Need-is-legal-data-requires
+is-legal-data-requires c κs = search needs
+
 returns-2 : tie.Need-returns-2
 returns-2 c =
-    let e = c .before .before in
-    sym (no-data _ (name-passes e) (data-length (start (e .before)) ∙ c .if2 .taken))
+    let d = c .before in
+    sym (bad-data _ (name-passes (d .before)) (sym (data-part d) ∙ not-true _ (c .if2 .taken)))
+
+cast-are-import-bits : tie.Need-cast-are-import-bits
+cast-are-import-bits c = search needs
+
+are-import-bits-requires : tie.Need-are-import-bits-requires
+are-import-bits-requires c κs = search needs
 
 returns-3 : tie.Need-returns-3
 returns-3 c =
-    let e = c .before .before .before .before in
-    sym (long-data (key (start (e .before))) (name-passes e) (omega (arith, data-length (start (e .before)), c .if3 .taken)))
-
-cast-are-legal-bits : tie.Need-cast-are-legal-bits
-cast-are-legal-bits c = search needs
-
-are-legal-bits-requires : tie.Need-are-legal-bits-requires
-are-legal-bits-requires c κs = search needs
-
-returns-4 : tie.Need-returns-4
-returns-4 c =
     let l = c .before .before in
-    let e = l .before .before .before .before in
-    let n = data-length (start (e .before)) in
-    c .are-legal-bits .ensures
-    ∙ sym (bits-left (key (start (e .before))) (name-passes e) (omega (arith, n, l .before .before .if2 .left)) (omega (arith, n, l .if3 .left)))
+    let d = l .before in
+    c .are-import-bits .ensures ∙ sym (bits-left _ (name-passes (d .before)) (sym (data-part d) ∙ not-false _ (l .if2 .left)))
 
 pub is-importable-spec : {M : Type 1} → statement M
 is-importable-spec =
@@ -84,8 +83,8 @@ is-importable-spec =
     part-is-legal-end
     is-legal-requires
     returns
+    is-legal-data-requires
     returns-2
-    returns-3
-    cast-are-legal-bits
-    are-legal-bits-requires
-    returns-4)
+    cast-are-import-bits
+    are-import-bits-requires
+    returns-3)

@@ -3,10 +3,11 @@ use Rattle.wire.specs.Lists.{all, every, isZero}
 use Rattle.wire.specs.Numbers.{field}
 use Rattle.keys.specs.Names.{legalName, keyNameMost}
 use Rattle.registry.specs.Names.{nameIn}
-use Rattle.keys.specs.Key.{dataMost, legalBits}
-use Rattle.registry.specs.Slots.{dataLengthAt, dataAt, bitsAt, behindName, behindData, keyTests, wellFormedSlot}
+use Rattle.keys.specs.Key.{dataMost, legalData, legalBits}
+use Rattle.registry.specs.Slots.{dataLengthAt, dataAt, bitsAt, dataIn, behindName, behindData, keyTests, wellFormedSlot}
+use Rattle.keys.proofs.KeyLaws.{legal-data}
 use Rattle.keys.proofs.NameLaws.{legal-short}
-use Rattle.registry.proofs.SlotLaws.{free-slot, key-slot, name-length, data-ok, data-none, data-long}
+use Rattle.registry.proofs.SlotLaws.{free-slot, key-slot, name-length, data-judged}
 use mathlib.Core.Path.{_≡_, sym, ap, _∙_}
 use mathlib.Core.List.{List}
 use mathlib.Core.Bool.{true, and-true}
@@ -14,7 +15,7 @@ use Prim.Native.Nat.{ℕ, _+_, _-_, _≤_}
 use native.Mathlib.Omega.{arith}
 use borrow.Author.Needs.{needs}
 use borrow.Author.Tests.{le-leb, lt-leb, not-true, not-false}
-use lib.ListN.{take, drop, getD}
+use lib.ListN.{take, drop, getD, replicate, length-replicate}
 use Rattle.registry.proofs.slots.is_slot.Statement.{statement}
 use Rattle.registry.proofs.slots.is_slot.Tie as tie
 
@@ -31,16 +32,13 @@ abbrev start3 : tie.Else3 → tie.Start
 start3 c = start2 (c .before .before .before)
 
 abbrev start4 : tie.Else4 → tie.Start
-start4 c = start3 (c .before .before)
+start4 c = start3 (c .before .before .before)
 
 abbrev start5 : tie.Else5 → tie.Start
-start5 c = start4 (c .before)
+start5 c = start4 (c .before .before .before)
 
 abbrev start6 : tie.Else6 → tie.Start
 start6 c = start5 (c .before .before .before)
-
-abbrev start7 : tie.Else7 → tie.Start
-start7 c = start6 (c .before .before .before)
 
 -- the tests that are left, behind each test that passed
 rest1 : (c : tie.Else1) → wellFormedSlot (block (start1 c)) ≡ every (keyTests (block (start1 c)))
@@ -74,28 +72,38 @@ behind-name c =
 rest3 : (c : tie.Else3) → wellFormedSlot (block (start3 c)) ≡ every (drop 2 (keyTests (block (start3 c))))
 rest3 c = rest2 (c .before .before .before) ∙ rw (sym (behind-name (c .before)) ∙ not-false _ (c .if3 .left))
 
-rest5 : (c : tie.Else5) → wellFormedSlot (block (start5 c)) ≡ every (drop 3 (keyTests (block (start5 c))))
-rest5 c =
-    let e = c .before .before .size-at .ensures .0 in
-    rest3 (c .before .before .before) ∙ rw (data-ok (block (start5 c)) (start5 c .pre) (omega (arith, e, c .before .if4 .left)) (omega (arith, e)))
+data-part : (c : tie.After-is-legal-data) → c .is-legal-data .result ≡ legalData (dataIn (block (start3 (c .before .before))))
+data-part c =
+    let b = start3 (c .before .before) in
+    let n : ℕ = field dataLengthAt 2 (block b) in
+    c .is-legal-data .ensures (replicate n 0) (length-replicate {A = ℕ} n 0 ∙ sym (c .before .size-at .ensures .0)) ∙ data-judged (block b) (b .pre)
 
-behind-data : (c : tie.After-all-zero3) → c .all-zero3 .result ≡ all isZero (behindData (block (start5 (c .before .before))))
+short-data : (c : tie.Else4) → c .before .before .size-at .result ≤ dataMost
+short-data c =
+    let d : ℕ = c .before .before .size-at .result in
+    let legal = sym (c .before .is-legal-data .ensures (replicate d 0) (length-replicate {A = ℕ} d 0)) ∙ not-false _ (c .if4 .left) in
+    omega (arith, length-replicate {A = ℕ} d 0, legal-data (replicate d 0) legal)
+
+rest4 : (c : tie.Else4) → wellFormedSlot (block (start4 c)) ≡ every (drop 3 (keyTests (block (start4 c))))
+rest4 c = rest3 (c .before .before .before) ∙ rw (sym (data-part (c .before)) ∙ not-false _ (c .if4 .left))
+
+behind-data : (c : tie.After-all-zero3) → c .all-zero3 .result ≡ all isZero (behindData (block (start4 (c .before .before))))
 behind-data c =
     let e = c .before .before .before .before .size-at .ensures .0 in
-    let b = block (start5 (c .before .before)) in
+    let b = block (start4 (c .before .before)) in
     let less : bitsAt - (dataAt + field dataLengthAt 2 b) ≡ dataMost - field dataLengthAt 2 b = omega arith in
     c .all-zero3 .ensures
     ∙ ap (λ (k : ℕ). all isZero (take (bitsAt - (dataAt + k)) (drop (dataAt + k) b))) e
     ∙ ap (λ (k : ℕ). all isZero (take k (drop (dataAt + field dataLengthAt 2 b) b))) less
 
-rest6 : (c : tie.Else6) → wellFormedSlot (block (start6 c)) ≡ every (drop 4 (keyTests (block (start6 c))))
-rest6 c = rest5 (c .before .before .before) ∙ rw (sym (behind-data (c .before)) ∙ not-false _ (c .if6 .left))
+rest5 : (c : tie.Else5) → wellFormedSlot (block (start5 c)) ≡ every (drop 4 (keyTests (block (start5 c))))
+rest5 c = rest4 (c .before .before .before) ∙ rw (sym (behind-data (c .before)) ∙ not-false _ (c .if5 .left))
 
-bits : (c : tie.After-are-legal-bits) → c .are-legal-bits .result ≡ legalBits (field bitsAt 2 (block (start6 (c .before .before))))
+bits : (c : tie.After-are-legal-bits) → c .are-legal-bits .result ≡ legalBits (field bitsAt 2 (block (start5 (c .before .before))))
 bits c = c .are-legal-bits .ensures ∙ ap legalBits (c .before .size-at2 .ensures .0)
 
-rest7 : (c : tie.Else7) → wellFormedSlot (block (start7 c)) ≡ every (drop 5 (keyTests (block (start7 c))))
-rest7 c = rest6 (c .before .before .before) ∙ rw (sym (bits (c .before)) ∙ not-false _ (c .if7 .left))
+rest6 : (c : tie.Else6) → wellFormedSlot (block (start6 c)) ≡ every (drop 5 (keyTests (block (start6 c))))
+rest6 c = rest5 (c .before .before .before) ∙ rw (sym (bits (c .before)) ∙ not-false _ (c .if6 .left))
 
 shared-slice-read-wide : tie.Need-shared-slice-read-wide
 shared-slice-read-wide c = search needs
@@ -145,20 +153,20 @@ returns-3 c = sym (rest2 (c .before .before .before) ∙ rw (sym (behind-name (c
 size-at-requires : tie.Need-size-at-requires
 size-at-requires c κs = search needs
 
-returns-4 : tie.Need-returns-4
-returns-4 c = sym (rest3 (c .before .before) ∙ rw (data-none _ (sym (c .before .size-at .ensures .0) ∙ c .if4 .taken)))
+is-legal-data-requires : tie.Need-is-legal-data-requires
+is-legal-data-requires c κs = search needs
 
-returns-5 : tie.Need-returns-5
-returns-5 c = sym (rest3 (c .before .before .before) ∙ rw (data-long (block (start4 (c .before))) (start4 (c .before) .pre) (omega (arith, c .before .before .size-at .ensures .0))))
+returns-4 : tie.Need-returns-4
+returns-4 c = sym (rest3 (c .before .before .before) ∙ rw (sym (data-part (c .before)) ∙ not-true _ (c .if4 .taken)))
 
 add-f : tie.Need-add-f
 add-f c = search needs
 
 sub-all-zero-2 : tie.Need-sub-all-zero-2
-sub-all-zero-2 c = search needs
+sub-all-zero-2 c = omega (arith, short-data c)
 
 part-all-zero-start-2 : tie.Need-part-all-zero-start-2
-part-all-zero-start-2 c = search needs
+part-all-zero-start-2 c = omega (arith, short-data c)
 
 part-all-zero-end-2 : tie.Need-part-all-zero-end-2
 part-all-zero-end-2 c = search needs
@@ -166,8 +174,8 @@ part-all-zero-end-2 c = search needs
 all-zero-requires-3 : tie.Need-all-zero-requires-3
 all-zero-requires-3 c κs = search needs
 
-returns-6 : tie.Need-returns-6
-returns-6 c = sym (rest5 (c .before .before .before) ∙ rw (sym (behind-data (c .before)) ∙ not-true _ (c .if6 .taken)))
+returns-5 : tie.Need-returns-5
+returns-5 c = sym (rest4 (c .before .before .before) ∙ rw (sym (behind-data (c .before)) ∙ not-true _ (c .if5 .taken)))
 
 size-at-requires-2 : tie.Need-size-at-requires-2
 size-at-requires-2 c κs = search needs
@@ -175,20 +183,20 @@ size-at-requires-2 c κs = search needs
 are-legal-bits-requires : tie.Need-are-legal-bits-requires
 are-legal-bits-requires c κs = search needs
 
+returns-6 : tie.Need-returns-6
+returns-6 c = sym (rest5 (c .before .before .before) ∙ rw (sym (bits (c .before)) ∙ not-true _ (c .if6 .taken)))
+
+shared-slice-read-if7 : tie.Need-shared-slice-read-if7
+shared-slice-read-if7 c = search needs
+
 returns-7 : tie.Need-returns-7
-returns-7 c = sym (rest6 (c .before .before .before) ∙ rw (sym (bits (c .before)) ∙ not-true _ (c .if7 .taken)))
-
-shared-slice-read-if8 : tie.Need-shared-slice-read-if8
-shared-slice-read-if8 c = search needs
-
-returns-8 : tie.Need-returns-8
-returns-8 c = sym (rest7 (c .before .before) ∙ rw (lt-leb _ 1 (c .if8 .taken)))
+returns-7 c = sym (rest6 (c .before .before) ∙ rw (lt-leb _ 1 (c .if7 .taken)))
 
 shared-slice-read-result : tie.Need-shared-slice-read-result
 shared-slice-read-result c = search needs
 
-returns-9 : tie.Need-returns-9
-returns-9 c = sym (rest7 (c .before .before .before) ∙ rw (le-leb _ 1 (c .before .if8 .left)) (and-true _))
+returns-8 : tie.Need-returns-8
+returns-8 c = sym (rest6 (c .before .before .before) ∙ rw (le-leb _ 1 (c .before .if7 .left)) (and-true _))
 
 pub is-slot-spec : {M : Type 1} → statement M
 is-slot-spec =
@@ -210,18 +218,18 @@ is-slot-spec =
     all-zero-requires-2
     returns-3
     size-at-requires
+    is-legal-data-requires
     returns-4
-    returns-5
     add-f
     sub-all-zero-2
     part-all-zero-start-2
     part-all-zero-end-2
     all-zero-requires-3
-    returns-6
+    returns-5
     size-at-requires-2
     are-legal-bits-requires
+    returns-6
+    shared-slice-read-if7
     returns-7
-    shared-slice-read-if8
-    returns-8
     shared-slice-read-result
-    returns-9)
+    returns-8)

@@ -1,16 +1,16 @@
 -- `shipped::pairs::data_length` meets its contract.
 use Prim.Native.Nat.{ℕ, _+_, _<_}
 use mathlib.Core.Path.{_≡_, sym, _∙_}
-use mathlib.Core.Bool.{true, false}
+use mathlib.Core.Bool.{true}
 use mathlib.Core.List.{List}
 use native.Mathlib.Omega.{arith}
 use borrow.Author.Needs.{needs}
-use borrow.Author.Tests.{eq-eqb, ne-eqb, lt-leb, le-leb, not-true, not-false}
-use lib.Dec.{eqb, leb}
+use borrow.Author.Tests.{eq-eqb, ne-eqb, not-true, not-false}
+use lib.Dec.{eqb}
 use lib.ListN.{length, getD}
 use Rattle.wire.specs.Numbers.{field}
 use Rattle.wire.proofs.NumberLaws.{field-byte}
-use Rattle.keys.specs.Key.{dataMost, legalData}
+use Rattle.keys.specs.Key.{legalData}
 use Rattle.records.specs.Records.{valueIn, isWhole}
 use Rattle.records.proofs.RecordLaws.{whole-room, value-length}
 use Rattle.shipped.specs.code.Pairs.{isData, dataLength}
@@ -61,34 +61,29 @@ record-length-requires c κs = omega (arith, whole-room (bytes (start2 c)) (whol
 size : (c : tie.After-record-length) → c .record-length .result ≡ 3 + length (valueIn (bytes (start2 (c .before))))
 size c = omega (arith, c .record-length .ensures, value-length (bytes (start2 (c .before))) (whole (c .before .before .before)))
 
+sub-is-legal-data : tie.Need-sub-is-legal-data
+sub-is-legal-data c = omega (arith, size c)
+
+is-legal-data-requires : tie.Need-is-legal-data-requires
+is-legal-data-requires c κs = search needs
+
+value : (c : tie.After-is-legal-data) → c .is-legal-data .result ≡ legalData (valueIn (bytes (start2 (c .before .before))))
+value c =
+    let v : List ℕ = valueIn (bytes (start2 (c .before .before))) in
+    c .is-legal-data .ensures v (omega (arith, size (c .before)))
+
 returns-3 : tie.Need-returns-3
-unfolding dataLength isData legalData
+unfolding dataLength isData
 returns-3 c =
-    let e = c .before .before in
-    let short : leb 1 (length (valueIn (bytes (start2 e)))) ≡ false = lt-leb 1 (length (valueIn (bytes (start2 e)))) (omega (arith, size (c .before), c .if3 .taken)) in
-    rw (whole (e .before .before), tag e, short)
-
-some-data : (c : tie.Else3) → leb 1 (length (valueIn (bytes (start2 (c .before .before))))) ≡ true
-some-data c = le-leb 1 (length (valueIn (bytes (start2 (c .before .before))))) (omega (arith, size (c .before), c .if3 .left))
-
-add-if4 : tie.Need-add-if4
-add-if4 c = search needs
+    let e = c .before .before .before in
+    rw (whole (e .before .before), tag e, sym (value (c .before)) ∙ not-true _ (c .if3 .taken))
 
 returns-4 : tie.Need-returns-4
-unfolding dataLength isData legalData
+unfolding dataLength isData
 returns-4 c =
-    let l = c .before in
-    let e = l .before .before in
-    let long : leb (length (valueIn (bytes (start2 e)))) dataMost ≡ false = lt-leb (length (valueIn (bytes (start2 e)))) dataMost (omega (arith, size (l .before), c .if4 .taken)) in
-    rw (whole (e .before .before), tag e, some-data l, long)
-
-returns-5 : tie.Need-returns-5
-unfolding dataLength isData legalData
-returns-5 c =
-    let l = c .before in
-    let e = l .before .before in
-    let fits : leb (length (valueIn (bytes (start2 e)))) dataMost ≡ true = le-leb (length (valueIn (bytes (start2 e)))) dataMost (omega (arith, size (l .before), c .if4 .left)) in
-    rw (whole (e .before .before), tag e, some-data l, fits) (l .before .record-length .ensures)
+    let r = c .before .before in
+    let e = r .before in
+    rw (whole (e .before .before), tag e, sym (value (c .before)) ∙ not-false _ (c .if3 .left)) (r .record-length .ensures)
 
 pub data-length-spec : {M : Type 1} → statement M
 data-length-spec =
@@ -99,7 +94,7 @@ data-length-spec =
     shared-slice-read-if2
     returns-2
     record-length-requires
+    sub-is-legal-data
+    is-legal-data-requires
     returns-3
-    add-if4
-    returns-4
-    returns-5)
+    returns-4)
