@@ -10,8 +10,8 @@ use Rattle.wire.specs.Lists.{all, isZero, same, padded, blocks}
 use Rattle.wire.proofs.TestLaws.{and-left, and-right}
 use Rattle.wire.proofs.ListLaws.{all-append, all-zeros, length-padded}
 use Rattle.wire.proofs.BlockLaws.{skip, Sized, length-flatten, blocks-flatten, zero-blocks}
-use Rattle.keys.specs.Names.{legalName, applicationNameMost}
-use Rattle.registry.specs.Names.{nameIn, isNew, distinct}
+use Rattle.keys.specs.Names.{legalName, applicationNameMost, isNew}
+use Rattle.registry.specs.Names.{nameIn, distinct}
 use Rattle.registry.specs.Slots.{slotSize}
 use Rattle.registry.specs.Registry.{lineCount, slotCount, lineHead, lineSize, registrySize, linesIn, namesIn, slotsIn, lineOf, registryOf}
 use Rattle.registry.specs.WellFormed.{isUsed, noneUsed, usedFirst, zerosBehindName, wellFormedRegistry}

@@ -12,11 +12,11 @@ use Rattle.wire.specs.Lists.{all, same, every, padded}
 use Rattle.wire.proofs.TestLaws.{and-left, and-right, every-at}
 use Rattle.wire.proofs.ListLaws.{all-take, same-true, length-part, zeros-back}
 use Rattle.wire.proofs.BlockLaws.{Sized}
-use Rattle.keys.specs.Names.{keyNameMost}
+use Rattle.keys.specs.Names.{keyNameMost, isNew}
 use Rattle.keys.specs.code.Marks.{differsFrom}
 use Rattle.keys.proofs.NameLaws.{legal-short}
 use Rattle.keys.proofs.MarkLaws.{differs}
-use Rattle.registry.specs.Names.{nameIn, isNew, distinct}
+use Rattle.registry.specs.Names.{nameIn, distinct}
 use Rattle.registry.specs.Slots.{dataLengthAt, slotSize, keyTests, wellFormedSlot}
 use Rattle.registry.specs.code.Check.{markIn}
 use Rattle.registry.proofs.NameLaws.{Apart, apart-empty, apart-absent, distinct-snoc}

@@ -11,7 +11,8 @@ use Rattle.wire.specs.Choice.{if_then_else_}
 use Rattle.wire.specs.Lists.{all, same}
 use Rattle.wire.proofs.TestLaws.{and-left, and-right}
 use Rattle.wire.proofs.ListLaws.{same-comm, all-append, all-set}
-use Rattle.registry.specs.Names.{indexFrom, isNew, distinct}
+use Rattle.keys.specs.Names.{isNew}
+use Rattle.registry.specs.Names.{indexFrom, distinct}
 
 -- ---- the index of a name
 

@@ -14,7 +14,8 @@ use Rattle.wire.specs.Lists.{same}
 use Rattle.wire.proofs.TestLaws.{and-left, and-right, some≢none}
 use Rattle.wire.proofs.ListLaws.{part-of-part, same-true, map-at}
 use Rattle.wire.proofs.BlockLaws.{length-blocks, block-at}
-use Rattle.registry.specs.Names.{nameIn, indexFrom, isNew}
+use Rattle.keys.specs.Names.{isNew}
+use Rattle.registry.specs.Names.{nameIn, indexFrom}
 use Rattle.registry.specs.Slots.{Entry, free, nameOf, slotOf, slotSize}
 use Rattle.registry.specs.Registry.{lineCount, slotCount, lineHead, lineSize, namesIn, slotsIn, applicationNamed, lineAt, slotsOf, slotNamed, place}
 use Rattle.registry.specs.WellFormed.{isUsed}

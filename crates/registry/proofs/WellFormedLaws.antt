@@ -13,8 +13,8 @@ use Rattle.wire.proofs.TestLaws.{and-left, and-right, every-at}
 use Rattle.wire.proofs.ListLaws.{length-part, part-of-part, all-at, all-set, all-take, all-drop, zero-at, map-set}
 use Rattle.wire.proofs.PutLaws.{length-put, take-put, drop-put}
 use Rattle.wire.proofs.BlockLaws.{length-blocks, block-at, all-block, zero-blocks, blocks-put, blocks-put-whole}
-use Rattle.keys.specs.Names.{legalName, applicationNameMost}
-use Rattle.registry.specs.Names.{nameIn, isNew, distinct}
+use Rattle.keys.specs.Names.{legalName, applicationNameMost, isNew}
+use Rattle.registry.specs.Names.{nameIn, distinct}
 use Rattle.keys.specs.Key.{Key}
 use Rattle.registry.specs.Slots.{Entry, free, held, keyBytes, slotBytes, slotOf, usedSlot, slotSize, wellFormedSlot}
 use Rattle.registry.specs.Registry.{lineCount, slotCount, lineHead, lineSize, registrySize, linesIn, namesIn, slotsIn, lineAt, slotsOf, slotNamed, Change, unchanged, fill, clear, addUse, slotAt, changed}

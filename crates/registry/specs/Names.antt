@@ -1,10 +1,11 @@
 -- Names of keys and of applications, and where a name stands among others ("Roster, registry, connection, tally").
 use Prim.Native.Nat.{ℕ, _+_}
-use mathlib.Core.Bool.{Bool, true, not, _&&_}
+use mathlib.Core.Bool.{Bool, true, _&&_}
 use mathlib.Core.List.{List, [], _∷_}
 use lib.ListN.{getD, take, drop}
 use Rattle.wire.specs.Choice.{if_then_else_}
-use Rattle.wire.specs.Lists.{all, same}
+use Rattle.wire.specs.Lists.{same}
+use Rattle.keys.specs.Names.{isNew}
 
 -- the name at the beginning of a block of bytes: its length in one byte, then the name
 abbrev pub nameIn : List ℕ → List ℕ
@@ -14,10 +15,6 @@ nameIn block = take (getD block 0 0) (drop 1 block)
 unfoldable pub indexFrom : List ℕ → List (List ℕ) → (i : ℕ) → ℕ
 indexFrom x [] i = i
 indexFrom x (y ∷ ys) i = if same x y then i else indexFrom x ys (i + 1)
-
--- none of the names is x
-abbrev pub isNew : List ℕ → List (List ℕ) → Bool
-isNew x ys = all (λ y. not (same x y)) ys
 
 -- no name but the empty one stands twice
 unfoldable pub distinct : List (List ℕ) → Bool

@@ -5,7 +5,8 @@ ghost use mathlib.Core.Path.{_≡_};
 ghost use mathlib.Core.Bool.{not};
 ghost use Prim.Native.Nat.{_+_, _*_, _≤_};
 ghost use lib.ListN.{length, drop};
-ghost use Rattle.registry.specs.Names.{indexFrom, isNew, distinct};
+ghost use Rattle.keys.specs.Names.{isNew};
+ghost use Rattle.registry.specs.Names.{indexFrom, distinct};
 ghost use Rattle.registry.specs.code.Check.{blockNames};
 
 // The number of the first block from `from` on whose name is `name`, or `count` where there is none: blocks of `size`

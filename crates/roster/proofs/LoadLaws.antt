@@ -19,8 +19,7 @@ use Rattle.wire.proofs.TestLaws.{some≢none, none-at}
 use Rattle.wire.proofs.ListLaws.{all-at, all-append, all-take, map-at}
 use Rattle.wire.proofs.BufferLaws.{lent}
 use Rattle.wire.proofs.BlockLaws.{length-flatten, flatten-snoc}
-use Rattle.keys.specs.Names.{legalName, applicationNameMost}
-use Rattle.registry.specs.Names.{isNew}
+use Rattle.keys.specs.Names.{legalName, applicationNameMost, isNew}
 use Rattle.registry.specs.Slots.{slotSize}
 use Rattle.registry.specs.Registry.{lineCount, slotCount, lineSize, lineOf}
 use Rattle.registry.proofs.KeylessLaws.{isLegal, sized-names}

@@ -7,8 +7,7 @@ use mathlib.Core.List.{List, [], _∷_, _++_}
 use lib.ListN.{length}
 use lib.Dec.{leb, eqb}
 use Rattle.wire.specs.Choice.{if_then_else_, firstOf}
-use Rattle.keys.specs.Names.{legalName, applicationNameMost}
-use Rattle.registry.specs.Names.{isNew}
+use Rattle.keys.specs.Names.{legalName, applicationNameMost, isNew}
 use Rattle.registry.specs.Registry.{lineCount, registrySize, registryOf}
 use Rattle.records.specs.Records.{Record, Step, next, stop, readRecords}
 use Rattle.roster.specs.declared.RosterFault.{RosterFault}

@@ -12,7 +12,7 @@ ghost use mathlib.Core.Bool.{not};
 ghost use mathlib.Core.List.{[]};
 ghost use Prim.Native.Nat.{_≤_, _<_};
 ghost use lib.ListN.{length, drop, getD};
-ghost use Rattle.registry.specs.Names.{isNew};
+ghost use Rattle.keys.specs.Names.{isNew};
 ghost use Rattle.registry.specs.Registry.{lineCount};
 ghost use Rattle.roster.specs.code.Check.{loadedOf, faultIn, namesAt, withName, Within};
 

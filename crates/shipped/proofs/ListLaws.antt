@@ -14,7 +14,7 @@ use Rattle.wire.specs.Lists.{same, every}
 use Rattle.wire.specs.Numbers.{field}
 use Rattle.wire.proofs.TestLaws.{some≢none, and-left, and-right}
 use Rattle.wire.proofs.ListLaws.{all-append}
-use Rattle.registry.specs.Names.{isNew}
+use Rattle.keys.specs.Names.{isNew}
 use Rattle.records.specs.Records.{Record, recordLength, valueIn, next, stop}
 use Rattle.records.proofs.RecordLaws.{StepHas, records-empty, records-have, records-append}
 use Rattle.shipped.specs.Shipped.{ListedKey, namesOf, listedMost, Pairs, whole, named, nameTests, dataTests, pairStep, pairsDone, listOf, wellFormedList, keysIn, listedNamed}

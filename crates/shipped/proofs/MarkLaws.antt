@@ -10,7 +10,7 @@ use lib.Seq.{take-suc-set}
 use Rattle.wire.specs.Lists.{all, same}
 use Rattle.wire.proofs.TestLaws.{and-left, and-right}
 use Rattle.wire.proofs.ListLaws.{all-take, same-true}
-use Rattle.registry.specs.Names.{isNew}
+use Rattle.keys.specs.Names.{isNew}
 use Rattle.keys.specs.code.Marks.{differsFrom}
 use Rattle.keys.proofs.MarkLaws.{differs}
 use Rattle.shipped.specs.Shipped.{ListedKey, namesOf, listedMost}

@@ -14,8 +14,7 @@ use Rattle.wire.specs.Choice.{if_then_else_}
 use Rattle.wire.specs.Lists.{every}
 use Rattle.wire.specs.Numbers.{field}
 use Rattle.wire.proofs.TestLaws.{and-left, and-right}
-use Rattle.keys.specs.Names.{legalName, keyNameMost}
-use Rattle.registry.specs.Names.{isNew}
+use Rattle.keys.specs.Names.{legalName, keyNameMost, isNew}
 use Rattle.records.specs.Records.{Record, recordLength, valueIn, recordIn, isWhole, next, stop, readRecords}
 use Rattle.records.proofs.RecordLaws.{whole-fit, whole-room, room-front, size-append, record-append, whole-append, records-empty, records-cut, records-on, afterStep}
 use Rattle.shipped.specs.Shipped.{ListedKey, namesOf, listedMost, Pairs, whole, named, dataTests, pairStep, pairsDone}

@@ -8,8 +8,7 @@ use lib.Dec.{ltb, eqb}
 use Rattle.wire.specs.Choice.{if_then_else_, isSome}
 use Rattle.wire.specs.Lists.{every, same}
 use Rattle.keys.specs.Key.{legalData}
-use Rattle.keys.specs.Names.{legalName, keyNameMost}
-use Rattle.registry.specs.Names.{isNew}
+use Rattle.keys.specs.Names.{legalName, keyNameMost, isNew}
 use Rattle.records.specs.Records.{Record, Step, next, stop, readRecords}
 
 pub record ListedKey : Type 0 where

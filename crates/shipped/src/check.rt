@@ -10,7 +10,7 @@ ghost use mathlib.Core.Path.{_≡_};
 ghost use mathlib.Core.Bool.{true, not};
 ghost use Prim.Native.Nat.{_≤_};
 ghost use lib.ListN.{length, take};
-ghost use Rattle.registry.specs.Names.{isNew};
+ghost use Rattle.keys.specs.Names.{isNew};
 ghost use Rattle.shipped.specs.Shipped.{wellFormedList, keysIn, namesOf};
 ghost use Rattle.shipped.specs.code.Marks.{markOf, Marked};
 

@@ -16,10 +16,9 @@ use Rattle.wire.specs.Request.{Request, requestOf}
 use Rattle.wire.proofs.TestLaws.{some≢none, not-across, every-at, first-has, either}
 use Rattle.wire.proofs.ListLaws.{all-at, map-at, same-refl}
 use Rattle.keys.specs.Key.{Key, importBits}
-use Rattle.keys.specs.Names.{legalName, keyNameMost}
+use Rattle.keys.specs.Names.{legalName, keyNameMost, isNew}
 use Rattle.messages.specs.Protobuf.{protobuf}
 use Rattle.messages.specs.Operations.{Operation, ping, listProviders, listOpcodes, importKey, destroyKey, exportPublicKey, verifySignature, operationOf}
-use Rattle.registry.specs.Names.{isNew}
 use Rattle.registry.specs.Slots.{Entry, free, held, nameOf, used}
 use Rattle.registry.specs.Registry.{lineCount, slotsOf, usesOf, slotNamed, Change, unchanged, fill, addUse, changed}
 use Rattle.registry.specs.WellFormed.{wellFormedRegistry}

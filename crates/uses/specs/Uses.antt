@@ -9,7 +9,7 @@ use Rattle.wire.specs.Lists.{every}
 use Rattle.wire.specs.Request.{requestOf}
 use Rattle.messages.specs.Protobuf.{protobuf}
 use Rattle.messages.specs.Operations.{Operation, ping, listProviders, listOpcodes, importKey, destroyKey, exportPublicKey, verifySignature, operationOf}
-use Rattle.registry.specs.Names.{isNew}
+use Rattle.keys.specs.Names.{isNew}
 use Rattle.registry.specs.Slots.{Entry, nameOf}
 use Rattle.registry.specs.Registry.{slotsOf}
 use Rattle.registry.specs.declared.Line.{Line}

@@ -1,5 +1,6 @@
 -- `registry::names::are_distinct` meets its contract.
-use Rattle.registry.specs.Names.{nameIn, isNew, distinct}
+use Rattle.keys.specs.Names.{isNew}
+use Rattle.registry.specs.Names.{nameIn, distinct}
 use Rattle.registry.specs.code.Check.{blockNames}
 use Rattle.registry.proofs.NameLaws.{lone, lone-empty, lone-named}
 use Rattle.registry.proofs.BlockNameLaws.{fits, blockAt, name-lent, name-length, distinct-pass, distinct-fail, distinct-end}

@@ -7,7 +7,8 @@ use native.Mathlib.Omega.{arith}
 use borrow.Author.Needs.{needs}
 use lib.ListN.{length, drop, getD, drop-of-length-le}
 use Rattle.wire.specs.Lists.{same}
-use Rattle.registry.specs.Names.{nameIn, isNew}
+use Rattle.keys.specs.Names.{isNew}
+use Rattle.registry.specs.Names.{nameIn}
 use Rattle.registry.specs.code.Check.{blockNames}
 use Rattle.registry.proofs.BlockNameLaws.{fits, blockAt, name-lent, names-cons, length-names}
 use Rattle.registry.proofs.names.is_among.Statement.{statement}

@@ -12,8 +12,7 @@ use Rattle.wire.specs.Numbers.{field}
 use Rattle.wire.proofs.TestLaws.{not-across}
 use Rattle.wire.proofs.NumberLaws.{field-byte}
 use Rattle.wire.proofs.BufferLaws.{lent}
-use Rattle.keys.specs.Names.{legalName, applicationNameMost}
-use Rattle.registry.specs.Names.{isNew}
+use Rattle.keys.specs.Names.{legalName, applicationNameMost, isNew}
 use Rattle.registry.specs.Registry.{lineCount}
 use Rattle.records.specs.Records.{valueIn, isWhole}
 use Rattle.records.proofs.RecordLaws.{whole-room}

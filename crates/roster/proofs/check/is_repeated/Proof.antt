@@ -8,7 +8,7 @@ use borrow.Author.Needs.{needs}
 use lib.ListN.{length, drop, getD}
 use Rattle.wire.specs.Lists.{same}
 use Rattle.wire.proofs.ListLaws.{all-pass, all-fail, all-end}
-use Rattle.registry.specs.Names.{isNew}
+use Rattle.keys.specs.Names.{isNew}
 use Rattle.roster.specs.code.Check.{namesAt}
 use Rattle.roster.proofs.LoadLaws.{names-many}
 use Rattle.roster.proofs.check.is_repeated.Statement.{statement}

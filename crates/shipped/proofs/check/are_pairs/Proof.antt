@@ -11,7 +11,7 @@ use lib.ListN.{length, take, drop, set, length-drop, length-append}
 use lib.Seq.{drop-drop}
 use Rattle.wire.proofs.TestLaws.{not-across}
 use Rattle.wire.proofs.BufferLaws.{lent}
-use Rattle.registry.specs.Names.{isNew}
+use Rattle.keys.specs.Names.{isNew}
 use Rattle.records.specs.Records.{valueIn, isWhole}
 use Rattle.shipped.specs.Shipped.{ListedKey, namesOf, listedMost, whole, listOf, wellFormedList, keysIn}
 use Rattle.shipped.specs.code.Pairs.{isPair, pairLength, keyIn}

@@ -9,7 +9,7 @@ use lib.ListN.{take}
 use lib.Seq.{length-take-le}
 use Rattle.wire.specs.Choice.{isSome}
 use Rattle.wire.specs.Lists.{all}
-use Rattle.registry.specs.Names.{isNew}
+use Rattle.keys.specs.Names.{isNew}
 use Rattle.keys.specs.code.Marks.{differsFrom}
 use Rattle.shipped.specs.Shipped.{namesOf, keysIn}
 use Rattle.shipped.specs.code.Pairs.{dataFound}

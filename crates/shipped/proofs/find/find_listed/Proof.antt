@@ -11,7 +11,7 @@ use lib.ListN.{length, take, drop, length-drop}
 use lib.Seq.{drop-drop}
 use Rattle.wire.specs.Lists.{same}
 use Rattle.wire.proofs.BufferLaws.{lent}
-use Rattle.registry.specs.Names.{isNew}
+use Rattle.keys.specs.Names.{isNew}
 use Rattle.records.specs.Records.{recordLength, valueIn, isWhole}
 use Rattle.records.proofs.RecordLaws.{whole-room}
 use Rattle.shipped.specs.Shipped.{ListedKey, namesOf, whole, listOf, keysIn, listedNamed}
