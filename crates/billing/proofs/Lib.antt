@@ -4,6 +4,5 @@ pub mod Beyond
 pub mod PlacedLaws
 pub mod DecimalLaws
 pub mod LineLaws
-pub mod HeldLaws
 pub mod RequestLaws
 pub mod RulesLaws

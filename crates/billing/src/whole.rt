@@ -5,34 +5,17 @@ use crate::lines::write_applications;
 use crate::lines::write_count;
 use crate::lines::write_keys;
 use crate::lines::write_refusals;
-use connection::BYTES_AT;
-use connection::check::State;
-use connection::check::read_state;
+use connection::check::held_bytes;
 use counters::Counters;
-use stream::frame::request_length;
 ghost use mathlib.Core.Bool.{true};
 ghost use mathlib.Core.Path.{_≡_};
 ghost use Prim.Native.Nat.{_≤_};
 ghost use lib.ListN.{length};
 ghost use Rattle.wire.specs.code.Wrote.{Wrote};
-ghost use Rattle.stream.specs.Rules.{heldBytes};
-ghost use Rattle.connection.specs.Connection.{connectionOf, wellFormedConnection};
+ghost use Rattle.connection.specs.Connection.{wellFormedConnection};
 ghost use Rattle.registry.specs.WellFormed.{wellFormedRegistry};
 ghost use Rattle.service.specs.Contract.{lentMemory};
 ghost use Rattle.billing.specs.Outcome.{billMost, billIn, billOutcome};
-
-// How many bytes of an unfinished request a well-formed connection has seen, skipped ones too.
-fn held_bytes(connection: &[u8]) -> u64
-    requires { ⌜ wellFormedConnection (now connection) ≡ true ⌝ }
-    ensures { λ r. ⌜ r ≡ heldBytes (connectionOf (now (connection .entry))) ⌝ }
-{
-    let state = read_state(connection);
-    match state {
-        State::Open(held) => held as u64,
-        State::Skipping(to_go) => request_length(&connection[BYTES_AT..]) - to_go,
-        State::Closed => 0,
-    }
-}
 
 // The bill's lines, one behind the other; no bill is longer than BILL_MOST.
 fn write_lines(out: &mut [u8], counters: Counters, registry: &[u8], connection: &[u8]) -> usize

@@ -3,3 +3,4 @@ pub mod CheckLaws
 pub mod ChangeLaws
 pub mod GatherLaws
 pub mod StateLaws
+pub mod HeldLaws

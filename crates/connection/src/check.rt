@@ -11,6 +11,7 @@ use stream::frame::Frame;
 use stream::frame::is_legal_start;
 use stream::frame::is_oversized;
 use stream::frame::read_frame;
+use stream::frame::request_length;
 use wire::bytes::all_zero_long;
 use wire::header::header_length;
 use wire::number::read_u16;
@@ -22,6 +23,7 @@ ghost use Prim.Native.Nat.{_≤_};
 ghost use lib.ListN.{length, drop, getD};
 ghost use Rattle.wire.specs.Lists.{all, isZero};
 ghost use Rattle.stream.specs.Call.{isBeginning};
+ghost use Rattle.stream.specs.Rules.{heldBytes};
 ghost use Rattle.connection.specs.Connection.{connectionSize, connectionOf, wellFormedConnection};
 ghost use Rattle.connection.specs.code.State.{stateOf};
 
@@ -135,4 +137,17 @@ pub fn read_state(memory: &[u8]) -> State
         return State::Skipping(number);
     }
     State::Closed
+}
+
+// How many bytes of an unfinished request a well-formed connection has seen, skipped ones too.
+pub fn held_bytes(memory: &[u8]) -> u64
+    requires { ⌜ wellFormedConnection (now memory) ≡ true ⌝ }
+    ensures { λ r. ⌜ r ≡ heldBytes (connectionOf (now (memory .entry))) ⌝ }
+{
+    let state = read_state(memory);
+    match state {
+        State::Open(held) => held as u64,
+        State::Skipping(to_go) => request_length(&memory[BYTES_AT..]) - to_go,
+        State::Closed => 0,
+    }
 }

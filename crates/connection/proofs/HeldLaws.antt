@@ -6,15 +6,15 @@ use Prim.Native.Nat.{ℕ, _-_, _≤_}
 use native.Mathlib.Omega.{arith}
 use lib.ListN.{length, drop, replicate, length-append}
 use Rattle.wire.specs.Lists.{padded}
-use Rattle.wire.specs.Request.{requestLength}
+use Rattle.wire.specs.Request.{requestLeast, requestLength}
 use Rattle.stream.specs.Rules.{Connection, opened, skipping, closed, heldBytes}
 use Rattle.stream.specs.Call.{wellFormed}
 use Rattle.stream.proofs.FrameLaws.{requestLength-append}
 use Rattle.stream.proofs.ChunkLaws.{well-skipping}
 use Rattle.connection.specs.Connection.{heldMost, connectionBytes, connectionOf, wellFormedConnection}
 use Rattle.connection.specs.code.State.{stateOf}
 use Rattle.connection.specs.declared.check.State.the-variants.{Open, Skipping, Closed}
 use Rattle.connection.proofs.ConnectionLaws.{bytes-there, memory-good, store-load}
 
 pub held-open : (x : Connection) (n : ℕ) → stateOf x ≡ Open n → n ≡ heldBytes x
 unfolding heldBytes
@@ -30,7 +30,7 @@ held-closed closed e = refl
 
 -- a skipped request, whose header stands at the front of `bytes`
 pub record Skipped (bytes : List ℕ) (x : Connection) (toGo : ℕ) : Type 0 where
-  pub many : 28 ≤ length bytes
+  pub many : requestLeast ≤ length bytes
   pub most : toGo ≤ requestLength bytes
   pub held : requestLength bytes - toGo ≡ heldBytes x
 
