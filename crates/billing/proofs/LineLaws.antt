@@ -1,30 +1,28 @@
 -- Laws of the bill's lines: those of the applications, of their keys and of the statuses, one by one.
-use mathlib.Core.Path.{_≡_, refl, sym, ap, _∙_}
+use mathlib.Core.Path.{_≡_, refl}
 use mathlib.Core.Bool.{Bool, true, false}
 use mathlib.Core.List.{List, [], _∷_, _++_}
-use Prim.Native.Nat.{ℕ, suc, _+_, _-_, _*_, _≤_, _<_}
-use native.Mathlib.Nat.{zero-add, add-zero}
+use Prim.Native.Nat.{ℕ, suc, _+_, _≤_, _<_}
 use native.Mathlib.Numerals.{add-one}
 use native.Mathlib.Omega.{arith}
 use borrow.Author.Tests.{eq-eqb, ne-eqb}
-use lib.ListN.{length, take, drop, getD, drop-of-length-le}
-use lib.Seq.{drop-cons, getD-take, getD-drop}
+use lib.ListN.{length, drop, getD, drop-of-length-le}
+use lib.Seq.{drop-cons}
 use lib.Dec.{eqb}
 use Rattle.wire.specs.Choice.{if_then_else_}
 use Rattle.wire.specs.Lists.{all}
 use Rattle.wire.proofs.TestLaws.{and-left}
 use Rattle.wire.proofs.ListLaws.{all-drop}
-use Rattle.registry.specs.Names.{nameIn}
 use Rattle.keys.specs.Names.{applicationNameMost}
-use Rattle.registry.specs.Slots.{free, slotSize, slotOf}
-use Rattle.registry.specs.Registry.{lineCount, slotCount, lineSize, namesIn, slotsOf, usesOf, place}
+use Rattle.registry.specs.Slots.{free, slotOf}
+use Rattle.registry.specs.Registry.{lineCount, slotCount, lineSize, namesIn, slotsOf, usesOf, slotAt}
 use Rattle.registry.specs.WellFormed.{legalIfUsed, wellFormedRegistry}
-use Rattle.registry.specs.code.Check.{blockNames}
+use Rattle.registry.specs.code.Check.{blockNames, isFree}
 use Rattle.registry.specs.declared.Line.{Line}
 use Rattle.keys.proofs.NameLaws.{legal-short}
 use Rattle.registry.proofs.WellFormedLaws.{good-of}
 use Rattle.registry.proofs.RegistryLaws.{length-slots, slot-there}
-use Rattle.registry.proofs.BlockNameLaws.{blockAt, fits, length-names, names-cons, name-at, name-length}
+use Rattle.registry.proofs.BlockNameLaws.{length-names}
 use Rattle.judgement.specs.Status.{statusNumber, refusedStatuses}
 use Rattle.judgement.specs.declared.Status.the-variants.{Success}
 use Rattle.billing.specs.Ascii.{ascii}
@@ -71,48 +69,42 @@ keys-end registry i h = rw (used-end registry i h)
 abbrev pub slotsFrom : (registry : List ℕ) (line : Line) (k : ℕ) → List ℕ
 slotsFrom registry line k = slotLines (line .0) k (drop k (slotsOf registry line)) (usesOf registry line)
 
-module _ (registry : List ℕ) (w : wellFormedRegistry registry ≡ true) (i : ℕ) (h : i < lineCount) (b : getD registry (i * lineSize) 0 < 256) where
-  -- the name's bytes, as the part of the registry that is lent
+module _ (registry : List ℕ) (i : ℕ) (h : i < lineCount) where
   abbrev pub nameAt : List ℕ
-  nameAt = take (i * lineSize + 1 + getD registry (i * lineSize) 0 - (i * lineSize + 1)) (drop (i * lineSize + 1) registry)
-
-  name-is : nameIn (blockAt 0 lineSize registry i) ≡ nameAt
-  name-is = ap (λ (k : ℕ). nameIn (take lineSize (drop k registry))) (zero-add (i * lineSize)) ∙ name-at lineSize registry (i * lineSize) (omega arith) b
-
-  name-long : length nameAt ≡ getD registry (i * lineSize) 0
-  name-long =
-      sym (ap length (name-at lineSize registry (i * lineSize) (omega arith) b))
-      ∙ name-length lineSize registry (i * lineSize) (omega arith) (omega (arith, fits i lineCount lineSize h, good-of registry w .size)) b
+  nameAt = getD (namesIn registry) i []
 
   names-next : drop i (namesIn registry) ≡ nameAt ∷ drop (i + 1) (namesIn registry)
   unfolding blockNames
-  names-next = names-cons 0 lineSize lineCount registry i h ∙ ap (λ (n : List ℕ). n ∷ drop (i + 1) (namesIn registry)) name-is
+  names-next =
+      let many : i < length (namesIn registry) = omega (arith, length-names 0 lineSize lineCount registry) in
+      rw (add-one i) (drop-cons (namesIn registry) i [] many)
 
-  pub lines-none : (served : List ℕ) → getD registry (i * lineSize) 0 ≡ 0 → linesFrom registry served i ≡ []
+  -- at an unused line, and at one with a name
+  pub lines-none : (served : List ℕ) → length nameAt ≡ 0 → linesFrom registry served i ≡ []
   unfolding applicationLines
-  lines-none served e = rw (names-next, used-none nameAt (drop (i + 1) (namesIn registry)) (name-long ∙ e))
+  lines-none served e = rw (names-next, used-none nameAt (drop (i + 1) (namesIn registry)) e)
 
-  pub lines-next : (served : List ℕ) → (getD registry (i * lineSize) 0 ≡ 0 → ⊥)
-      → linesFrom registry served i ≡ applicationLine served i nameAt ++ linesFrom registry served (i + 1)
-  unfolding applicationLines
-  lines-next served n =
-      rw (names-next, used-some nameAt (drop (i + 1) (namesIn registry)) (omega (arith, name-long)), ← add-one i)
-
-  pub keys-none : getD registry (i * lineSize) 0 ≡ 0 → keysFrom registry i ≡ []
+  pub keys-none : length nameAt ≡ 0 → keysFrom registry i ≡ []
   unfolding keyLines
-  keys-none e = rw (names-next, used-none nameAt (drop (i + 1) (namesIn registry)) (name-long ∙ e))
+  keys-none e = rw (names-next, used-none nameAt (drop (i + 1) (namesIn registry)) e)
 
-  pub keys-next : (getD registry (i * lineSize) 0 ≡ 0 → ⊥) → keysFrom registry i ≡ slotsFrom registry (record { 0 = i }) 0 ++ keysFrom registry (i + 1)
-  unfolding keyLines
-  keys-next n =
-      rw (names-next, used-some nameAt (drop (i + 1) (namesIn registry)) (omega (arith, name-long)), ← add-one i)
+  module _ (n : length nameAt ≡ 0 → ⊥) where
+    some-name : 1 ≤ length nameAt
+    some-name = omega arith
 
-  pub name-short : (getD registry (i * lineSize) 0 ≡ 0 → ⊥) → length nameAt ≤ applicationNameMost
-  name-short n =
-      let named : length nameAt ≡ 0 → ⊥ = λ e. n (sym name-long ∙ e) in
-      let legal : all legalIfUsed (nameAt ∷ drop (i + 1) (namesIn registry)) ≡ true
-      = rw names-next at (all-drop legalIfUsed i (namesIn registry) (good-of registry w .lines .legal)) in
-      legal-short applicationNameMost nameAt (rw (ne-eqb (length nameAt) 0 named) at (and-left (legalIfUsed nameAt) _ legal))
+    pub lines-next : (served : List ℕ) → linesFrom registry served i ≡ applicationLine served i nameAt ++ linesFrom registry served (i + 1)
+    unfolding applicationLines
+    lines-next served = rw (names-next, used-some nameAt (drop (i + 1) (namesIn registry)) some-name, ← add-one i)
+
+    pub keys-next : keysFrom registry i ≡ slotsFrom registry (record { 0 = i }) 0 ++ keysFrom registry (i + 1)
+    unfolding keyLines
+    keys-next = rw (names-next, used-some nameAt (drop (i + 1) (namesIn registry)) some-name, ← add-one i)
+
+    pub name-short : wellFormedRegistry registry ≡ true → length nameAt ≤ applicationNameMost
+    name-short w =
+        let legal : all legalIfUsed (nameAt ∷ drop (i + 1) (namesIn registry)) ≡ true
+        = rw names-next at (all-drop legalIfUsed i (namesIn registry) (good-of registry w .lines .legal)) in
+        legal-short applicationNameMost nameAt (rw (ne-eqb (length nameAt) 0 n) at (and-left (legalIfUsed nameAt) _ legal))
 
 -- ---- an application's keys
 
@@ -132,20 +124,17 @@ slots-end registry line k h =
     rw (drop-of-length-le (slotsOf registry line) (let x : length (slotsOf registry line) ≤ k = omega (arith, length-slots registry line) in x))
 
 module _ (registry : List ℕ) (line : Line) (k : ℕ) (h : k < slotCount) where
-  abbrev at : ℕ
-  at = place line (record { 0 = k })
+  abbrev slot : List ℕ
+  slot = slotAt registry line (record { 0 = k })
 
-  first-byte : getD (take slotSize (drop at registry)) 0 0 ≡ getD registry at 0
-  first-byte = getD-take slotSize (drop at registry) 0 0 (omega arith) ∙ getD-drop at registry 0 0 ∙ ap (λ (n : ℕ). getD registry n 0) (add-zero at)
-
-  pub slot-line-none : getD registry at 0 ≡ 0 → slotLine registry line k ≡ []
+  pub slot-line-none : isFree slot ≡ true → slotLine registry line k ≡ []
   unfolding keyLine slotOf
-  slot-line-none e = rw (slot-there registry line k h, eq-eqb _ 0 (first-byte ∙ e))
+  slot-line-none e = rw (slot-there registry line k h, e)
 
-  pub slot-line-some : (getD registry at 0 ≡ 0 → ⊥)
+  pub slot-line-some : isFree slot ≡ false
       → slotLine registry line k ≡ textLine (ascii "key") (decimal (line .0) ∷ decimal k ∷ decimal (getD (usesOf registry line) k 0) ∷ [])
   unfolding keyLine slotOf
-  slot-line-some n = rw (slot-there registry line k h, ne-eqb _ 0 (λ e. n (sym first-byte ∙ e)))
+  slot-line-some e = rw (slot-there registry line k h, e)
 
 -- ---- the statuses
 

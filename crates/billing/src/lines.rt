@@ -3,14 +3,13 @@ use crate::text::write_number;
 use crate::text::write_word;
 use judgement::REFUSED_STATUSES;
 use judgement::statuses::refused_number;
-use registry::LINE_SIZE;
 use registry::LINES;
 use registry::Line;
 use registry::SLOTS;
 use registry::Slot;
-use registry::find::slot_at;
 use registry::key::key_uses;
-use wire::number::wide;
+use registry::lines::is_free;
+use registry::lines::line_name;
 ghost use mathlib.Core.Bool.{true};
 ghost use mathlib.Core.List.{[], _∷_};
 ghost use mathlib.Core.Path.{_≡_};
@@ -57,14 +56,11 @@ pub fn write_applications(out: &mut [u8], at: usize, registry: &[u8], served: &[
     let mut end = at;
     let mut i = 0;
     while i < LINES {
-        let start = i * LINE_SIZE;
-        let size = wide(registry[start]);
-        if size == 0 {
+        let name = line_name(registry, Line(i));
+        if name.len() == 0 {
             return end;
         }
-        let begin = start + 1;
-        let stop = begin + size;
-        end = write_application(out, end, Line(i), &registry[begin..stop], served[i]);
+        end = write_application(out, end, Line(i), name, served[i]);
         i += 1;
     }
     end
@@ -75,8 +71,7 @@ fn write_key(out: &mut [u8], at: usize, registry: &[u8], line: Line, slot: Slot)
     requires { ⌜ (wellFormedRegistry (now registry) ≡ true) × (line .0 < lineCount) × (slot .0 < slotCount) × (at + keyLineMost ≤ length (now out)) ⌝ }
     ensures { λ r. ⌜ Placed (keyLine (line .0) (slot .0) (getD (slotsOf (now (registry .entry)) line) (slot .0) free) (getD (usesOf (now (registry .entry)) line) (slot .0) 0)) (now (out .entry)) (now (out .exit)) at r × (r ≤ at + keyLineMost) ⌝ }
 {
-    let place = slot_at(line, slot);
-    if registry[place] == 0 {
+    if is_free(registry, line, slot) {
         return at;
     }
     let uses = key_uses(registry, line, slot);
@@ -109,7 +104,7 @@ pub fn write_keys(out: &mut [u8], at: usize, registry: &[u8]) -> usize
     let mut end = at;
     let mut i = 0;
     while i < LINES {
-        if wide(registry[i * LINE_SIZE]) == 0 {
+        if line_name(registry, Line(i)).len() == 0 {
             return end;
         }
         end = write_line_keys(out, end, registry, Line(i));

@@ -17,6 +17,7 @@ use Rattle.registry.specs.Registry.{lineCount, slotCount, lineHead, line
 use Rattle.registry.specs.WellFormed.{isUsed, noneUsed, usedFirst, zerosBehindName, wellFormedRegistry}
 use Rattle.keys.proofs.NameLaws.{legal-some, legal-short}
 use Rattle.registry.proofs.NameLaws.{lone, distinct-cons}
+use Rattle.registry.proofs.LineLaws.{line-long}
 use Rattle.registry.proofs.RegistryLaws.{some-used}
 use Rattle.registry.proofs.WellFormedLaws.{Lines, well-of, zeros-good, zeros-distinct, zero-lines}
 
@@ -42,13 +43,8 @@ module _ (name : List ℕ) (legal : isLegal name ≡ true) where
   short : length name ≤ applicationNameMost
   short = legal-short applicationNameMost name legal
 
-  pub line-length : length (lineOf name) ≡ lineSize
-  unfolding lineOf
-  line-length =
-      let p = length-padded applicationNameMost name short in
-      let z = length-replicate {A = ℕ} (slotCount * slotSize) 0 in
-      let a = length-append (padded applicationNameMost name) (replicate (slotCount * slotSize) 0) in
-      omega arith
+  line-length : length (lineOf name) ≡ lineSize
+  line-length = line-long name short
 
   line-name : nameIn (lineOf name) ≡ name
   unfolding lineOf zerosAfter slotZeros

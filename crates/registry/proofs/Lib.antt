@@ -7,6 +7,7 @@ pub mod FreeLaws
 pub mod KeylessLaws
 pub mod ChangeLaws
 pub mod BlockNameLaws
+pub mod LineLaws
 pub mod CheckLaws
 pub mod FindLaws
 pub mod KeyLaws

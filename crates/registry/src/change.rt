@@ -2,7 +2,7 @@
 use crate::Line;
 use crate::SLOT_SIZE;
 use crate::Slot;
-use crate::find::slot_at;
+use crate::lines::slot_at;
 use crate::slots::count_use;
 use crate::slots::write_key;
 use wire::bytes::clear;

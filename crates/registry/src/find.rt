@@ -1,4 +1,4 @@
-// Where an application, and one of its slots, lies in the registry ("Roster, registry, connection, tally").
+// The search for an application, and for one of its slots, by name ("Roster, registry, connection, tally").
 use crate::Application;
 use crate::Found;
 use crate::LINE_HEAD;
@@ -16,18 +16,8 @@ ghost use Prim.Native.Nat.{_+_, _*_, _≤_, _<_};
 ghost use lib.ListN.{length, drop};
 ghost use Rattle.wire.specs.Lists.{same};
 ghost use Rattle.registry.specs.Names.{nameIn, indexFrom};
-ghost use Rattle.registry.specs.Registry.{lineCount, slotCount, lineSize, registrySize, place, applicationNamed, slotsOf, slotNamed};
+ghost use Rattle.registry.specs.Registry.{lineCount, lineSize, registrySize, applicationNamed, slotsOf, slotNamed};
 ghost use Rattle.registry.specs.code.Check.{blockNames, applicationFound};
-
-// Where a slot begins in the registry.
-pub fn slot_at(line: Line, slot: Slot) -> usize
-    requires { ⌜ (line .0 < lineCount) × (slot .0 < slotCount) ⌝ }
-    ensures { λ r. ⌜ r ≡ place line slot ⌝ }
-{
-    let l = line.0;
-    let k = slot.0;
-    l * LINE_SIZE + (LINE_HEAD + k * SLOT_SIZE)
-}
 
 // A name's length and its first byte as one number, so that one comparison tries both.
 fn front(n: u8, first: u8) -> u16

@@ -7,7 +7,7 @@ use crate::Line;
 use crate::Slot;
 use crate::USES_AT;
 use crate::VERIFY_AT;
-use crate::find::slot_at;
+use crate::lines::slot_at;
 use crate::slots::size_at;
 use wire::number::read_u32;
 ghost use mathlib.Core.Path.{_≡_};

@@ -7,6 +7,7 @@ pub mod change;
 pub mod check;
 pub mod find;
 pub mod key;
+pub mod lines;
 mod marks;
 pub mod names;
 pub mod slots;

@@ -3,25 +3,22 @@
 use mathlib.Core.Path.{_≡_, refl, sym, ap, _∙_}
 use mathlib.Core.Bool.{Bool, true, false}
 use mathlib.Core.Option.{Option, none, some}
-use mathlib.Core.List.{List, [], _∷_, _++_, map, flatten, map-append, append-assoc, append-nil}
+use mathlib.Core.List.{List, [], _∷_, _++_, map, flatten, map-append}
 use Prim.Native.Nat.{ℕ, _+_, _-_, _*_, _≤_, _<_}
 use native.Mathlib.Numerals.{add-one}
 use native.Mathlib.Omega.{arith}
 use borrow.Author.Tests.{leb-false}
-use borrow.Rule.Slice.PartMut.{putMid}
 use lib.Dec.{leb, eqb}
-use lib.ListN.{length, take, drop, getD, set, replicate, length-map, length-set, length-drop, drop-of-length-le, replicate-append-replicate}
+use lib.ListN.{length, take, drop, getD, length-map, length-set, length-drop, drop-of-length-le}
 use lib.Seq.{drop-drop, length-take-le, take-suc, take-suc-set, getD-take}
 use Rattle.wire.specs.Choice.{if_then_else_, firstOf}
-use Rattle.wire.specs.Lists.{all, padded}
+use Rattle.wire.specs.Lists.{all}
 use Rattle.wire.specs.Numbers.{field}
 use Rattle.wire.proofs.TestLaws.{some≢none, none-at}
 use Rattle.wire.proofs.ListLaws.{all-at, all-append, all-take, map-at}
-use Rattle.wire.proofs.BufferLaws.{lent}
 use Rattle.wire.proofs.BlockLaws.{length-flatten, flatten-snoc}
 use Rattle.keys.specs.Names.{legalName, applicationNameMost, isNew}
-use Rattle.registry.specs.Slots.{slotSize}
-use Rattle.registry.specs.Registry.{lineCount, slotCount, lineSize, lineOf}
+use Rattle.registry.specs.Registry.{lineCount, lineSize, lineOf}
 use Rattle.registry.proofs.KeylessLaws.{isLegal, sized-names}
 use Rattle.records.specs.Records.{recordLength, valueIn, recordIn, isWhole, readRecords}
 use Rattle.records.proofs.RecordLaws.{records-empty, records-cut, records-on}
@@ -170,25 +167,6 @@ module _ (file : List ℕ) (names : Names) (w : Within file names) where
     }
 
 -- ---- lines written one after another
-
--- zeros behind the name, up to the line's end
-line-padded : (name : List ℕ) → length name ≤ applicationNameMost → lineOf name ≡ length name ∷ padded (lineSize - 1) name
-unfolding lineOf
-line-padded name h =
-    let n : ℕ = applicationNameMost - length name in
-    let e : n + slotCount * slotSize ≡ lineSize - 1 - length name = omega arith in
-    ap (λ (r : List ℕ). length name ∷ r)
-    (append-assoc name (replicate n 0) (replicate (slotCount * slotSize) 0)
-    ∙ ap (λ (r : List ℕ). name ++ r) (replicate-append-replicate n (slotCount * slotSize) 0 ∙ ap (λ (k : ℕ). replicate k 0) e))
-
--- the length of the name at a line's front, and the name and zeros over the part behind it
-pub line-written : (l m name : List ℕ) (x : ℕ) → length l ≡ lineSize → length name ≤ applicationNameMost → x ≡ length name
-    → m ≡ padded (length (take (length (set l 0 x) - 1) (drop 1 (set l 0 x)))) name → putMid 1 (length (set l 0 x) - 1) (set l 0 x) m ≡ lineOf name
-line-written [] m name x long short e q = absurd (omega arith)
-line-written (y ∷ l) m name x long short e q =
-    let size : length l ≡ lineSize - 1 = omega arith in
-    let none : drop (length (x ∷ l) - 1) l ≡ [] = drop-of-length-le l (let h : length l ≤ length (x ∷ l) - 1 = omega arith in h) in
-    rw (none, append-nil, q, lent 1 (x ∷ l), size, e, line-padded name short)
 
 -- the lines of the first i names
 abbrev pub linesOf : (names : List (List ℕ)) (i : ℕ) → List ℕ

@@ -6,18 +6,17 @@ use crate::check::check_record;
 use crate::check::name_at;
 use crate::check::with_name;
 use records::file::record_length;
-use registry::LINE_SIZE;
 use registry::LINES;
+use registry::Line;
 use registry::REGISTRY_SIZE;
-use registry::slots::write_padded;
-use wire::bytes::clear;
+use registry::lines::clear_lines;
+use registry::lines::write_line;
 ghost use mathlib.Core.Path.{_≡_};
 ghost use mathlib.Core.Bool.{true};
-ghost use Prim.Native.Nat.{_≤_};
 ghost use lib.ListN.{length};
 ghost use Rattle.wire.specs.Lists.{all};
 ghost use Rattle.keys.specs.Names.{legalName, applicationNameMost};
-ghost use Rattle.registry.specs.Registry.{lineSize, registrySize, lineOf, registryOf};
+ghost use Rattle.registry.specs.Registry.{registrySize, registryOf};
 ghost use Rattle.roster.specs.Roster.{faultNumber, loadRoster};
 ghost use Rattle.roster.specs.code.Check.{namesAt, Within, RosterKnown};
 
@@ -70,15 +69,6 @@ fn check_roster(file: &[u8]) -> Checked
     }
 }
 
-// Writes the line of an application that has no keys.
-fn write_line(line: &mut [u8], name: &[u8])
-    requires { ⌜ (length (now line) ≡ lineSize) × (length (now name) ≤ applicationNameMost) ⌝ }
-    ensures { λ _. ⌜ now (line .exit) ≡ lineOf (now (name .entry)) ⌝ }
-{
-    line[0] = (name.len() % 256) as u8;
-    write_padded(&mut line[1..], name);
-}
-
 // Writes the lines of the names, and zeros behind them.
 fn write_names(file: &[u8], names: Names, registry: &mut [u8])
     requires { ⌜ (length (now registry) ≡ registrySize) × Within (now file) names × (all (legalName applicationNameMost) (namesAt (now file) names) ≡ true) ⌝ }
@@ -86,13 +76,10 @@ fn write_names(file: &[u8], names: Names, registry: &mut [u8])
 {
     let mut i = 0;
     while i < names.count {
-        let a = i * LINE_SIZE;
-        let e = a + LINE_SIZE;
-        write_line(&mut registry[a..e], name_at(file, names, i));
+        write_line(registry, Line(i), name_at(file, names, i));
         i += 1;
     }
-    let a = i * LINE_SIZE;
-    clear(&mut registry[a..]);
+    clear_lines(registry, i);
 }
 
 // Reads a roster file into memory lent for the registry: R0 first, then R1 to R5 in their order, and the first faulty

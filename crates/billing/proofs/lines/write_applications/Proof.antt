@@ -2,16 +2,16 @@
 -- there, all lines are.
 use Prim.Native.Nat.{_+_, _-_, _*_, _≤_, _<_}
 use mathlib.Core.Bool.{true}
-use mathlib.Core.Path.{_≡_, sym, _∙_}
+use mathlib.Core.Path.{_≡_, sym, ap, _∙_}
 use native.Mathlib.Omega.{arith}
 use borrow.Author.Needs.{needs}
-use lib.ListN.{length, getD}
-use Rattle.registry.specs.Registry.{lineCount, lineSize, registrySize}
+use lib.ListN.{length}
+use Rattle.registry.specs.Registry.{lineCount, registrySize}
 use Rattle.registry.specs.WellFormed.{wellFormedRegistry}
 use Rattle.registry.proofs.WellFormedLaws.{good-of}
 use Rattle.billing.specs.Outcome.{applicationLineMost}
 use Rattle.billing.proofs.PlacedLaws.{Leaves, leaves-all, leaves-rest, leaves-none}
-use Rattle.billing.proofs.LineLaws.{linesFrom, lines-end, lines-none, lines-next, name-short}
+use Rattle.billing.proofs.LineLaws.{linesFrom, nameAt, lines-end, lines-none, lines-next, name-short}
 use Rattle.billing.proofs.lines.write_applications.Statement.{statement}
 use Rattle.billing.proofs.lines.write_applications.Tie as tie
 
@@ -28,28 +28,21 @@ good l = l .before .before .before .before .pre .0
 size : (l : tie.At-loop Inv-loop μ-loop) → length (l .before .before .before .before .args .registry .now) ≡ registrySize
 size l = good-of _ (good l) .size
 
-below : (w : tie.After-wide Inv-loop μ-loop) → w .before .before .before .loop .i < lineCount
+abbrev at-loop : tie.After-line-name Inv-loop μ-loop → tie.At-loop Inv-loop μ-loop
+at-loop w = w .before .before
+
+below : (w : tie.After-line-name Inv-loop μ-loop) → at-loop w .loop .i < lineCount
 below w = omega arith
 
-byte : (w : tie.After-wide Inv-loop μ-loop)
-    → getD (w .before .before .before .before .before .before .before .args .registry .now) (w .before .before .before .loop .i * lineSize) 0 < 256
-byte w = omega (arith, w .wide .ensures .0, w .wide .ensures .1)
-
 some : (e : tie.Else1 Inv-loop μ-loop)
-    → getD (e .before .before .before .before .before .before .before .before .args .registry .now) (e .before .before .before .before .loop .i * lineSize) 0 ≡ 0 → ⊥
-some e z = e .if1 .left (e .before .wide .ensures .0 ∙ z)
+    → length (nameAt (at-loop (e .before) .before .before .before .before .args .registry .now) (at-loop (e .before) .loop .i) (below (e .before))) ≡ 0 → ⊥
+some e z = e .if1 .left (ap length (e .before .line-name .ensures) ∙ z)
 
 loop-holds : tie.Need-loop-holds Inv-loop μ-loop
 loop-holds c = let a = c .before .before .before .args in (leaves-all _ (a .out .now) (a .at) (omega arith), omega arith, omega arith)
 
-mul-start : tie.Need-mul-start Inv-loop μ-loop
-mul-start c = omega arith
-
-shared-slice-read-wide : tie.Need-shared-slice-read-wide Inv-loop μ-loop
-shared-slice-read-wide c = omega (arith, size (c .before .before))
-
-wide-requires : tie.Need-wide-requires Inv-loop μ-loop
-wide-requires c κs = search needs
+line-name-requires : tie.Need-line-name-requires Inv-loop μ-loop
+line-name-requires c κs = (size (c .before), omega arith)
 
 same-length : tie.Need-same-length Inv-loop μ-loop
 same-length c = search needs
@@ -57,25 +50,10 @@ same-length c = search needs
 returns : tie.Need-returns Inv-loop μ-loop
 returns c =
     let w = c .before in
-    let l = w .before .before .before in
+    let l = at-loop w in
     let a = l .before .before .before .before .args in
-    let none = lines-none (a .registry .now) (good l) (l .loop .i) (below w) (byte w) (a .served .now) (sym (w .wide .ensures .0) ∙ c .if1 .taken) in
+    let none = lines-none (a .registry .now) (l .loop .i) (below w) (a .served .now) (sym (ap length (w .line-name .ensures)) ∙ c .if1 .taken) in
     (leaves-none (rw none at (l .loop .inv .0)), omega arith)
-
-add-begin : tie.Need-add-begin Inv-loop μ-loop
-add-begin c = omega arith
-
-add-stop : tie.Need-add-stop Inv-loop μ-loop
-add-stop c = omega arith
-
-sub-write-application : tie.Need-sub-write-application Inv-loop μ-loop
-sub-write-application c = omega arith
-
-part-write-application-start : tie.Need-part-write-application-start Inv-loop μ-loop
-part-write-application-start c = search needs
-
-part-write-application-end : tie.Need-part-write-application-end Inv-loop μ-loop
-part-write-application-end c = omega (arith, size (c .before .before .before .before .before))
 
 mul-write-application : tie.Need-mul-write-application Inv-loop μ-loop
 mul-write-application c = omega arith
@@ -85,9 +63,9 @@ shared-slice-read-write-application c = omega arith
 
 write-application-requires : tie.Need-write-application-requires Inv-loop μ-loop
 write-application-requires c κs =
-    let e = c .before .before .before in
-    let l = e .before .before .before .before in
-    (rw (e .before .wide .ensures .0) (name-short _ (good l) (l .loop .i) (below (e .before)) (byte (e .before)) (some e)), omega (arith, l .loop .inv .0 .long))
+    let e = c .before .before in
+    let l = at-loop (e .before) in
+    (rw (e .before .line-name .ensures) (name-short _ (l .loop .i) (below (e .before)) (some e) (good l)), omega (arith, l .loop .inv .0 .long))
 
 add-i : tie.Need-add-i Inv-loop μ-loop
 add-i c = omega arith
@@ -98,11 +76,11 @@ loop-less c = omega arith
 loop-again : tie.Need-loop-again Inv-loop μ-loop
 loop-again c =
     let w = c .before .before in
-    let e = w .before .before .before .before in
-    let l = e .before .before .before .before in
+    let e = w .before .before .before in
+    let l = at-loop (e .before) in
     let a = l .before .before .before .before .args in
-    let next = lines-next (a .registry .now) (good l) (l .loop .i) (below (e .before)) (byte (e .before)) (a .served .now) (some e) in
-    let line = rw (e .before .wide .ensures .0) at (w .write-application .ensures .0) in
+    let next = lines-next (a .registry .now) (l .loop .i) (below (e .before)) (some e) (a .served .now) in
+    let line = rw (e .before .line-name .ensures) at (w .write-application .ensures .0) in
     (leaves-rest (rw next at (l .loop .inv .0)) line, omega arith, omega (arith, w .write-application .ensures .1))
 
 same-length-2 : tie.Need-same-length-2 Inv-loop μ-loop
@@ -121,16 +99,9 @@ write-applications-spec =
     Inv-loop
     μ-loop
     loop-holds
-    mul-start
-    shared-slice-read-wide
-    wide-requires
+    line-name-requires
     same-length
     returns
-    add-begin
-    add-stop
-    sub-write-application
-    part-write-application-start
-    part-write-application-end
     mul-write-application
     shared-slice-read-write-application
     write-application-requires

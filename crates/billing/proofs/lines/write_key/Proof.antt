@@ -1,10 +1,7 @@
 -- `billing::lines::write_key` meets its contract.
-use Prim.Native.Nat.{_+_, _≤_}
+use mathlib.Core.Path.{sym, _∙_}
 use native.Mathlib.Omega.{arith}
 use borrow.Author.Needs.{needs}
-use lib.ListN.{length}
-use Rattle.registry.specs.Slots.{slotSize}
-use Rattle.registry.specs.Registry.{place}
 use Rattle.registry.proofs.WellFormedLaws.{good-of}
 use Rattle.billing.specs.Ascii.{ascii}
 use Rattle.billing.specs.Bill.{textLine}
@@ -13,21 +10,15 @@ use Rattle.billing.proofs.LineLaws.{slot-line-none, slot-line-some}
 use Rattle.billing.proofs.lines.write_key.Statement.{statement}
 use Rattle.billing.proofs.lines.write_key.Tie as tie
 
-room : (c : tie.Start) → place (c .args .line) (c .args .slot) + slotSize ≤ length (c .args .registry .now)
-room c = omega (arith, good-of (c .args .registry .now) (c .pre .0) .size, c .pre .1, c .pre .2)
-
-slot-at-requires : tie.Need-slot-at-requires
-slot-at-requires c κs = search needs
-
-shared-slice-read-if1 : tie.Need-shared-slice-read-if1
-shared-slice-read-if1 c = omega (arith, c .before .slot-at .ensures, room (c .before .before .before .before))
+is-free-requires : tie.Need-is-free-requires
+is-free-requires c κs = let s = c .before .before in (good-of (s .args .registry .now) (s .pre .0) .size, s .pre .1, s .pre .2)
 
 returns : tie.Need-returns
 returns c =
-    let found = c .before .before in
-    let start = found .before .before .before in
+    let looked = c .before in
+    let start = looked .before .before .before in
     let a = start .args in
-    let none = slot-line-none (a .registry .now) (a .line) (a .slot .0) (start .pre .2) (rw (found .slot-at .ensures) at (c .if1 .taken)) in
+    let none = slot-line-none (a .registry .now) (a .line) (a .slot .0) (start .pre .2) (sym (looked .is-free .ensures) ∙ c .if1 .taken) in
     (rw none (placed-none (a .out .now) (a .at) (omega (arith, start .pre .3))), search needs)
 
 key-uses-requires : tie.Need-key-uses-requires
@@ -70,10 +61,10 @@ returns-2 c =
     let word = line .before .before .before .before in
     let read = word .before .before .before in
     let used = read .before in
-    let found = used .before .before in
-    let start = found .before .before .before in
+    let looked = used .before in
+    let start = looked .before .before .before in
     let a = start .args in
-    let some = slot-line-some (a .registry .now) (a .line) (a .slot .0) (start .pre .2) (rw (found .slot-at .ensures) at (used .if1 .left)) in
+    let some = slot-line-some (a .registry .now) (a .line) (a .slot .0) (start .pre .2) (sym (looked .is-free .ensures) ∙ used .if1 .left) in
     let counted = rw (read .key-uses .ensures) at (count .write-number3 .ensures .0) in
     let behind = placed-on (slot .write-number2 .ensures .0) (placed-on counted (end .write-word2 .ensures)) in
     (rw some (placed-on (word .write-word .ensures) (placed-on (line .write-number .ensures .0) behind)), search needs)
@@ -82,8 +73,7 @@ pub write-key-spec : {M : Type 1} → statement M
 write-key-spec =
     tie.close
     (tie.spec
-    slot-at-requires
-    shared-slice-read-if1
+    is-free-requires
     returns
     key-uses-requires
     slice-aggregate-write-word

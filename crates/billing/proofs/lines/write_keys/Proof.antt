@@ -2,11 +2,11 @@
 -- behind what stands there, all lines are.
 use Prim.Native.Nat.{_+_, _-_, _*_, _≤_, _<_}
 use mathlib.Core.Bool.{true}
-use mathlib.Core.Path.{_≡_, sym, _∙_}
+use mathlib.Core.Path.{_≡_, sym, ap, _∙_}
 use native.Mathlib.Omega.{arith}
 use borrow.Author.Needs.{needs}
-use lib.ListN.{length, getD}
-use Rattle.registry.specs.Registry.{lineCount, slotCount, lineSize, registrySize}
+use lib.ListN.{length}
+use Rattle.registry.specs.Registry.{lineCount, slotCount, registrySize}
 use Rattle.registry.specs.WellFormed.{wellFormedRegistry}
 use Rattle.registry.proofs.WellFormedLaws.{good-of}
 use Rattle.billing.specs.Outcome.{keyLineMost}
@@ -28,24 +28,17 @@ good l = l .before .before .before .pre .0
 size : (l : tie.At-loop Inv-loop μ-loop) → length (l .before .before .before .args .registry .now) ≡ registrySize
 size l = good-of _ (good l) .size
 
-below : (w : tie.After-wide Inv-loop μ-loop) → w .before .before .before .loop .i < lineCount
-below w = omega arith
+abbrev at-loop : tie.After-line-name Inv-loop μ-loop → tie.At-loop Inv-loop μ-loop
+at-loop w = w .before .before
 
-byte : (w : tie.After-wide Inv-loop μ-loop)
-    → getD (w .before .before .before .before .before .before .args .registry .now) (w .before .before .before .loop .i * lineSize) 0 < 256
-byte w = omega (arith, w .wide .ensures .0, w .wide .ensures .1)
+below : (w : tie.After-line-name Inv-loop μ-loop) → at-loop w .loop .i < lineCount
+below w = omega arith
 
 loop-holds : tie.Need-loop-holds Inv-loop μ-loop
 loop-holds c = let a = c .before .before .args in (leaves-all _ (a .out .now) (a .at) (omega arith), omega arith, omega arith)
 
-mul-wide : tie.Need-mul-wide Inv-loop μ-loop
-mul-wide c = omega arith
-
-shared-slice-read-wide : tie.Need-shared-slice-read-wide Inv-loop μ-loop
-shared-slice-read-wide c = omega (arith, size (c .before .before))
-
-wide-requires : tie.Need-wide-requires Inv-loop μ-loop
-wide-requires c κs = search needs
+line-name-requires : tie.Need-line-name-requires Inv-loop μ-loop
+line-name-requires c κs = (size (c .before), omega arith)
 
 same-length : tie.Need-same-length Inv-loop μ-loop
 same-length c = search needs
@@ -53,15 +46,15 @@ same-length c = search needs
 returns : tie.Need-returns Inv-loop μ-loop
 returns c =
     let w = c .before in
-    let l = w .before .before .before in
+    let l = at-loop w in
     let a = l .before .before .before .args in
-    let none = keys-none (a .registry .now) (good l) (l .loop .i) (below w) (byte w) (sym (w .wide .ensures .0) ∙ c .if1 .taken) in
+    let none = keys-none (a .registry .now) (l .loop .i) (below w) (sym (ap length (w .line-name .ensures)) ∙ c .if1 .taken) in
     (leaves-none (rw none at (l .loop .inv .0)), omega arith)
 
 write-line-keys-requires : tie.Need-write-line-keys-requires Inv-loop μ-loop
 write-line-keys-requires c κs =
     let w = c .before .before in
-    let l = w .before .before .before in
+    let l = at-loop w in
     (good l, below w, omega (arith, l .loop .inv .0 .long))
 
 add-i : tie.Need-add-i Inv-loop μ-loop
@@ -75,9 +68,9 @@ loop-again c =
     let written = c .before .before in
     let some = written .before .before in
     let w = some .before in
-    let l = w .before .before .before in
+    let l = at-loop w in
     let a = l .before .before .before .args in
-    let next = keys-next (a .registry .now) (good l) (l .loop .i) (below w) (byte w) (λ z. some .if1 .left (w .wide .ensures .0 ∙ z)) in (
+    let next = keys-next (a .registry .now) (l .loop .i) (below w) (λ z. some .if1 .left (ap length (w .line-name .ensures) ∙ z)) in (
       leaves-rest {a = slotsFrom (a .registry .now) (record { 0 = l .loop .i }) 0} (rw next at (l .loop .inv .0)) (written .write-line-keys .ensures .0),
       omega arith,
       omega (arith, written .write-line-keys .ensures .1),
@@ -99,9 +92,7 @@ write-keys-spec =
     Inv-loop
     μ-loop
     loop-holds
-    mul-wide
-    shared-slice-read-wide
-    wide-requires
+    line-name-requires
     same-length
     returns
     write-line-keys-requires

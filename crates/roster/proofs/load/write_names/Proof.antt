@@ -1,21 +1,19 @@
 -- `roster::load::write_names` meets its contract. The loop's invariant: the lines of the first i names are written, and behind
 -- them memory is as it came.
-use Prim.Native.Nat.{ℕ, _+_, _-_, _*_, _≤_, _<_}
+use Prim.Native.Nat.{ℕ, _-_, _*_, _≤_, _<_}
 use mathlib.Core.Path.{_≡_, refl, sym, ap, _∙_}
 use mathlib.Core.Bool.{true}
-use mathlib.Core.List.{List, [], _++_, map, flatten}
+use mathlib.Core.List.{List, [], map, flatten}
 use native.Mathlib.Omega.{arith}
-use borrow.Author.Needs.{needs}
-use borrow.Rule.Slice.PartMut.{same-len-mid}
-use lib.ListN.{length, drop, getD, length-drop}
-use lib.Seq.{length-take-le, take-all}
-use Rattle.wire.specs.Lists.{padded, over}
+use lib.ListN.{length, take, drop, getD}
+use lib.Seq.{take-at, take-all}
+use Rattle.wire.specs.Lists.{padded, put, over}
 use Rattle.wire.proofs.ListLaws.{all-at}
-use Rattle.wire.proofs.BufferLaws.{put-mid, put-on, zeros-on}
+use Rattle.wire.proofs.BufferLaws.{put-on}
 use Rattle.keys.specs.Names.{applicationNameMost}
 use Rattle.registry.specs.Registry.{lineSize, registrySize, lineOf, registryOf}
 use Rattle.keys.proofs.NameLaws.{legal-short}
-use Rattle.registry.proofs.KeylessLaws.{isLegal, line-length}
+use Rattle.registry.proofs.KeylessLaws.{isLegal}
 use Rattle.roster.specs.code.Check.{namesAt}
 use Rattle.roster.proofs.LoadLaws.{names-many, linesOf, lines-more, lines-long}
 use Rattle.roster.proofs.load.write_names.Statement.{statement}
@@ -62,74 +60,52 @@ there c = rw (many (start c)) (c .if1 .taken)
 legal : (c : Then1) → isLegal (name c) ≡ true
 legal c = all-at isLegal [] (names (start c)) (i c) (there c) (start c .pre .2)
 
-room : (c : Then1) → i c * lineSize + lineSize ≤ length (registry c)
-room c = omega (arith, start c .pre .0, start c .pre .1 .few, c .before .before .loop .inv .1 .1)
-
--- the line as it comes back
 abbrev After : Type 0
-After = tie.After-slice-known2 Inv-loop μ-loop
+After = tie.After-write-line Inv-loop μ-loop
 
 abbrev turn : After → Then1
-turn c = c .before .before .before .before .before
+turn c = c .before .before .before
 
-abbrev line : After → List ℕ
-line c = c .before .before .write-line .last .0
-
-written : (c : After) → line c ≡ lineOf (name (turn c))
-written c = c .before .before .write-line .ensures ∙ ap lineOf (c .before .before .before .name-at .ensures)
+-- the registry as it comes back
+written : (c : After) → c .write-line .last .0 ≡ put (registry (turn c)) (i (turn c) * lineSize) (lineOf (name (turn c)))
+written c =
+    c .write-line .ensures ∙ ap (λ (n : List ℕ). put (registry (turn c)) (i (turn c) * lineSize) (lineOf n)) (c .before .name-at .ensures)
 
 loop-holds : tie.Need-loop-holds Inv-loop μ-loop
 unfolding flatten
 loop-holds c = (omega arith, (refl, refl))
-
-mul-a : tie.Need-mul-a Inv-loop μ-loop
-mul-a c = omega (arith, room c)
-
-add-e : tie.Need-add-e Inv-loop μ-loop
-add-e c = omega (arith, room c)
-
-sub-write-line : tie.Need-sub-write-line Inv-loop μ-loop
-sub-write-line c = omega arith
-
-part-write-line-start : tie.Need-part-write-line-start Inv-loop μ-loop
-part-write-line-start c = omega arith
-
-part-write-line-end : tie.Need-part-write-line-end Inv-loop μ-loop
-part-write-line-end c = omega (arith, room c)
 
 name-at-requires : tie.Need-name-at-requires Inv-loop μ-loop
 name-at-requires c κs = (start (c .before) .pre .1, c .before .if1 .taken)
 
 write-line-requires : tie.Need-write-line-requires Inv-loop μ-loop
 write-line-requires c κs =
-    let t = c .before .before in
-    let a : ℕ = i t * lineSize in
-    let k : a + lineSize - a ≡ lineSize = omega arith in (
-      length-take-le (a + lineSize - a) (drop a (registry t)) (omega (arith, room t, length-drop a (registry t))) ∙ k,
+    let t = c .before .before in (
+      t .before .before .loop .inv .1 .1 ∙ start t .pre .0,
+      omega (arith, start t .pre .1 .few, t .if1 .taken),
       rw (c .name-at .ensures) (legal-short applicationNameMost (name t) (legal t)),
     )
 
 add-i : tie.Need-add-i Inv-loop μ-loop
-add-i c = omega (arith, start (turn c) .pre .1 .few, turn c .if1 .taken)
+add-i c = let t = turn (c .before .before) in omega (arith, start t .pre .1 .few, t .if1 .taken)
 
 loop-less : tie.Need-loop-less Inv-loop μ-loop
-loop-less c = omega (arith, turn c .if1 .taken)
+loop-less c = omega (arith, turn (c .before .before) .if1 .taken)
 
 loop-again : tie.Need-loop-again Inv-loop μ-loop
 loop-again c =
-    let t = turn c in
+    let w = c .before .before in
+    let t = turn w in
     let s = start t in
     let inv = t .before .before .loop .inv in
     let d : List ℕ = s .args .registry .now in
-    let done : List ℕ = linesOf (names s) (i t) in
-    let a : ℕ = i t * lineSize in
-    let long : length (line c) ≡ a + lineSize - a = ap length (written c) ∙ line-length (name t) (legal t) ∙ (let k : lineSize ≡ a + lineSize - a = omega arith in k) in (
+    let done : List ℕ = linesOf (names s) (i t) in (
       omega (arith, t .if1 .taken),
       (
-        put-mid (registry t) (line c) a (a + lineSize - a) long
-            ∙ put-on done (line c) d (registry t) a (sym (reach s (i t) (inv .0))) (inv .1 .0)
-            ∙ ap (λ (l : List ℕ). over l d) (ap (λ (v : List ℕ). done ++ v) (written c) ∙ sym (lines-more (names s) (i t) (there t))),
-        same-len-mid {X = ℕ} a (a + lineSize - a) (registry t) (line c) (c .before .before .write-line .kept .0) ∙ inv .1 .1,
+        written w
+            ∙ put-on done (lineOf (name t)) d (registry t) (i t * lineSize) (sym (reach s (i t) (inv .0))) (inv .1 .0)
+            ∙ ap (λ (l : List ℕ). over l d) (sym (lines-more (names s) (i t) (there t))),
+        w .write-line .kept .0 ∙ inv .1 .1,
       ),
     )
 
@@ -141,29 +117,14 @@ Else1 = tie.Else1 Inv-loop μ-loop
 abbrev start′ : Else1 → Start
 start′ c = c .before .before .before .before .before
 
-all-fit : (c : Else1) → c .before .before .loop .i * lineSize ≤ length (c .before .before .loop .registry)
-all-fit c = let inv = c .before .before .loop .inv in omega (arith, start′ c .pre .0, start′ c .pre .1 .few, inv .0, inv .1 .1)
-
-mul-a-2 : tie.Need-mul-a-2 Inv-loop μ-loop
-mul-a-2 c = omega (arith, all-fit c)
-
-sub-clear : tie.Need-sub-clear Inv-loop μ-loop
-sub-clear c = all-fit c
-
-part-clear-start : tie.Need-part-clear-start Inv-loop μ-loop
-part-clear-start c = all-fit c
-
-part-clear-end : tie.Need-part-clear-end Inv-loop μ-loop
-part-clear-end c = search needs
-
-clear-requires : tie.Need-clear-requires Inv-loop μ-loop
-clear-requires c κs = search needs
+clear-lines-requires : tie.Need-clear-lines-requires Inv-loop μ-loop
+clear-lines-requires c κs =
+    let e = c .before in
+    let inv = e .before .before .loop .inv in
+    (inv .1 .1 ∙ start′ e .pre .0, omega (arith, inv .0, start′ e .pre .1 .few))
 
 same-length : tie.Need-same-length Inv-loop μ-loop
-same-length c =
-    let l = c .before .before .before .before .before .before .loop in
-    let k = c .before .before .clear in
-    same-len-mid {X = ℕ} (l .i * lineSize) (length (l .registry) - l .i * lineSize) (l .registry) (k .last .0) (k .kept .0) ∙ l .inv .1 .1
+same-length c = let e = c .before .before .before .before in c .before .before .clear-lines .kept .0 ∙ e .before .before .loop .inv .1 .1
 
 returns : tie.Need-returns Inv-loop μ-loop
 unfolding registryOf
@@ -173,11 +134,11 @@ returns c =
     let l = e .before .before .loop in
     let d : List ℕ = s .args .registry .now in
     let done : List ℕ = linesOf (names s) (l .i) in
-    let far = reach s (l .i) (l .inv .0) in
-    let within : length done ≤ length d = omega (arith, all-fit e, l .inv .1 .1) in
+    let front : take (l .i * lineSize) (l .registry) ≡ done
+    = ap (take (l .i * lineSize)) (l .inv .1 .0) ∙ take-at done (drop (length done) d) (l .i * lineSize) (reach s (l .i) (l .inv .0)) in
     let end : length (names s) ≤ l .i = rw (many s) (e .if1 .left) in
-    zeros-on done d (l .registry) (c .before .before .clear .last .0) (l .i * lineSize) (sym far) within (l .inv .1 .0) (c .before .before .clear .ensures)
-    ∙ ap (λ (n : ℕ). padded n done) (s .pre .0)
+    c .before .before .clear-lines .ensures
+    ∙ ap (padded registrySize) front
     ∙ ap (λ (ns : List (List ℕ)). padded registrySize (flatten (map lineOf ns))) (take-all (l .i) (names s) end)
 
 pub write-names-spec : {M : Type 1} → statement M
@@ -187,20 +148,11 @@ write-names-spec =
     Inv-loop
     μ-loop
     loop-holds
-    mul-a
-    add-e
-    sub-write-line
-    part-write-line-start
-    part-write-line-end
     name-at-requires
     write-line-requires
     add-i
     loop-less
     loop-again
-    mul-a-2
-    sub-clear
-    part-clear-start
-    part-clear-end
-    clear-requires
+    clear-lines-requires
     same-length
     returns)

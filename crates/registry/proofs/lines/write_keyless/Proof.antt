@@ -1,4 +1,4 @@
--- `roster::load::write_line` meets its contract.
+-- `registry::lines::write_keyless` meets its contract.
 use Prim.Native.Nat.{ℕ, _-_, _%_}
 use mathlib.Core.Path.{_≡_, _∙_}
 use mathlib.Core.List.{List}
@@ -7,22 +7,22 @@ use borrow.Author.Needs.{needs}
 use borrow.Rule.Slice.PartMut.{same-len-mid}
 use lib.ListN.{length, set, length-set, length-drop}
 use Rattle.wire.proofs.BufferLaws.{lent}
-use Rattle.roster.proofs.LoadLaws.{line-written}
-use Rattle.roster.proofs.load.write_line.Statement.{statement}
-use Rattle.roster.proofs.load.write_line.Tie as tie
+use Rattle.registry.proofs.LineLaws.{line-written}
+use Rattle.registry.proofs.lines.write_keyless.Statement.{statement}
+use Rattle.registry.proofs.lines.write_keyless.Tie as tie
 
 -- the line with the name's length at its front
 abbrev front : tie.Start → List ℕ
-front c = set (c .args .line .now) 0 (length (c .args .name .now) % 256)
+front c = set (c .args .bytes .now) 0 (length (c .args .name .now) % 256)
 
-long : (c : tie.Start) → length (front c) ≡ length (c .args .line .now)
-long c = length-set (c .args .line .now) 0 (length (c .args .name .now) % 256)
+long : (c : tie.Start) → length (front c) ≡ length (c .args .bytes .now)
+long c = length-set (c .args .bytes .now) 0 (length (c .args .name .now) % 256)
 
-cast-line : tie.Need-cast-line
-cast-line c = search needs
+cast-bytes : tie.Need-cast-bytes
+cast-bytes c = search needs
 
-slice-write-line : tie.Need-slice-write-line
-slice-write-line c = search needs
+slice-write-bytes : tie.Need-slice-write-bytes
+slice-write-bytes c = search needs
 
 sub-write-padded : tie.Need-sub-write-padded
 sub-write-padded c = omega (arith, long (c .before .before))
@@ -48,14 +48,14 @@ returns : tie.Need-returns
 returns c =
     let s = c .before .before .before .before .before .before in
     let small : length (s .args .name .now) % 256 ≡ length (s .args .name .now) = omega arith in
-    line-written (s .args .line .now) _ (s .args .name .now) _ (s .pre .0) (s .pre .1) small (c .before .before .write-padded .ensures)
+    line-written (s .args .bytes .now) _ (s .args .name .now) _ (s .pre .0) (s .pre .1) small (c .before .before .write-padded .ensures)
 
-pub write-line-spec : {M : Type 1} → statement M
-write-line-spec =
+pub write-keyless-spec : {M : Type 1} → statement M
+write-keyless-spec =
     tie.close
     (tie.spec
-    cast-line
-    slice-write-line
+    cast-bytes
+    slice-write-bytes
     sub-write-padded
     part-write-padded-start
     part-write-padded-end
