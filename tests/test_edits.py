@@ -95,7 +95,8 @@ class Faults(unittest.TestCase):
 
     def test_first_lines_that_say_nothing(self):
         rest = "file: src/x.rt\nold: second: 7\nnew: second: 8\n"
-        for name, line in {"bare": "", "empty": "\n", "word": "Wrong.\n", "unended": "The second is eight\n", "said": "The second is eight.\n"}.items():
+        lines = {"bare": "", "empty": "\n", "word": "Wrong.\n", "unended": "The second is eight\n", "said": "The second is eight.\n"}
+        for name, line in lines.items():
             self.edit(name, line + rest)
         self.assertEqual(untold(self.root), ["bare", "empty", "unended", "word"])
 
