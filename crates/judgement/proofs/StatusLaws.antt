@@ -1,11 +1,9 @@
 -- Where a status stands among the counters of refused requests, and the number that stands there.
-use Prim.Native.Nat.{ℕ, zero, suc, _≤_, _<_}
+use Prim.Native.Nat.{ℕ, zero, suc, _<_}
 use mathlib.Core.Path.{_≡_, refl}
 use mathlib.Core.List.{List, [], _∷_, map}
 use native.Mathlib.Omega.{arith}
 use lib.ListN.{length, getD}
-use lib.Dec.{eqb}
-use Rattle.wire.proofs.TestLaws.{either}
 use Rattle.judgement.specs.Status.{statusNumber, refusedStatuses}
 use Rattle.judgement.specs.Counts.{indexOf}
 use Rattle.judgement.specs.declared.Status.{Status}
@@ -38,13 +36,6 @@ number-there PsaErrorAlreadyExists = refl
 number-there PsaErrorDoesNotExist = refl
 number-there PsaErrorInsufficientStorage = refl
 number-there PsaErrorInvalidSignature = refl
-
-pub index-most : (status : Status) (statuses : List Status) → indexOf status statuses ≤ length statuses
-unfolding indexOf
-index-most status [] = omega arith
-index-most status (s ∷ statuses) =
-    let rest = index-most status statuses in
-    either (λ (i : ℕ). i ≤ length (s ∷ statuses)) (eqb (statusNumber status) (statusNumber s)) (λ _. omega arith) (λ _. omega arith)
 
 -- a number that is not 0 stands in the list
 below : (numbers : List ℕ) (i : ℕ) → 0 < getD numbers i 0 → i < length numbers

@@ -1,7 +1,8 @@
-// The numbers of statuses.
+// The statuses: where each stands among the counters, and its number.
 use crate::REFUSED_STATUSES;
 use crate::Status;
 ghost use mathlib.Core.Path.{_≡_};
+ghost use mathlib.Core.List.{map};
 ghost use Prim.Native.Nat.{_<_};
 ghost use lib.ListN.{getD};
 ghost use Rattle.judgement.specs.Status.{statusNumber, refusedStatuses, refusedCount};
@@ -35,33 +36,38 @@ pub fn refused_index(status: Status) -> usize
     }
 }
 
-// The numbers of the statuses but Success, in the order of their counters.
-const REFUSED_NUMBERS: [u16; REFUSED_STATUSES] = [
-    1,
-    2,
-    3,
-    4,
-    6,
-    7,
-    9,
-    11,
-    12,
-    17,
-    19,
-    20,
-    1133,
-    1134,
-    1135,
-    1139,
-    1140,
-    1142,
-    1149,
-];
-
-fn wide(number: u16) -> u64
-    ensures { λ r. ⌜ r ≡ number ⌝ }
+// The number of the status that stands at a place, and behind the last the number of Success.
+fn number_at(i: usize) -> u16
+    ensures { λ r. ⌜ r ≡ getD (map statusNumber refusedStatuses) i 0 ⌝ }
 {
-    number as u64
+    match i {
+        0 => 1,
+        1 => 2,
+        2 => 3,
+        3 => 4,
+        4 => 6,
+        5 => 7,
+        6 => 9,
+        7 => 11,
+        8 => 12,
+        9 => 17,
+        10 => 19,
+        11 => 20,
+        12 => 1133,
+        13 => 1134,
+        14 => 1135,
+        15 => 1139,
+        16 => 1140,
+        17 => 1142,
+        18 => 1149,
+        _ => 0,
+    }
+}
+
+pub fn status_number(status: Status) -> u16
+    ensures { λ r. ⌜ r ≡ statusNumber status ⌝ }
+{
+    number_at(refused_index(status))
 }
 
 // The number of the status whose refused requests counter i counts.
@@ -69,16 +75,5 @@ pub fn refused_number(i: usize) -> u64
     requires { ⌜ i < refusedCount ⌝ }
     ensures { λ r. ⌜ r ≡ statusNumber (getD refusedStatuses i Status.Success) ⌝ }
 {
-    wide(REFUSED_NUMBERS[i])
-}
-
-pub fn status_number(status: Status) -> u16
-    ensures { λ r. ⌜ r ≡ statusNumber status ⌝ }
-{
-    let i = refused_index(status);
-    // Success.
-    if i == REFUSED_STATUSES {
-        return 0;
-    }
-    REFUSED_NUMBERS[i]
+    number_at(i) as u64
 }
