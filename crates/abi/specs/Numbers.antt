@@ -1,6 +1,5 @@
 -- What the functions exported to C answer, as numbers.
 use Prim.Native.Nat.{ℕ, _+_}
-use mathlib.Core.Path.{_≡_}
 use mathlib.Core.List.{List}
 use Rattle.roster.specs.Roster.{faultNumber, RosterOutcome}
 use Rattle.roster.specs.declared.Loaded.{Loaded}
@@ -8,8 +7,7 @@ use Rattle.roster.specs.declared.Loaded.the-variants.{Good, Faulty}
 use Rattle.connection.specs.Connection.{Opening}
 use Rattle.connection.specs.declared.change.Opened.{Opened}
 use Rattle.connection.specs.declared.change.Opened.the-variants.{Fresh, WrongSize}
-use Rattle.service.specs.Call.{Memory, Call}
-use Rattle.service.specs.Contract.{codeNumber, CallContract}
+use Rattle.service.specs.Contract.{codeNumber}
 use Rattle.service.specs.declared.CallAnswer.{CallAnswer}
 use Rattle.billing.specs.Outcome.{BillOutcome}
 use Rattle.billing.specs.declared.Billed.{Billed}
@@ -36,12 +34,6 @@ openedWith o = (openedNumber (o .answer), o .memory)
 
 abbrev pub numbered : CallAnswer → Answer
 numbered a = record { code = codeNumber (a .code); taken = a .taken; written = a .written }
-
--- the numbers are those of an answer that meets the call's contract
-pub record Called (list : List ℕ) (before : Memory) (call : Call) (numbers : Answer) (after : Memory) (buffer : List ℕ) : Type 0 where
-  pub says : CallAnswer
-  pub numbers-is : numbers ≡ numbered says
-  pub contract : CallContract list before call says after buffer
 
 unfoldable pub billedNumber : Billed → ℕ
 billedNumber (Written written) = 0

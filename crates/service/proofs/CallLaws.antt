@@ -2,7 +2,7 @@
 -- empty chunk alters nothing, at most 629 bytes are written, and the response buffer keeps its length.
 use mathlib.Core.Path.{_≡_, refl, _∙_}
 use mathlib.Core.Bool.{true}
-use mathlib.Core.Option.{Option, none, some}
+use mathlib.Core.Option.{Option, none, some, map-eq-none-iff}
 use mathlib.Core.List.{List, []}
 use Prim.Native.Nat.{ℕ, _+_, _≤_}
 use native.Mathlib.Omega.{arith}
@@ -27,7 +27,7 @@ use Rattle.judgement.proofs.ResponseLaws.{responseMost, bad-short, oversized-sh
 use Rattle.counters.specs.Counters.{totalsOf, countersOf, zeroCounters, counterMost, largestCounter}
 use Rattle.service.specs.Call.{Memory, stateIn, memoryOf, withResponse, layout, Call, CallOutcome, fresh, bufferLeast, refusalTests, refusalOf, callOutcome}
 use Rattle.service.specs.code.Served.{Ready, effectOf}
-use Rattle.service.specs.declared.Refusal.{Refusal}
+use Rattle.service.specs.Refusals.{refusalNumber}
 use Rattle.service.specs.declared.Refusal.the-variants.{ResponseBufferTooSmall, ChunkTooLong, ConnectionIllFormed, RegistryIllFormed, CounterTooHigh, ListIllFormed}
 use Rattle.service.proofs.KeptLaws.{keeps}
 
@@ -61,8 +61,9 @@ pub record Passed (list : List ℕ) (m : Memory) (call : Call) : Type 0 where
 
 pub passed : (list : List ℕ) (m : Memory) (call : Call) → refusalOf list m call ≡ none → Passed list m call
 unfolding refusalOf refusalTests
-passed list m call e =
+passed list m call refused =
     let tests = refusalTests list m call in
+    let e : firstOf tests ≡ none = map-eq-none-iff refusalNumber (firstOf tests) .0 refused in
     record {
       ready =
           record {
@@ -78,7 +79,7 @@ passed list m call e =
 -- ---- any call
 
 module _ (list : List ℕ) (m : Memory) (call : Call) where
-  pub refused-outcome : (code : Refusal) → refusalOf list m call ≡ some code → callOutcome list m call ≡ record { answer = refused layout code call; memory = m }
+  pub refused-outcome : (code : ℕ) → refusalOf list m call ≡ some code → callOutcome list m call ≡ record { answer = refused layout code call; memory = m }
   unfolding callOutcome callOn
   refused-outcome code e = rw (e, callOn)
 
@@ -102,7 +103,7 @@ module _ (list : List ℕ) (m : Memory) (call : Call) where
   unfolding layout withResponse written stateIn
   call-fits = go (refusalOf list m call) refl
     where
-      go : (o : Option Refusal) → refusalOf list m call ≡ o → Fits (callOutcome list m call)
+      go : (o : Option ℕ) → refusalOf list m call ≡ o → Fits (callOutcome list m call)
       go (some code) e = rw (refused-outcome code e) (record { written = omega arith; buffer-length = refl })
       go none e =
           let t = passed list m call e in
@@ -113,16 +114,16 @@ module _ (list : List ℕ) (m : Memory) (call : Call) where
   pub refused-exactly : callOutcome list m call .answer .refusal ≡ refusalOf list m call
   refused-exactly = go (refusalOf list m call) refl
     where
-      go : (o : Option Refusal) → refusalOf list m call ≡ o → callOutcome list m call .answer .refusal ≡ o
+      go : (o : Option ℕ) → refusalOf list m call ≡ o → callOutcome list m call .answer .refusal ≡ o
       go (some code) e = rw (refused-outcome code e)
       go none e = rw (taken-outcome e)
 
   -- a refused call takes nothing, writes nothing and alters nothing
-  pub record Refused (code : Refusal) (o : CallOutcome) : Type 0 where
+  pub record Refused (code : ℕ) (o : CallOutcome) : Type 0 where
     pub answer : o .answer ≡ record { refusal = some code; taken = 0; given = record { count = 0; buffer = call .lent } }
     pub memory : o .memory ≡ m
 
-  pub refused-stays : (code : Refusal) → refusalOf list m call ≡ some code → Refused code (callOutcome list m call)
+  pub refused-stays : (code : ℕ) → refusalOf list m call ≡ some code → Refused code (callOutcome list m call)
   unfolding layout withResponse written
   refused-stays code e = rw (refused-outcome code e) (record { answer = refl; memory = refl })
 
@@ -139,7 +140,7 @@ empty-idle list m buffer = go (refusalOf list m call) refl
     call : Call
     call = record { chunk = []; lent = buffer }
 
-    go : (o : Option Refusal) → refusalOf list m call ≡ o → Idle m buffer (callOutcome list m call)
+    go : (o : Option ℕ) → refusalOf list m call ≡ o → Idle m buffer (callOutcome list m call)
     go (some code) e = rw (refused-outcome list m call code e) (record { taken = refl; stays = refl; memory-stays = refl })
     go none e =
         let t = passed list m call e in

@@ -1,7 +1,7 @@
 -- A call as the code says it, from the code of C1 to C6 and from what serving it has done.
 use Prim.Native.Nat.{ℕ}
 use mathlib.Core.Path.{_≡_, refl, sym, ap, subst, _∙_}
-use mathlib.Core.Option.{Option, none, some}
+use mathlib.Core.Option.{Option, none, some, Option·map}
 use mathlib.Core.List.{List, [], _∷_}
 use native.Mathlib.Nat.{add-zero}
 use native.Mathlib.Omega.{arith}
@@ -13,11 +13,13 @@ use Rattle.reading.specs.Buffer.{Written, written}
 use Rattle.counters.specs.Counters.{totalsOf, countersOf}
 use Rattle.counters.specs.code.Counted.{countEvent, counted}
 use Rattle.counters.specs.declared.Counters.{Counters}
+use Rattle.service.specs.Refusals.{refusalNumber}
 use Rattle.service.specs.Call.{Memory, memoryOf, withResponse, layout, Call, Answer, CallOutcome, refusalTests, refusalOf, callOutcome}
-use Rattle.service.specs.Contract.{lentMemory, callWith, refusalIn, outcomeWith, CallContract}
-use Rattle.service.specs.code.Called.{codeFor, answerOf, refusedWith}
+use Rattle.service.specs.Contract.{lentMemory, callWith, codeNumber, refusalIn, ranWith, outcomeIn, CallContract}
+use Rattle.service.specs.code.Called.{codeFor, refusedWith}
 use Rattle.service.specs.code.Served.{WroteAny, Carried, effectOf}
 use Rattle.service.specs.declared.Refusal.{Refusal}
+use Rattle.service.specs.declared.Refusal.the-variants.{ResponseBufferTooSmall, ChunkTooLong, ConnectionIllFormed, RegistryIllFormed, CounterTooHigh, ListIllFormed}
 use Rattle.service.specs.declared.Code.{Code}
 use Rattle.service.specs.declared.Code.the-variants.{Taken}
 use Rattle.service.specs.declared.Handled.{Handled}
@@ -28,6 +30,16 @@ taken-none : (o : Option Refusal) → codeFor o ≡ Taken → o ≡ none
 unfolding codeFor
 taken-none none e = refl
 taken-none (some refusal) e = cc
+
+-- a refusal's number says that refusal
+said : (refusal : Refusal) → refusalIn (refusalNumber refusal) ≡ some (refusalNumber refusal)
+unfolding refusalIn refusalNumber
+said ResponseBufferTooSmall = refl
+said ChunkTooLong = refl
+said ConnectionIllFormed = refl
+said RegistryIllFormed = refl
+said CounterTooHigh = refl
+said ListIllFormed = refl
 
 -- a refused call counts nothing
 nothing-counted : (c : Counters) (code : Code) → counted c (refusedWith code .added) ≡ c
@@ -44,30 +56,33 @@ module _ (list connection registry : List ℕ) (counters : Counters) (chunk buff
 
   pub taken-passes : (code : Code) → code ≡ codeFor (firstOf (refusalTests list m call)) → code ≡ Taken → refusalOf list m call ≡ none
   unfolding refusalOf
-  taken-passes code e t = taken-none (firstOf (refusalTests list m call)) (sym e ∙ t)
+  taken-passes code e t = ap (Option·map refusalNumber) (taken-none (firstOf (refusalTests list m call)) (sym e ∙ t))
 
   -- a code that is not `Taken` is a refusal's, and all stays
   pub refused-call : (code : Code) (h : Handled) → code ≡ codeFor (firstOf (refusalTests list m call)) → OneOf (1 ∷ []) (tagOf the-type code)
       → h ≡ refusedWith code
-      → CallContract list m call (answerOf h) (lentMemory connection registry (counted counters (h .added))) buffer
-  unfolding codeFor refusalIn refusalOf layout withResponse written
+      → CallContract list m call (ranWith (codeNumber (h .code)) (h .added .taken) (h .written) (lentMemory connection registry (counted counters (h .added))) buffer)
+  unfolding codeFor codeNumber refusalOf layout withResponse written
   refused-call code h e other says = ap outcome says ∙ ap (λ (x : Counters). leaves code x) (nothing-counted counters code) ∙ go (firstOf (refusalTests list m call)) refl
     where
       leaves : Code → Counters → CallOutcome
-      leaves c x = outcomeWith c 0 0 (lentMemory connection registry x) buffer
+      leaves c x = outcomeIn (ranWith (codeNumber c) 0 0 (lentMemory connection registry x) buffer)
 
       outcome : Handled → CallOutcome
-      outcome x = outcomeWith (x .code) (x .added .taken) (x .written) (lentMemory connection registry (counted counters (x .added))) buffer
+      outcome x = outcomeIn (ranWith (codeNumber (x .code)) (x .added .taken) (x .written) (lentMemory connection registry (counted counters (x .added))) buffer)
 
       go : (f : Option Refusal) → firstOf (refusalTests list m call) ≡ f → leaves code counters ≡ callOutcome list m call
       go none q = absurd (clash (subst (λ (x : Code). OneOf (1 ∷ []) (tagOf the-type x)) (e ∙ ap codeFor q) other))
         where
           clash : OneOf (1 ∷ []) 0 → ⊥
           clash p = omega arith
-      go (some refusal) q = ap (λ (x : Code). leaves x counters) (e ∙ ap codeFor q) ∙ sym (refused-outcome list m call refusal q)
+      go (some refusal) q =
+          ap (λ (x : Code). leaves x counters) (e ∙ ap codeFor q)
+          ∙ ap (λ (x : Option ℕ). record { answer = record { refusal = x; taken = 0; given = record { count = 0; buffer = buffer } }; memory = m }) (said refusal)
+          ∙ sym (refused-outcome list m call (refusalNumber refusal) (ap (Option·map refusalNumber) q))
 
   took-all : (n w : ℕ) (o : Option (List ℕ)) (after : List ℕ) → WroteAny o buffer after w
-      → record { refusal = none; taken = n; given = record { count = w; buffer = after } } ≡ took {Code = Refusal} layout n o call
+      → record { refusal = none; taken = n; given = record { count = w; buffer = after } } ≡ took {Code = ℕ} layout n o call
   unfolding layout withResponse written
   took-all n w none after (none-written, stays) = λ i. record { refusal = none; taken = n; given = record { count = none-written i; buffer = stays i } }
   took-all n w (some response) after wrote = λ i. record { refusal = none; taken = n; given = record { count = wrote .count i; buffer = wrote .bytes i } }
@@ -75,11 +90,11 @@ module _ (list connection registry : List ℕ) (counters : Counters) (chunk buff
   -- a call that is served says and leaves what was carried out
   pub taken-call : (left kept after : List ℕ) (h : Handled) → refusalOf list m call ≡ none
       → Carried counters (effectOf list m chunk) left kept buffer after h
-      → CallContract list m call (answerOf h) (lentMemory left kept (counted counters (h .added))) after
-  unfolding refusalIn memoryOf
+      → CallContract list m call (ranWith (codeNumber (h .code)) (h .added .taken) (h .written) (lentMemory left kept (counted counters (h .added))) after)
+  unfolding refusalIn codeNumber memoryOf
   taken-call left kept after h passed done =
       (λ i. record {
-        answer = record { refusal = refusalIn (done .code-is i); taken = done .taken-is i; given = record { count = h .written; buffer = after } };
+        answer = record { refusal = refusalIn (codeNumber (done .code-is i)); taken = done .taken-is i; given = record { count = h .written; buffer = after } };
         memory = record { connection = done .connection-is i; registry = done .registry-is i; counters = done .counters-is i };
       })
       ∙ ap (λ (x : Answer). record { answer = x; memory = memoryOf (effectOf list m chunk .kept) }) (took-all (effectOf list m chunk .taken) (h .written) (effectOf list m chunk .event) after (done .response-is))

@@ -13,38 +13,18 @@ use Rattle.registry.specs.WellFormed.{wellFormedRegistry}
 use Rattle.shipped.specs.Shipped.{wellFormedList}
 use Rattle.judgement.specs.Judgement.{judgement}
 use Rattle.counters.specs.Counters.{counterMost}
-use Rattle.counters.specs.declared.Counters.{Counters}
 use Rattle.service.specs.Call.{Memory, layout, Call, Answer, CallOutcome, CallsOutcome, fresh, bufferLeast, chunkMost, refusalOf, callOutcome, callsOutcome}
-use Rattle.service.specs.Contract.{lentMemory, callWith, refusalIn, CallContract}
-use Rattle.service.specs.declared.CallAnswer.{CallAnswer}
+use Rattle.service.specs.Contract.{callWith, Ran, answerIn, outcomeIn, CallContract}
 use Rattle.service.proofs.Demand3.{FollowsRules, demand3}
 
 -- ---- calls of the code
-
--- what a call returned, and what it left in the memory that it was lent
-pub record Ran : Type 0 where
-  pub says : CallAnswer
-  pub connection : List ℕ
-  pub registry : List ℕ
-  pub counters : Counters
-  pub response : List ℕ
-
-abbrev pub leftBy : Ran → Memory
-leftBy r = lentMemory (r .connection) (r .registry) (r .counters)
-
--- the contract of `call`
-abbrev pub Contract : (list : List ℕ) → Memory → Call → Ran → Type 0
-Contract list m call r = CallContract list m call (r .says) (leftBy r) (r .response)
 
 -- one call after the other
 abbrev pub Runs : (list : List ℕ) → Memory → List Call → List Ran → Type 0
 Runs list m [] [] = Unit {0}
 Runs list m [] (r ∷ rest) = ⊥
 Runs list m (call ∷ calls) [] = ⊥
-Runs list m (call ∷ calls) (r ∷ rest) = Contract list m call r × Runs list (leftBy r) calls rest
-
-abbrev pub answerIn : Ran → Answer
-answerIn r = record { refusal = refusalIn (r .says .code); taken = r .says .taken; given = record { count = r .says .written; buffer = r .response } }
+Runs list m (call ∷ calls) (r ∷ rest) = CallContract list m call r × Runs list (r .memory) calls rest
 
 abbrev pub answersIn : List Ran → List Answer
 answersIn [] = []
@@ -52,7 +32,7 @@ answersIn (r ∷ rest) = answerIn r ∷ answersIn rest
 
 abbrev pub leftAfter : Memory → List Ran → Memory
 leftAfter m [] = m
-leftAfter m (r ∷ rest) = leftAfter (leftBy r) rest
+leftAfter m (r ∷ rest) = leftAfter (r .memory) rest
 
 abbrev pub ranOutcome : Memory → List Ran → CallsOutcome
 ranOutcome m runs = record { answers = answersIn runs; memory = leftAfter m runs }
@@ -66,18 +46,18 @@ HandsOver list (suc most) buffers m [] [] = Unit {0}
 HandsOver list (suc most) buffers m [] (r ∷ rest) = ⊥
 HandsOver list (suc most) buffers m (chunk ∷ chunks) [] = ⊥
 HandsOver list (suc most) buffers m (chunk ∷ chunks) (r ∷ rest) =
-    Contract list m (callWith chunk (buffers most)) r × HandsOver list most buffers (leftBy r) (leaving (drop (r .says .taken) chunk) chunks) rest
+    CallContract list m (callWith chunk (buffers most)) r × HandsOver list most buffers (r .memory) (leaving (drop (r .taken) chunk) chunks) rest
 
 abbrev pub callsHanded : (most : ℕ) (buffers : ℕ → List ℕ) (chunks : List (List ℕ)) → List Ran → List Call
 callsHanded zero buffers chunks runs = []
 callsHanded (suc most) buffers [] runs = []
 callsHanded (suc most) buffers (chunk ∷ chunks) [] = []
 callsHanded (suc most) buffers (chunk ∷ chunks) (r ∷ rest) =
-    callWith chunk (buffers most) ∷ callsHanded most buffers (leaving (drop (r .says .taken) chunk) chunks) rest
+    callWith chunk (buffers most) ∷ callsHanded most buffers (leaving (drop (r .taken) chunk) chunks) rest
 
 -- ---- the code's calls are the definition's
 
-step : (list : List ℕ) (m : Memory) (call : Call) (r : Ran) → Contract list m call r → callOutcome list m call ≡ record { answer = answerIn r; memory = leftBy r }
+step : (list : List ℕ) (m : Memory) (call : Call) (r : Ran) → CallContract list m call r → callOutcome list m call ≡ outcomeIn r
 step list m call r e = sym e
 
 ran : (list : List ℕ) (m : Memory) (calls : List Call) (runs : List Ran) → Runs list m calls runs → callsOutcome list m calls ≡ ranOutcome m runs
@@ -87,7 +67,7 @@ ran list m [] (r ∷ rest) p = absurd p
 ran list m (call ∷ calls) [] p = absurd p
 ran list m (call ∷ calls) (r ∷ rest) (e, p) =
     ap (λ (o : CallOutcome). (let x : CallsOutcome = record { answers = o .answer ∷ callsOutcome list (o .memory) calls .answers; memory = callsOutcome list (o .memory) calls .memory } in x)) (step list m call r e)
-    ∙ ap (λ (o : CallsOutcome). (let x : CallsOutcome = record { answers = answerIn r ∷ o .answers; memory = o .memory } in x)) (ran list (leftBy r) calls rest p)
+    ∙ ap (λ (o : CallsOutcome). (let x : CallsOutcome = record { answers = answerIn r ∷ o .answers; memory = o .memory } in x)) (ran list (r .memory) calls rest p)
 
 module _ (list : List ℕ) (buffers : ℕ → List ℕ) where
   handed : (most : ℕ) (m : Memory) (chunks : List (List ℕ)) (runs : List Ran) → HandsOver list most buffers m chunks runs
@@ -99,7 +79,7 @@ module _ (list : List ℕ) (buffers : ℕ → List ℕ) where
   handed (suc most) m [] (r ∷ rest) p = absurd p
   handed (suc most) m (chunk ∷ chunks) [] p = absurd p
   handed (suc most) m (chunk ∷ chunks) (r ∷ rest) (e, p) =
-      let (same, runs) = handed most (leftBy r) (leaving (drop (r .says .taken) chunk) chunks) rest p in (
+      let (same, runs) = handed most (r .memory) (leaving (drop (r .taken) chunk) chunks) rest p in (
         ap (λ (calls : List Call). callWith chunk (buffers most) ∷ calls)
             (same ∙ ap (λ (o : CallOutcome). handOver (reader (judgement list)) layout (refusalOf list) most buffers (o .memory) (leaving (drop (o .answer .taken) chunk) chunks)) (sym (step list m (callWith chunk (buffers most)) r e))),
         (e, runs),

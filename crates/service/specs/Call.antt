@@ -2,7 +2,7 @@
 -- a taken one leaves.
 use Prim.Native.Nat.{ℕ}
 use mathlib.Core.Bool.{Bool, not}
-use mathlib.Core.Option.{Option, none, some}
+use mathlib.Core.Option.{Option, none, some, Option·map}
 use mathlib.Core.List.{List, [], _∷_}
 use lib.ListN.{length}
 use lib.Dec.{ltb}
@@ -19,6 +19,7 @@ use Rattle.judgement.specs.Counts.{Counts}
 use Rattle.judgement.specs.Judgement.{judgement}
 use Rattle.counters.specs.Counters.{totalsOf, countersOf, zeroCounters, counterMost, largestCounter}
 use Rattle.counters.specs.declared.Counters.{Counters}
+use Rattle.service.specs.Refusals.{refusalNumber}
 use Rattle.service.specs.declared.Refusal.{Refusal}
 use Rattle.service.specs.declared.Refusal.the-variants.{ResponseBufferTooSmall, ChunkTooLong, ConnectionIllFormed, RegistryIllFormed, CounterTooHigh, ListIllFormed}
 
@@ -44,18 +45,18 @@ withResponse (some response) buffer = written response buffer
 unfoldable pub layout : Layout Memory (State (List ℕ) Counts) (List ℕ) (List ℕ) Written
 layout = record { load = stateIn; store = memoryOf; give = withResponse }
 
--- the call, what it says, and what calls leave
+-- the call, what it says (a refusal by its number), and what calls leave
 abbrev pub Call : Type 0
 Call = CallWith (List ℕ)
 
 abbrev pub Answer : Type 0
-Answer = AnswerWith Refusal Written
+Answer = AnswerWith ℕ Written
 
 abbrev pub CallOutcome : Type 0
-CallOutcome = CallOutcomeWith Memory Refusal Written
+CallOutcome = CallOutcomeWith Memory ℕ Written
 
 abbrev pub CallsOutcome : Type 0
-CallsOutcome = CallsOutcomeWith Memory Refusal Written
+CallsOutcome = CallsOutcomeWith Memory ℕ Written
 
 -- a fresh connection and zero counters
 unfoldable pub fresh : (registry : List ℕ) → Memory
@@ -76,9 +77,9 @@ refusalTests list m call =
     ∷ (not (wellFormedList list), ListIllFormed)
     ∷ []
 
--- C1 to C6, first that applies
-unfoldable pub refusalOf : (list : List ℕ) → Memory → Call → Option Refusal
-refusalOf list m call = firstOf (refusalTests list m call)
+-- C1 to C6, first that applies, by its number
+unfoldable pub refusalOf : (list : List ℕ) → Memory → Call → Option ℕ
+refusalOf list m call = Option·map refusalNumber (firstOf (refusalTests list m call))
 
 -- ---- the call, and a list of calls; all are lent the same list of keys that we ship, read-only
 

@@ -1,14 +1,13 @@
--- THE CONTRACT OF A CALL, which the code's `ensures` cites and which demand 3 of the code has as its single step.
-use Prim.Native.Nat.{ℕ}
+-- THE CONTRACT OF A CALL, in numbers, so that it is one for Rattle, C and Rust: each of the functions' `ensures` cites it, and
+-- it is the single step of demand 3 of the code.
+use Prim.Native.Nat.{ℕ, zero, suc}
 use mathlib.Core.Path.{_≡_}
 use mathlib.Core.Option.{Option, none, some}
 use mathlib.Core.List.{List}
 use Rattle.counters.specs.declared.Counters.{Counters}
 use Rattle.service.specs.Refusals.{refusalNumber}
-use Rattle.service.specs.Call.{Memory, Call, CallOutcome, callOutcome}
-use Rattle.service.specs.declared.Refusal.{Refusal}
+use Rattle.service.specs.Call.{Memory, Call, Answer, CallOutcome, callOutcome}
 use Rattle.service.specs.declared.Code.{Code}
-use Rattle.service.specs.declared.CallAnswer.{CallAnswer}
 use Rattle.service.specs.declared.Code.the-variants.{Taken, Refused}
 
 -- what a function is lent, as a call's memory and as the call
@@ -18,22 +17,33 @@ lentMemory connection registry counters = record { connection = connection; regi
 abbrev pub callWith : (chunk buffer : List ℕ) → Call
 callWith chunk buffer = record { chunk = chunk; lent = buffer }
 
--- what a call says, as a number: 0 if it is taken, else the refusal's
+-- what the code says, as a number: 0 if the call is taken, else the refusal's
 unfoldable pub codeNumber : Code → ℕ
 codeNumber Taken = 0
 codeNumber (Refused refusal) = refusalNumber refusal
 
-unfoldable pub refusalIn : Code → Option Refusal
-refusalIn Taken = none
-refusalIn (Refused refusal) = some refusal
+-- the refusal that a number says, if it does
+unfoldable pub refusalIn : (code : ℕ) → Option ℕ
+refusalIn zero = none
+refusalIn (suc n) = some (suc n)
 
--- all that a call says and leaves
-abbrev pub outcomeWith : Code → (taken count : ℕ) (after : Memory) (buffer : List ℕ) → CallOutcome
-outcomeWith code taken count after buffer = record {
-  answer = record { refusal = refusalIn code; taken = taken; given = record { count = count; buffer = buffer } };
-  memory = after;
-}
+-- all that a call says, in numbers, and leaves
+pub record Ran : Type 0 where
+  pub code : ℕ  -- 0 if it is taken, else the number of C1 to C6
+  pub taken : ℕ
+  pub written : ℕ
+  pub memory : Memory
+  pub response : List ℕ  -- the buffer as it is left
 
--- all that the call says and leaves is the definition's outcome
-abbrev pub CallContract : (list : List ℕ) (before : Memory) → Call → CallAnswer → (after : Memory) (buffer : List ℕ) → Type 0
-CallContract list before call says after buffer = outcomeWith (says .code) (says .taken) (says .written) after buffer ≡ callOutcome list before call
+abbrev pub ranWith : (code taken written : ℕ) → Memory → (response : List ℕ) → Ran
+ranWith code taken written memory response = record { code = code; taken = taken; written = written; memory = memory; response = response }
+
+abbrev pub answerIn : Ran → Answer
+answerIn r = record { refusal = refusalIn (r .code); taken = r .taken; given = record { count = r .written; buffer = r .response } }
+
+abbrev pub outcomeIn : Ran → CallOutcome
+outcomeIn r = record { answer = answerIn r; memory = r .memory }
+
+-- it is the definition's outcome
+abbrev pub CallContract : (list : List ℕ) (before : Memory) → Call → Ran → Type 0
+CallContract list before call r = outcomeIn r ≡ callOutcome list before call

@@ -12,8 +12,7 @@ use counters::counting::count;
 use counters::counting::with_increments;
 ghost use mathlib.Core.Path.{_≡_};
 ghost use Rattle.counters.specs.code.Counted.{counted, Fits};
-ghost use Rattle.service.specs.Call.{callOutcome};
-ghost use Rattle.service.specs.Contract.{lentMemory, callWith, outcomeWith, CallContract};
+ghost use Rattle.service.specs.Contract.{lentMemory, callWith, codeNumber, ranWith, CallContract};
 ghost use Rattle.service.specs.code.Called.{outcomeOf, answerOf, refusedWith};
 
 // A refused call takes nothing, writes nothing and alters nothing.
@@ -42,7 +41,7 @@ fn handle(
     counters: Counters,
     response: &mut [u8],
 ) -> Handled
-    ensures { λ r. ⌜ CallContract (now (list .entry)) (lentMemory (now (connection .entry)) (now (registry .entry)) counters) (callWith (now (chunk .entry)) (now (response .entry))) (answerOf r) (lentMemory (now (connection .exit)) (now (registry .exit)) (counted counters (r .added))) (now (response .exit)) × Fits counters (r .added) ⌝ }
+    ensures { λ r. ⌜ CallContract (now (list .entry)) (lentMemory (now (connection .entry)) (now (registry .entry)) counters) (callWith (now (chunk .entry)) (now (response .entry))) (ranWith (codeNumber (r .code)) (r .added .taken) (r .written) (lentMemory (now (connection .exit)) (now (registry .exit)) (counted counters (r .added))) (now (response .exit))) × Fits counters (r .added) ⌝ }
 {
     let code = judge_call(chunk, connection, registry, list, counters, response);
     let Code::Taken = code else {
@@ -92,7 +91,7 @@ pub fn call_by_value(
     counters: Counters,
     response: &mut [u8],
 ) -> Outcome
-    ensures { λ r. ⌜ outcomeWith (r .code) (r .taken) (r .written) (lentMemory (now (connection .exit)) (now (registry .exit)) (r .counters)) (now (response .exit)) ≡ callOutcome (now (list .entry)) (lentMemory (now (connection .entry)) (now (registry .entry)) counters) (callWith (now (chunk .entry)) (now (response .entry))) ⌝ }
+    ensures { λ r. ⌜ CallContract (now (list .entry)) (lentMemory (now (connection .entry)) (now (registry .entry)) counters) (callWith (now (chunk .entry)) (now (response .entry))) (ranWith (codeNumber (r .code)) (r .taken) (r .written) (lentMemory (now (connection .exit)) (now (registry .exit)) (r .counters)) (now (response .exit))) ⌝ }
 {
     let h = handle(chunk, connection, registry, list, counters, response);
     let after = with_increments(counters, added_of(h));
@@ -115,7 +114,7 @@ pub fn call(
     counters: &mut Counters,
     response: &mut [u8],
 ) -> CallAnswer
-    ensures { λ r. ⌜ CallContract (now (list .entry)) (lentMemory (now (connection .entry)) (now (registry .entry)) (now (counters .entry))) (callWith (now (chunk .entry)) (now (response .entry))) r (lentMemory (now (connection .exit)) (now (registry .exit)) (now (counters .exit))) (now (response .exit)) ⌝ }
+    ensures { λ r. ⌜ CallContract (now (list .entry)) (lentMemory (now (connection .entry)) (now (registry .entry)) (now (counters .entry))) (callWith (now (chunk .entry)) (now (response .entry))) (ranWith (codeNumber (r .code)) (r .taken) (r .written) (lentMemory (now (connection .exit)) (now (registry .exit)) (now (counters .exit))) (now (response .exit))) ⌝ }
 {
     let h = handle(chunk, connection, registry, list, *counters, response);
     count(counters, added_of(h));

@@ -38,7 +38,8 @@ use denote.Triple.Table.{entered, cited}
 use denote.Triple.Walked.{says, Stays, stay-dropped, gave-ref, gave-slice, walkOf, AllGo, goes-dropped, goes-gave-ref, goes-gave-slice, Walks, ends-at, walked, walk-meets}
 use denote.Exit.{yes}
 use Rattle.service.specs.Call.{Memory as CallMemory, Call as LentCall}
-use Rattle.service.specs.Contract.{lentMemory, callWith, CallContract}
+use Rattle.service.specs.Contract.{lentMemory, callWith, CallContract, ranWith}
+use Rattle.service.specs.code.Called.{ranBy}
 use Rattle.counters.specs.declared.Counters.{Counters}
 use Rattle.service.specs.declared.CallAnswer.{CallAnswer}
 use Rattle.counters.proofs.Counters as T
@@ -48,7 +49,7 @@ use Rattle.service.proofs.call.call as g
 use Rattle.service.proofs.call.call.Symbol as g-def
 use Rattle.service.proofs.call.call.Symbol.{name as #call}
 use Rattle.service.proofs.call.call.Met as g-thm
-use Rattle.abi.specs.Numbers.{numbered, Called}
+use Rattle.abi.specs.Numbers.{numbered}
 use Rattle.abi.specs.declared.Answer.{Answer}
 use Rattle.abi.proofs.Answer as R
 use Rattle.abi.proofs.Answer.Laws as R′
@@ -68,9 +69,9 @@ abbrev stayed : Stays (f.ended .signature .params) (f.ended .kept)
 stayed = (stay-dropped (shrSliceOf (0 ∷ []) tt (plain (λ _. u8))) yes, (gave-slice (1 ∷ []) tt (plain (λ _. u8)), (gave-slice (2 ∷ []) tt (plain (λ _. u8)), (stay-dropped (shrSliceOf (3 ∷ []) tt (plain (λ _. u8))) yes, (gave-ref (4 ∷ []) tt (plain (λ _. T.the-row)), (gave-slice (5 ∷ []) tt (plain (λ _. u8)), tt))))))
 
 -- what is ensured, from what `call` and `number` ensure
-said : (s : Answer) (a : CallAnswer) (t : Counters) (c d e l : List ℕ) (m : CallMemory) (k : LentCall) → CallContract l m k a (lentMemory c d t) e
-    → s ≡ numbered a → Called l m k s (lentMemory c d t) e
-said s a t c d e l m k p q = record { says = a; numbers-is = q; contract = p }
+said : (s : Answer) (a : CallAnswer) (t : Counters) (c d e l : List ℕ) (m : CallMemory) (k : LentCall) → CallContract l m k (ranBy a (lentMemory c d t) e)
+    → s ≡ numbered a → CallContract l m k (ranWith (s .code) (s .taken) (s .written) (lentMemory c d t) e)
+said s a t c d e l m k p q = rw q p
 
 module _ {M : Type 1} (𝓤 : URA M) (H : Heap 𝓤) (A : Atoms 𝓤) (at-mem : Memory → SProp 𝓤) (run : Routine → Fun 𝓤) where
   -- the contracts that the proof cites
@@ -138,7 +139,7 @@ module _ {M : Type 1} (𝓤 : URA M) (H : Heap 𝓤) (A : Atoms 𝓤) (W : Given
 
   -- what `call` ensures, at the last values
   abbrev Ensured : CallAnswer → List ℕ → List ℕ → Counters → List ℕ → Type 0
-  Ensured a c d t e = CallContract (list .now) (lentMemory (connection .now) (registry .now) h) (callWith (chunk .now) (response .now)) a (lentMemory c d t) e
+  Ensured a c d t e = CallContract (list .now) (lentMemory (connection .now) (registry .now) h) (callWith (chunk .now) (response .now)) (ranBy a (lentMemory c d t) e)
 
   abbrev at-exit : Answer → List ℕ → List ℕ → Counters → List ℕ → Val → List (Item 𝓤)
   at-exit s c d t e z = ‵ (R.the-row .own s (z ∷ [])) ∷ tokens ∷ ‵ (finally u8 (response .name) e) ∷ ‵ (fres γ (T.the-row .coded .code t))

@@ -1,7 +1,11 @@
 -- What the functions below the call say of it, in the reading copy's terms.
 use mathlib.Core.Option.{Option, none, some}
+use Prim.Native.Nat.{ℕ}
+use mathlib.Core.List.{List}
 use Rattle.counters.specs.declared.Counters.{Counters}
 use Rattle.counters.specs.declared.Event.the-variants.{NoRequest}
+use Rattle.service.specs.Call.{Memory}
+use Rattle.service.specs.Contract.{codeNumber, Ran, ranWith}
 use Rattle.service.specs.declared.Refusal.{Refusal}
 use Rattle.service.specs.declared.Code.{Code}
 use Rattle.service.specs.declared.Handled.{Handled}
@@ -16,6 +20,10 @@ codeFor (some refusal) = Refused refusal
 -- what a call that is handled says
 abbrev pub answerOf : Handled → CallAnswer
 answerOf h = record { code = h .code; taken = h .added .taken; written = h .written }
+
+-- what was said and left, as the contract has it
+abbrev pub ranBy : CallAnswer → Memory → (response : List ℕ) → Ran
+ranBy a memory response = ranWith (codeNumber (a .code)) (a .taken) (a .written) memory response
 
 -- a call that is refused takes, writes and counts nothing
 abbrev pub refusedWith : Code → Handled

@@ -54,7 +54,7 @@ use Rattle.counters.proofs.counting.count.Symbol.{name as #count}
 use Rattle.counters.proofs.counting.count.Met as count-thm
 use Rattle.service.specs.Call.{Memory as CallMemory, Call}
 use Rattle.service.specs.Contract.{lentMemory, callWith, CallContract}
-use Rattle.service.specs.code.Called.{answerOf}
+use Rattle.service.specs.code.Called.{answerOf, ranBy}
 use Rattle.service.specs.declared.Handled.{Handled}
 use Rattle.service.specs.declared.CallAnswer.{CallAnswer}
 use Rattle.service.proofs.Handled as D
@@ -85,8 +85,8 @@ abbrev stayed : Stays (f.ended .signature .params) (f.ended .kept)
 stayed = (stay-dropped (shrSliceOf (0 ∷ []) tt (plain (λ _. u8))) yes, (gave-slice (1 ∷ []) tt (plain (λ _. u8)), (gave-slice (2 ∷ []) tt (plain (λ _. u8)), (stay-dropped (shrSliceOf (3 ∷ []) tt (plain (λ _. u8))) yes, (gave-ref (4 ∷ []) tt (plain (λ _. T.the-row)), (gave-slice (5 ∷ []) tt (plain (λ _. u8)), tt))))))
 
 -- what is ensured, from what `handle`, `added_of`, `count` and `answer_of` ensure
-said : (s a : CallAnswer) (t u : Counters) (c d e l : List ℕ) (m : CallMemory) (k : Call) → CallContract l m k a (lentMemory c d u) e → t ≡ u → s ≡ a
-    → CallContract l m k s (lentMemory c d t) e
+said : (s a : CallAnswer) (t u : Counters) (c d e l : List ℕ) (m : CallMemory) (k : Call) → CallContract l m k (ranBy a (lentMemory c d u) e) → t ≡ u → s ≡ a
+    → CallContract l m k (ranBy s (lentMemory c d t) e)
 said s a t u c d e l m k p q v = rw (q, v) p
 
 module _ {M : Type 1} (𝓤 : URA M) (H : Heap 𝓤) (A : Atoms 𝓤) (at-mem : Memory → SProp 𝓤) (run : Routine → Fun 𝓤) where
@@ -205,8 +205,8 @@ module _ {M : Type 1} (𝓤 : URA M) (H : Heap 𝓤) (A : Atoms 𝓤) (W : Given
 
   -- what `handle` ensures, at the last lists
   abbrev Ensured : Handled → List ℕ → List ℕ → List ℕ → Type 0
-  Ensured h c d e = CallContract (list .now) (lentMemory (connection .now) (registry .now) cs) (callWith (chunk .now) (response .now)) (answerOf h)
-      (lentMemory c d (counted cs (h .added))) e × Fits cs (h .added)
+  Ensured h c d e = CallContract (list .now) (lentMemory (connection .now) (registry .now) cs) (callWith (chunk .now) (response .now))
+      (ranBy (answerOf h) (lentMemory c d (counted cs (h .added))) e) × Fits cs (h .added)
 
   abbrev at-exit : CallAnswer → Counters → List ℕ → List ℕ → List ℕ → Val → List (Item 𝓤)
   at-exit s t c d e z = ‵ (N.the-row .own s (z ∷ [])) ∷ token ∷ ‵ (fres γ (T.the-row .coded .code t)) ∷ tokens ∷ ‵ (finally u8 (response .name) e)
@@ -219,7 +219,7 @@ module _ {M : Type 1} (𝓤 : URA M) (H : Heap 𝓤) (A : Atoms 𝓤) (W : Given
       qed W (at-exit s t c d e z) ∵
       suffices ! _ (ends-at 𝓤 H A f.ended stayed (f.clauses 𝓤 H A at-mem run) W bound z s (tt, (c, (d, (tt, (t, (e, tt))))))
       (tt, (lc, (ld, (tt, (tt, (le, tt))))))) $
-      says ! (said s _ t _ c d e _ _ _ (p .0) q u) $
+      says ! (said s (answerOf h) t (counted cs (h .added)) c d e _ _ _ (p .0) q u) $
       -- the six tokens
       move ! (3 ∷ []) $ split ! $ move ! (1 ∷ []) $ split ! $ move ! (1 ∷ []) $ split ! $ move ! (1 ∷ []) $ split ! $ move ! (6 ∷ []) $ split ! $
       move ! (0 ∷ 3 ∷ []) $ join ! $ move ! (2 ∷ 0 ∷ []) $ join ! $ move ! (2 ∷ 0 ∷ []) $ join ! $ move ! (2 ∷ 0 ∷ []) $ join ! $

@@ -4,7 +4,7 @@ use borrow.Author.Needs.{needs}
 use Rattle.counters.specs.code.Counted.{counted, Fits}
 use Rattle.counters.specs.declared.Counters.{Counters}
 use Rattle.counters.specs.declared.Increments.{Increments}
-use Rattle.service.specs.Contract.{lentMemory, outcomeWith}
+use Rattle.service.specs.Contract.{lentMemory, codeNumber, ranWith, outcomeIn}
 use Rattle.service.specs.code.Called.{outcomeOf, answerOf}
 use Rattle.service.specs.declared.Outcome.{Outcome}
 use Rattle.service.proofs.call.call_by_value.Statement.{statement}
@@ -38,7 +38,7 @@ returns : tie.Need-returns
 returns c =
     let handle = c .before .before .before .before .before .before .before .before .before .handle in
     let counters = c .before .before .before .before .before .before .before .before .before .before .before .before .before .before .before .before .before .before .args .counters in
-    ap (λ (x : Outcome). outcomeWith (x .code) (x .taken) (x .written) (lentMemory (handle .last .1 .0) (handle .last .1 .1 .0) (x .counters)) (handle .last .1 .1 .1 .1 .1 .0))
+    ap (λ (x : Outcome). outcomeIn (ranWith (codeNumber (x .code)) (x .taken) (x .written) (lentMemory (handle .last .1 .0) (handle .last .1 .1 .0) (x .counters)) (handle .last .1 .1 .1 .1 .1 .0)))
     (c .outcome-of .ensures
     ∙ ap (λ (x : Counters). outcomeOf (answerOf (handle .result)) x) (c .before .with-increments .ensures ∙ ap (counted counters) (c .before .before .added-of .ensures)))
     ∙ handle .ensures .0
