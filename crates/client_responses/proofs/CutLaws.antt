@@ -1,6 +1,5 @@
--- THE CUT THEOREM of the reader of a response: how its bytes are cut does not matter; and no call and no beginning leaves an
--- ill-formed state.
-use mathlib.Core.Path.{_≡_, refl, sym, ap, ap₂, subst, _∙_}
+-- The reader of a response is one that the cut theorem asks for; and no call and no beginning leaves an ill-formed state.
+use mathlib.Core.Path.{_≡_, refl, ap, subst, _∙_}
 use Prim.Native.Nat.{ℕ, _≤_}
 use mathlib.Core.Bool.{true, false, true≢false}
 use mathlib.Core.Option.{Option, none, some}
@@ -11,23 +10,21 @@ use lib.Dec.{eqb}
 use Rattle.wire.specs.Choice.{isSome}
 use Rattle.reading.specs.Reader.{Reading}
 use Rattle.reading.specs.Call.{callRule}
-use Rattle.reading.specs.Calls.{callOn}
+use Rattle.reading.specs.Claims.{Sound}
 use Rattle.reading.proofs.ReaderLaws.{always, decide}
 use Rattle.reading.proofs.CallLaws.{call-facts}
-use Rattle.reading.proofs.DeliveryLaws.{enough, deliveries, delivery, Delivered}
-use Rattle.reading.proofs.CutLaws.{Sound, Cut, cut-theorem}
 use Rattle.client_responses.specs.Reading.{Asked, Reply, found, responseReader}
-use Rattle.client_responses.specs.State.{responseMost, stateSize, stateBytes, askedIn, bytesIn, layout, wellFormedState, beginState, saidOf, ReadOutcome, refusal, readOutcome}
+use Rattle.client_responses.specs.State.{responseMost, stateSize, stateBytes, askedIn, bytesIn, layout, wellFormedState, beginState, ReadOutcome, refusal, readOutcome}
 use Rattle.client_responses.specs.declared.Begun.the-variants.{Fresh}
-use Rattle.client_responses.proofs.StateLaws.{isListed, asked-back, held-back, well-there, well}
+use Rattle.client_responses.proofs.StateLaws.{isListed, held-back, well-there, well}
 use Rattle.client_responses.proofs.FoundLaws.{wanted}
-use Rattle.client_responses.proofs.ReadLaws.{outcome, outcome-refused}
+use Rattle.client_responses.proofs.ReadLaws.{outcome}
 
 -- what is kept is never longer than the longest response
 abbrev pub Fits : (kept : List ℕ) → Type 0
 Fits kept = length kept ≤ responseMost
 
-none-of : (o : Option Reply) → isSome o ≡ false → o ≡ none
+pub none-of : (o : Option Reply) → isSome o ≡ false → o ≡ none
 unfolding isSome
 none-of none e = refl
 none-of (some v) e = absurd (true≢false e)
@@ -58,32 +55,6 @@ module _ (asked : Asked) where
       accepts = λ s call f _. rw (well-there asked s f listed);
     }
 
-    pub response-cut : Cut (responseReader asked) [] (layout asked) refusal (λ _. true)
-    response-cut = cut-theorem sound
-
-    -- a response handed over in any chunks, with a call for each byte and each chunk, is read as if uncut
-    pub response-whole : (chunks : List (List ℕ))
-        → Delivered (responseReader asked) [] (layout asked) chunks (deliveries (responseReader asked) [] (layout asked) refusal (enough chunks) (λ _. tt) chunks)
-        (delivery (responseReader asked) [] (layout asked) refusal (enough chunks) (λ _. tt) chunks)
-    response-whole chunks = response-cut .whole (enough chunks) (λ _. tt) chunks (omega arith) (response-cut .welcome (enough chunks) (λ _. tt) chunks (λ _ _. refl))
-
-    -- these are the calls that the code makes: it takes what was asked from the state
-    pub outcome-is : (s chunk : List ℕ) → Fits s
-        → (let o = callOn (responseReader asked) (layout asked) refusal (stateBytes asked s) (record { chunk = chunk; lent = tt }) in
-        readOutcome (stateBytes asked s) chunk ≡ record { said = saidOf (found asked (bytesIn (o .memory))); taken = o .answer .taken; memory = o .memory })
-    unfolding callOn refusal layout
-    outcome-is s chunk f =
-        let m : List ℕ = stateBytes asked s in
-        let w = well-there asked s f listed in
-        rw (w, callOn, held-back asked s)
-        (outcome m chunk w _ _ refl refl
-        ∙ ap₂ (λ (a : Asked) (h : List ℕ).
-        let e = callRule (responseReader a) h chunk in
-        record { said = saidOf (found a (e .kept)); taken = e .taken; memory = stateBytes a (e .kept) }) (asked-back asked s) (held-back asked s)
-        ∙ ap (λ (x : List ℕ).
-        let e = callRule (responseReader asked) s chunk in
-        record { said = saidOf (found asked x); taken = e .taken; memory = stateBytes asked (e .kept) }) (sym (held-back asked (callRule (responseReader asked) s chunk .kept))))
-
 -- ---- NO CALL LEAVES an ill-formed state: from a well-formed one
 pub call-leaves : (memory chunk : List ℕ) → wellFormedState memory ≡ true → wellFormedState (readOutcome memory chunk .memory) ≡ true
 call-leaves memory chunk w =
@@ -93,16 +64,21 @@ call-leaves memory chunk w =
     ap (λ (o : ReadOutcome). wellFormedState (o .memory)) (outcome memory chunk w _ _ refl refl)
     ∙ well-there (askedIn memory) _ (call-fits (askedIn memory) (bytesIn memory) chunk (omega arith)) (v .listed)
 
--- and of an ill-formed one nothing changes
-pub call-refuses : (memory chunk : List ℕ) → wellFormedState memory ≡ false → readOutcome memory chunk .memory ≡ memory
-call-refuses memory chunk w = ap (λ (o : ReadOutcome). o .memory) (outcome-refused memory chunk w)
-
 -- ---- and no beginning
-pub begin-leaves : (memory : List ℕ) (asked : Asked) → beginState memory asked .answer ≡ Fresh → wellFormedState (beginState memory asked .memory) ≡ true
+
+-- what is begun is for a listed opcode, and holds nothing
+pub record BeginFacts (memory : List ℕ) (asked : Asked) : Type 0 where
+  pub listed : isListed (asked .opcode) ≡ true
+  pub empty : beginState memory asked .memory ≡ stateBytes asked []
+
+pub begun : (memory : List ℕ) (asked : Asked) → beginState memory asked .answer ≡ Fresh → BeginFacts memory asked
 unfolding beginState
-begin-leaves memory asked e =
+begun memory asked e =
     decide (eqb (length memory) stateSize)
     (λ s. decide (isListed (asked .opcode))
-    (λ l. rw (s, l, beginState) (well-there asked [] (omega arith) l))
+    (λ l. record { listed = l; empty = rw (s, l, beginState) })
     (λ l. absurd (let q = rw (s, l, beginState) at e in let z : _≡_ {A = ℕ} 0 1 = cc in omega arith)))
     (λ s. absurd (let q = rw (s, beginState) at e in let z : _≡_ {A = ℕ} 0 1 = cc in omega arith))
+
+pub begin-leaves : (memory : List ℕ) (asked : Asked) → beginState memory asked .answer ≡ Fresh → wellFormedState (beginState memory asked .memory) ≡ true
+begin-leaves memory asked e = let b = begun memory asked e in ap wellFormedState (b .empty) ∙ well-there asked [] (omega arith) (b .listed)

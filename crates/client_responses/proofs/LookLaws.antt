@@ -12,9 +12,9 @@ use Rattle.wire.specs.Choice.{firstOf}
 use Rattle.wire.specs.Numbers.{field}
 use Rattle.wire.specs.Response.{responseLeast}
 use Rattle.wire.proofs.ListLaws.{length-part, part-of-part}
-use Rattle.messages.specs.Protobuf.{packedOf, protobuf}
+use Rattle.messages.specs.Protobuf.{protobuf}
 use Rattle.messages.specs.Operations.{Output, nothing, providers, opcodes, exported, outputOf}
-use Rattle.messages.specs.Placed.{spanIn, entriesOf, listIn, outputIn, readIn, SpanWithin, OutputWithin}
+use Rattle.messages.specs.Placed.{spanIn, firstEntries, listIn, outputIn, readIn, SpanWithin, OutputWithin}
 use Rattle.messages.specs.declared.read.Span.{Span}
 use Rattle.messages.specs.declared.read.Output.{Output as OutputPlaces}
 use Rattle.messages.specs.declared.read.Output.the-variants.{Nothing, Version, Providers, Opcodes, Data}
@@ -35,7 +35,7 @@ module _ (n k : ℕ) (m : List ℕ) where
   span-moved span w = part-of-part (span .len) (span .start) n (drop k m) w ∙ ap (take (span .len)) (drop-drop (span .start) k m)
 
   list-moved : (span : Span) → SpanWithin n span → listIn (take n (drop k m)) span ≡ listIn m (spanMoved k span)
-  list-moved span w = ap (λ (l : List ℕ). entriesOf (packedOf l)) (span-moved span w)
+  list-moved span w = ap firstEntries (span-moved span w)
 
   -- an output in a part, as one in the whole
   output-moved : (o : OutputPlaces) → OutputWithin n o → outputIn (take n (drop k m)) o ≡ outputIn m (outputMoved k o)

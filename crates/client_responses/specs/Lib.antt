@@ -1,4 +1,5 @@
 pub mod Reading
 pub mod State
 pub mod Handed
+pub mod Claims
 pub mod code

@@ -12,8 +12,8 @@ use wire::number::read_u16;
 ghost use mathlib.Core.Path.{_≡_};
 ghost use Prim.Native.Nat.{_≤_};
 ghost use lib.ListN.{length};
-ghost use Rattle.client_responses.specs.State.{askedIn, bytesIn, readOutcome};
-ghost use Rattle.client_responses.specs.Handed.{handed, SaidWithin};
+ghost use Rattle.client_responses.specs.State.{askedIn, bytesIn};
+ghost use Rattle.client_responses.specs.Handed.{ReadContract, SaidWithin};
 ghost use Rattle.client_responses.specs.code.Looked.{Holding, Run, Filled};
 
 // What a call says, and how many bytes of the chunk it took.
@@ -50,7 +50,7 @@ fn fill(memory: &mut [u8], chunk: &[u8], used: usize) -> usize
 // Takes bytes of the chunk behind those of a response's beginning, up to its end.
 fn take_on(memory: &mut [u8], chunk: &[u8]) -> ReadAnswer
     requires { ⌜ Holding (now memory) ⌝ }
-    ensures { λ r. ⌜ (handed (now (memory .exit)) r ≡ readOutcome (now (memory .entry)) (now (chunk .entry))) × SaidWithin (length (now (memory .exit))) (r .said) ⌝ }
+    ensures { λ r. ⌜ ReadContract (now (memory .entry)) (now (chunk .entry)) r (now (memory .exit)) × SaidWithin (length (now (memory .exit))) (r .said) ⌝ }
 {
     let mut taken: usize = 0;
     loop {
@@ -68,7 +68,7 @@ fn take_on(memory: &mut [u8], chunk: &[u8]) -> ReadAnswer
 
 // A CALL: all that it says and leaves is what the definition gives. A state that has ended takes nothing, and says the same again.
 pub fn read(memory: &mut [u8], chunk: &[u8]) -> ReadAnswer
-    ensures { λ r. ⌜ (handed (now (memory .exit)) r ≡ readOutcome (now (memory .entry)) (now (chunk .entry))) × SaidWithin (length (now (memory .exit))) (r .said) ⌝ }
+    ensures { λ r. ⌜ ReadContract (now (memory .entry)) (now (chunk .entry)) r (now (memory .exit)) × SaidWithin (length (now (memory .exit))) (r .said) ⌝ }
 {
     if !is_well_formed(memory) {
         return ReadAnswer {

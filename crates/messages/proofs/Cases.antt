@@ -15,6 +15,7 @@ use Rattle.messages.specs.Message.{bytes, uint32s, octets, numbers}
 use Rattle.messages.specs.Format.{listed, messageBytes, Reading, read, broken, readMessage}
 use Rattle.messages.specs.Protobuf.{packedOf, protobuf}
 use Rattle.messages.specs.Operations.{importKey, verifySignature, operationBody, version, providers, outputBytes}
+use Rattle.messages.specs.Placed.{firstEntries}
 
 -- key `a`, data AA BB, 2,048 bits, export allowed
 abbrev keyA : Key
@@ -28,8 +29,9 @@ pub cases :
     × (readMessage protobuf (uint32s ∷ []) (0x0A ∷ 0x01 ∷ 0x07 ∷ 0x0A ∷ 0x02 ∷ 0x00 ∷ 0x01 ∷ []) ≡ read (numbers (0 ∷ 1 ∷ []) ∷ []))
     × (readMessage protobuf (uint32s ∷ []) (0x0A ∷ 0x00 ∷ 0x0A ∷ 0x01 ∷ 0x80 ∷ 0x0A ∷ 0x02 ∷ 0x00 ∷ 0x01 ∷ []) ≡ broken 2)
     × (readMessage protobuf (uint32s ∷ []) (0x08 ∷ 0x01 ∷ []) ≡ read (numbers [] ∷ []))
-unfolding operationBody outputBytes messageBytes readMessage listed bind packedOf scanFrom scanAt varintOf numberAt fixedAt spanAt contentAt fieldAt varintWithin varint numberField bytesField packedField flatMap
-cases = (refl, refl, refl, refl, refl, refl, refl)
+    × (firstEntries (0x05 ∷ 0x80 ∷ []) ≡ 5 ∷ [])  -- so that this is no empty list's place
+unfolding operationBody outputBytes messageBytes readMessage listed bind packedOf firstEntries scanFrom scanAt varintOf numberAt fixedAt spanAt contentAt fieldAt varintWithin varint numberField bytesField packedField flatMap
+cases = (refl, refl, refl, refl, refl, refl, refl, refl)
 
 -- ---- fields that are skipped, in a body with bytes as its one field
 

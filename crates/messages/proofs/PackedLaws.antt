@@ -18,9 +18,9 @@ use Rattle.protobuf.specs.Varint.{varintAt}
 use Rattle.protobuf.specs.declared.varint.Varint.{Varint}
 use Rattle.protobuf.specs.declared.varint.Varint.the-variants.{Read, Unreadable}
 use Rattle.protobuf.proofs.FieldLaws.{Ahead, VarintAhead, varint-ahead}
-use Rattle.messages.specs.Message.{Value, number, flag, octets, numbers}
+use Rattle.messages.specs.Message.{Value, number, flag, octets, numbers, numbersOf}
 use Rattle.messages.specs.Protobuf.{packedTurn, packedOf}
-use Rattle.messages.specs.Placed.{entriesOf, entryTurn, firstEntries, readListOutcome}
+use Rattle.messages.specs.Placed.{entryTurn, firstEntries, readListOutcome}
 
 pub varint-next : (s : List ℕ) (at v next : ℕ) → varintAt s at ≡ Read v next → Ahead (length s) at next
 varint-next s at v next e = rw e at (varint-ahead 9 s at)
@@ -74,8 +74,12 @@ turn-list : (ns : List ℕ) (v : Varint) → TurnHas (λ _ _. Unit {0}) IsList (
 turn-list ns (Read v next) = tt
 turn-list ns Unreadable = tt
 
+abbrev entriesOf : Option Value → List ℕ
+entriesOf none = []
+entriesOf (some value) = numbersOf value
+
 -- what is read is a list
-pub packed-list : (s : List ℕ) → isSome (packedOf s) ≡ true → packedOf s ≡ some (numbers (entriesOf (packedOf s)))
+packed-list : (s : List ℕ) → isSome (packedOf s) ≡ true → packedOf s ≡ some (numbers (entriesOf (packedOf s)))
 unfolding packedOf isSome
 packed-list s h =
     go (packedOf s)
@@ -199,6 +203,9 @@ module _ (s : List ℕ) where
   unfolding packedOf scanAt
   as-scan = refl
 
-  pub all-entries : isSome (packedOf s) ≡ true → firstEntries s ≡ entriesOf (packedOf s)
+  are-first : isSome (packedOf s) ≡ true → firstEntries s ≡ entriesOf (packedOf s)
   unfolding firstEntries scanAt
-  all-entries h = first-from (length s - 0) 0 [] (entriesOf (packedOf s)) (as-scan ∙ packed-list s h)
+  are-first h = first-from (length s - 0) 0 [] (entriesOf (packedOf s)) (as-scan ∙ packed-list s h)
+
+  pub all-entries : isSome (packedOf s) ≡ true → packedOf s ≡ some (numbers (firstEntries s))
+  all-entries h = packed-list s h ∙ ap (λ (ns : List ℕ). some (numbers ns)) (sym (are-first h))

@@ -29,14 +29,14 @@ use Rattle.messages.specs.Message.{uint32, bytes, uint32s, Value, number
 use Rattle.messages.specs.Format.{Field, field, skipped, unreadable, fieldWith, listed, Reading, read, broken, SoFar, turnOf, turnAt, readMessage}
 use Rattle.messages.specs.Protobuf.{ofVarint, packedOf, isOfWire, ofGroup, fieldOf, protobuf}
 use Rattle.messages.specs.Operations.{inputFields, garbled, askingOf, askingBy, asked, Output, nothing, version, providers, opcodes, exported, whenRead, readBody, outputOf}
-use Rattle.messages.specs.Placed.{listIn, SpanWithin}
+use Rattle.messages.specs.Placed.{firstEntries, listIn, SpanWithin}
 use Rattle.messages.specs.code.Places.{schemaPlaced, NoLists, valuesOf, five, seen}
 use Rattle.messages.specs.code.ListBody.{listSchema, fieldIn, skippedGroup, skippedField, FieldWithin}
 use Rattle.messages.specs.declared.read.Span.{Span as Place}
 use Rattle.messages.proofs.RoundTrip.{turn-ahead}
 use Rattle.messages.proofs.ProtobufLaws.{protobuf-lawful}
 use Rattle.messages.proofs.PlacesLaws.{placed}
-use Rattle.messages.proofs.PackedLaws.{packed-list}
+use Rattle.messages.proofs.PackedLaws.{all-entries}
 
 -- ---- a field of a list's body
 
@@ -96,7 +96,7 @@ module _ (body : List ℕ) where
 
     pub a-list : n ≡ 1 → isSome (packedOf (take len (drop start body))) ≡ true
         → fieldFor (Span n start len next) ≡ field 1 (numbers (listIn body (record { start = start; len = len }))) next
-    a-list e h = one-with e ∙ ap (fieldWith 1 next) (packed-list (take len (drop start body)) h)
+    a-list e h = one-with e ∙ ap (fieldWith 1 next) (all-entries (take len (drop start body)) h)
 
   pub span-ahead : (at n start len next : ℕ) → proto.fieldAt body at ≡ Span n start len next → Ahead (length body) at next × (start + len ≤ length body)
   span-ahead at n start len next e = rw e at (field-ahead body at)
@@ -120,7 +120,7 @@ module _ (body : List ℕ) where
     pub same : scan at (last, numbers (listIn body span) ∷ []) ≡ readMessage protobuf listSchema body
 
   pub reads-none : Reads (record { start = 0; len = 0 }) 0
-  unfolding readMessage packedOf scanAt scanFrom
+  unfolding readMessage firstEntries scanAt scanFrom
   reads-none = record { last = 0; within = omega arith; same = refl }
 
   module _ {span : Place} {at : ℕ} (r : Reads span at) where

@@ -8,8 +8,6 @@ use Rattle.wire.specs.Lists.{over}
 use Rattle.protobuf.specs.Varint.{varintAt}
 use Rattle.protobuf.specs.declared.varint.Varint.{Varint}
 use Rattle.protobuf.specs.declared.varint.Varint.the-variants.{Read as readVarint, Unreadable as noVarint}
-use Rattle.messages.specs.Message.{Value, numbersOf}
-use Rattle.messages.specs.Protobuf.{packedOf}
 use Rattle.messages.specs.Operations.{ping, listProviders, listOpcodes, importKey, destroyKey, exportPublicKey, verifySignature, Asking, asks, garbled, Output, nothing, version, providers, opcodes, exported}
 use Rattle.keys.specs.Key.{Key}
 use Rattle.messages.specs.declared.read.Span.{Span}
@@ -20,6 +18,26 @@ use Rattle.messages.specs.declared.read.Output.{Output as OutputPlaces}
 use Rattle.messages.specs.declared.read.Output.the-variants.{Nothing, Version, Providers, Opcodes, Data}
 use Rattle.messages.specs.declared.read.OutputRead.{OutputRead}
 use Rattle.messages.specs.declared.read.OutputRead.the-variants.{Read, Unreadable}
+
+-- ---- a packed list taken apart, as far as it can be read
+
+abbrev pub entryTurn : List ℕ → Varint → Turn (List ℕ) (List ℕ)
+entryTurn ns (readVarint v next) = on (ns ++ (v % 2 ^ 32 ∷ [])) next
+entryTurn ns noVarint = out ns
+
+-- its entries up to the first that is no varint
+unfoldable pub firstEntries : (packed : List ℕ) → List ℕ
+firstEntries packed = scanAt (λ at ns. entryTurn ns (varintAt packed at)) (λ ns. ns) (length packed) 0 []
+
+pub record ListOutcome : Type 0 where
+  pub count : ℕ
+  pub entries : List ℕ
+
+-- as many of them as there is room for, over the front of the room
+unfoldable pub readListOutcome : (packed room : List ℕ) → ListOutcome
+readListOutcome packed room =
+    let written = take (length room) (firstEntries packed) in
+    record { count = length written; entries = over written room }
 
 -- ---- places
 
@@ -45,13 +63,9 @@ askingIn bytes (ExportPublicKey name) = asks (exportPublicKey (spanIn bytes name
 askingIn bytes (VerifySignature name hash signature) = asks (verifySignature (spanIn bytes name) (spanIn bytes hash) (spanIn bytes signature))
 askingIn bytes (notAsked at) = garbled at
 
-abbrev pub entriesOf : Option Value → List ℕ
-entriesOf none = []
-entriesOf (some value) = numbersOf value
-
--- the entries of the packed list that lies there
+-- the entries of the packed list that lies there, as `read_list` takes it apart
 abbrev pub listIn : (bytes : List ℕ) → Span → List ℕ
-listIn bytes span = entriesOf (packedOf (spanIn bytes span))
+listIn bytes span = firstEntries (spanIn bytes span)
 
 abbrev pub outputIn : (bytes : List ℕ) → OutputPlaces → Output
 outputIn bytes Nothing = nothing
@@ -89,23 +103,3 @@ OutputWithin most (Data span) = SpanWithin most span
 abbrev pub ReadWithin : (most : ℕ) → OutputRead → Type 0
 ReadWithin most (Read output) = OutputWithin most output
 ReadWithin most Unreadable = Unit {0}
-
--- ---- a packed list taken apart, as far as it can be read
-
-abbrev pub entryTurn : List ℕ → Varint → Turn (List ℕ) (List ℕ)
-entryTurn ns (readVarint v next) = on (ns ++ (v % 2 ^ 32 ∷ [])) next
-entryTurn ns noVarint = out ns
-
--- its entries up to the first that is no varint
-unfoldable pub firstEntries : (packed : List ℕ) → List ℕ
-firstEntries packed = scanAt (λ at ns. entryTurn ns (varintAt packed at)) (λ ns. ns) (length packed) 0 []
-
-pub record ListOutcome : Type 0 where
-  pub count : ℕ
-  pub entries : List ℕ
-
--- as many of them as there is room for, over the front of the room
-unfoldable pub readListOutcome : (packed room : List ℕ) → ListOutcome
-readListOutcome packed room =
-    let written = take (length room) (firstEntries packed) in
-    record { count = length written; entries = over written room }

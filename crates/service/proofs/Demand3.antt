@@ -12,7 +12,8 @@ use Rattle.wire.specs.Choice.{firstOf}
 use Rattle.wire.proofs.TestLaws.{either}
 use Rattle.reading.specs.Calls.{takenStream, handOver, answersBy}
 use Rattle.reading.specs.Buffer.{bytesOf, asOne}
-use Rattle.reading.proofs.CallsLaws.{said-each, Finds}
+use Rattle.reading.specs.Claims.{Finds}
+use Rattle.reading.proofs.CallsLaws.{said-each}
 use Rattle.reading.proofs.BufferLaws.{bytes-of, as-one, as-none}
 use Rattle.stream.specs.Frame.{oversized}
 use Rattle.stream.specs.Rules.{heldBytes, State, judge, rules}

@@ -9,7 +9,8 @@ use lib.ListN.{length, take}
 use Rattle.reading.specs.Reader.{Reading, read}
 use Rattle.reading.specs.Call.{callRule}
 use Rattle.reading.specs.Calls.{Call, took, Layout, CallsOutcome, callOn, callsOn, joinedOut, takenStream, answersBy}
-use Rattle.reading.proofs.CallsLaws.{Lawful as LoadsBack, saidBy, Finds, FollowsReader, follows-reader, call-took}
+use Rattle.reading.specs.Claims.{saidBy, Finds, FollowsReader}
+use Rattle.reading.proofs.CallsLaws.{Lawful as LoadsBack, follows-reader, call-took}
 use Rattle.stream.specs.Rules.{Judgement, heldBytes, State, Outcome, rules}
 use Rattle.stream.specs.Call.{wellFormed, reader, fresh, byRules}
 use Rattle.stream.specs.Parts.{joined, partsOf, responsesTo}

@@ -13,7 +13,8 @@ use Rattle.wire.specs.Lists.{all}
 use Rattle.wire.proofs.TestLaws.{and-left, and-right}
 use Rattle.reading.specs.Reader.{Reading, read}
 use Rattle.reading.specs.Calls.{Call, Layout, CallsOutcome, callsOn, leaving, handOver, takenStream}
-use Rattle.reading.proofs.DeliveryLaws.{noneRefused, enough, flatten-leaving, unrefused, delivered as delivered-reading}
+use Rattle.reading.specs.Claims.{noneRefused, enough}
+use Rattle.reading.proofs.DeliveryLaws.{flatten-leaving, unrefused, delivered as delivered-reading}
 use Rattle.stream.specs.Rules.{Judgement, State, rules}
 use Rattle.stream.specs.Call.{reader, fresh, byRules}
 use Rattle.stream.proofs.CallLaws.{rules-read}
