@@ -2,7 +2,7 @@
 -- judgement may be.
 use mathlib.Core.Path.{_≡_, refl, sym, ap, ap₂, _∙_, subst}
 use Prim.Native.Nat.{ℕ, _+_, _-_, _≤_, _<_}
-use mathlib.Core.Bool.{true, false}
+use mathlib.Core.Bool.{true, false, true≢false}
 use mathlib.Core.Option.{Option, none, some}
 use mathlib.Core.List.{List, [], _∷_, _++_, append-assoc}
 use native.Mathlib.Omega.{arith}
@@ -47,6 +47,10 @@ Stands (opened held) w = (held ≡ w) × (next w ≡ unfinished)
 Stands (skipping header toGo) w = next w ≡ skipped header toGo
 Stands closed w = Unit {0}
 
+-- a wrong magic or H closed it
+abbrev pub Closes : List ℕ → Connection → Type 0
+Closes bytes c = legalStart bytes ≡ false → c ≡ closed
+
 pub stands-fresh : Stands (opened []) []
 stands-fresh = (refl, next-short [] (omega arith))
 
@@ -75,7 +79,7 @@ module _ {Reg Count Out : Type 0} (J : Judgement Reg Count Out) where
   Came s bytes none s′ = Stands (s′ .connection) bytes × (s′ .registry ≡ s .registry) × (s′ .totals .counts ≡ s .totals .counts)
   Came s bytes (some response) s′ =
       Stands (s′ .connection) [] × (verdictOn J (s .registry) (s .totals .counts) bytes
-      ≡ record { response = response; registry = s′ .registry; counts = s′ .totals .counts }) × OneRequest bytes
+      ≡ record { response = response; registry = s′ .registry; counts = s′ .totals .counts }) × OneRequest bytes × Closes bytes (s′ .connection)
 
   abbrev Brings : State Reg Count → (w chunk : List ℕ) → Effect (State Reg Count) Out → Type 0
   Brings s w chunk e = Came s (w ++ take (e .taken) chunk) (e .event) (e .kept)
@@ -106,6 +110,7 @@ module _ {Reg Count Out : Type 0} (J : Judgement Reg Count Out) where
                 ∙ judge-large J (s .registry) (s .totals .counts) w (take toGo chunk) (k .skipped-is)
                 ∙ ap (J .onOversized (s .registry) (s .totals .counts)) (sym (k .header-is)),
             one-whole (w ++ take toGo chunk) legal (size ∙ sym long),
+            λ bad. absurd (true≢false (sym legal ∙ bad)),
           )
     ]
       where
@@ -124,7 +129,7 @@ module _ {Reg Count Out : Type 0} (J : Judgement Reg Count Out) where
           let long : length p ≡ 6 = length-append w (take k chunk) ∙ omega arith in
           let seam : p ++ drop k chunk ≡ w ++ chunk = append-assoc w (take k chunk) (drop k chunk) ∙ ap (λ (x : List ℕ). w ++ x) (take-append-drop k chunk) in
           let l : legalStart p ≡ false = sym (legalStart-append p (drop k chunk) (omega arith)) ∙ ap legalStart seam ∙ bad in
-          rw (call-bad J s w chunk e u n) (tt, on-bad (s .registry) (s .totals .counts) p l, one-bad p long l)
+          rw (call-bad J s w chunk e u n) (tt, on-bad (s .registry) (s .totals .counts) p l, one-bad p long l, λ _. refl)
 
       whole-brings : (size : ℕ) → next (w ++ chunk) ≡ whole size → Brings s w chunk (callRule (reader J) s chunk)
       whole-brings size n =
@@ -138,6 +143,7 @@ module _ {Reg Count Out : Type 0} (J : Judgement Reg Count Out) where
             ap (verdictOn J (s .registry) (s .totals .counts)) part
                 ∙ on-legal (s .registry) (s .totals .counts) (take size (w ++ chunk)) (there .legal),
             subst OneRequest (sym part) (one-whole (take size (w ++ chunk)) (there .legal) (sym (there .long))),
+            λ bad. absurd (true≢false (sym (there .legal) ∙ sym (ap legalStart part) ∙ bad)),
           )
 
       open-brings : Brings s w chunk (callRule (reader J) s chunk)

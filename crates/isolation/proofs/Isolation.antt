@@ -18,9 +18,9 @@ use Rattle.counters.specs.Counters.{totalsOf}
 use Rattle.counters.specs.declared.Counters.{Counters}
 use Rattle.service.specs.Call.{Memory, callOutcome, Call}
 use Rattle.isolation.specs.History.{freshWith, CallOn, History, historyOf, Exchange, exchanges, requests, responses, isBy, those}
-use Rattle.isolation.specs.Isolated.{EachLine, Alike, SameRequests, Isolated, openResponse, AllOpenAlone, AllOne}
+use Rattle.isolation.specs.Isolated.{EachLine, Alike, SameRequests, Isolated, openResponse, AllOpenAlone, AllOne, AllLast, Unread}
 use Rattle.isolation.proofs.CallLaws.{on-legal}
-use Rattle.isolation.proofs.Replay.{only-those, replay, agree}
+use Rattle.isolation.proofs.Replay.{only-those, unplaced, those-unplaced, replay, agree}
 use Rattle.isolation.proofs.SerialLaws.{countsIn, serial, idle, closed-unread as unread}
 use Rattle.isolation.proofs.Projections.{View, same-view, Good, view, projection, open-answer}
 
@@ -67,7 +67,7 @@ module _ (list name : List ℕ) (line : Line) (registry registry′ : List ℕ) 
       ≡ view list name line (from list registry′ counters′ calls′ .host .registry) (countsIn (from list registry′ counters′ calls′ .host .counters)) =
       sym (ap₂ (view list name line) (s .registry) (s .counts)) ∙ a .views ∙ ap₂ (view list name line) (s′ .registry) (s′ .counts) in
       record {
-        same-responses = sym (ap own-responses (s .answered)) ∙ a .answers ∙ ap own-responses (s′ .answered);
+        same-responses = sym (ap own-responses (s .answered) ∙ those-unplaced (isBy name) xs) ∙ a .answers ∙ ap own-responses (s′ .answered) ∙ those-unplaced (isBy name) xs′;
         same-slots = ap (λ (v : View). v .slots) views;
         same-uses = ap (λ (v : View). v .uses) views;
         same-served = ap (λ (v : View). v .served) views;
@@ -83,10 +83,14 @@ open-replayed list (q ∷ qs) r c = (
   open-replayed list qs (verdictOn (judgement list) r c q .registry) (verdictOn (judgement list) r c q .counts),
 )
 
+open-placed : (xs : List Exchange) → AllOpenAlone (unplaced xs) → AllOpenAlone xs
+open-placed [] a = tt
+open-placed (x ∷ xs) (a, rest) = (a, open-placed xs rest)
+
 open-by-itself : (list registry : List ℕ) (counters : Counters) (calls : List CallOn) → AllOpenAlone (answered list registry counters calls)
 open-by-itself list registry counters calls =
     let xs : List Exchange = answered list registry counters calls in
-    subst AllOpenAlone (serial list registry counters calls .answered) (open-replayed list (requests xs) registry (countsIn counters))
+    open-placed xs (subst AllOpenAlone (serial list registry counters calls .answered) (open-replayed list (requests xs) registry (countsIn counters)))
 
 -- ---- the claim, for any list of keys that we ship
 
@@ -103,14 +107,18 @@ pub record Isolation (list : List ℕ) : Type 0 where
   -- each response of it answers one request
   pub one-each : (registry : List ℕ) (counters : Counters) (calls : List CallOn)
       → AllOne (exchanges calls (from list registry counters calls .answers))
-  -- a call on a closed connection answers nothing, and leaves it closed
+  -- the exchange that closes a connection is the last on it
+  pub closing-last : (registry : List ℕ) (counters : Counters) (calls : List CallOn)
+      → AllLast (exchanges calls (from list registry counters calls .answers))
+  -- a call on a closed connection reads nothing
   pub closed-unread : (m : Memory) (call : Call) → connectionOf (m .connection) ≡ closed
-      → (callOutcome list m call .answer .given .count ≡ 0) × (connectionOf (callOutcome list m call .memory .connection) ≡ closed)
+      → Unread m (callOutcome list m call .answer .given .count) (callOutcome list m call .memory)
 
 pub isolation : (list : List ℕ) → Isolation list
 isolation list = record {
   isolated = unswayed list;
   open-alone = open-by-itself list;
   one-each = λ registry counters calls. serial list registry counters calls .one-each;
+  closing-last = λ registry counters calls. serial list registry counters calls .closing-last;
   closed-unread = unread list;
 }

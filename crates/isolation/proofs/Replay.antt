@@ -3,7 +3,7 @@ use mathlib.Core.Path.{_≡_, refl, sym, ap, ap₂, _∙_, subst}
 use Prim.Native.Nat.{ℕ}
 use mathlib.Core.Logic.{_⊎_, inl, inr}
 use mathlib.Core.Bool.{Bool, true, false}
-use mathlib.Core.List.{List, [], _∷_}
+use mathlib.Core.List.{List, [], _∷_, map}
 use Rattle.wire.specs.Choice.{if_then_else_}
 use Rattle.stream.specs.Rules.{Verdict, Judgement}
 use Rattle.stream.specs.Parts.{verdictOn}
@@ -24,13 +24,27 @@ only-those p (x ∷ xs) = go (p (x .request)) refl (only-those p xs)
     go true e ih = rw (e, those, only) (ap (λ (l : List (List ℕ)). x .request ∷ l) ih)
     go false e ih = rw (e, those, only) ih
 
+-- exchanges but for their connections
+abbrev pub unplaced : List Exchange → List Exchange
+unplaced xs = map (λ x. record { connection = 0; request = x .request; response = x .response }) xs
+
+pub those-unplaced : (p : List ℕ → Bool) (xs : List Exchange) → responses (those p (unplaced xs)) ≡ responses (those p xs)
+unfolding those
+those-unplaced p [] = refl
+those-unplaced p (x ∷ xs) = go (p (x .request)) refl (those-unplaced p xs)
+  where
+    go : (t : Bool) → p (x .request) ≡ t → responses (those p (unplaced xs)) ≡ responses (those p xs)
+        → responses (those p (unplaced (x ∷ xs))) ≡ responses (those p (x ∷ xs))
+    go true e ih = rw (e, those) (ap (λ (l : List (List ℕ)). x .response ∷ l) ih)
+    go false e ih = rw (e, those) ih
+
 module _ {Reg Count : Type 0} (J : Judgement Reg Count (List ℕ)) where
-  -- each request with its response, judged on what the one before it left
+  -- each request with its response, judged on what the one before it left, whatever its connection
   unfoldable pub replay : Reg → Count → (requests : List (List ℕ)) → List Exchange
   replay r c [] = []
   replay r c (q ∷ qs) =
       let v = verdictOn J r c q in
-      record { request = q; response = v .response } ∷ replay (v .registry) (v .counts) qs
+      record { connection = 0; request = q; response = v .response } ∷ replay (v .registry) (v .counts) qs
 
   -- what a view shows of registry and counts is moved by the requests that are own alone, and they are answered by the view alone
   pub record Projection {View : Type 0} (Good : Reg → Count → Type 0) (isOwn : List ℕ → Bool) (view : Reg → Count → View) : Type 0 where

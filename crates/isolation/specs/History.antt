@@ -60,8 +60,9 @@ historyOf list h (c ∷ calls) =
 
 -- ---- what it answered
 
--- a request, all of its bytes, and the response to it
+-- a request, all of its bytes, and the response to it, on one of the connections
 pub record Exchange : Type 0 where
+  pub connection : ℕ
   pub request : List ℕ
   pub response : List ℕ
 
@@ -73,7 +74,7 @@ exchangesFrom waiting (c ∷ calls) [] = []
 exchangesFrom waiting (c ∷ calls) (a ∷ answers) =
     let bytes = waiting (c .connection) ++ take (a .taken) (c .call .chunk) in
     if eqb (a .given .count) 0 then exchangesFrom (with waiting (c .connection) bytes) calls answers
-    else (record { request = bytes; response = bytesOf (a .given) } ∷ exchangesFrom (with waiting (c .connection) []) calls answers)
+    else (record { connection = c .connection; request = bytes; response = bytesOf (a .given) } ∷ exchangesFrom (with waiting (c .connection) []) calls answers)
 
 unfoldable pub exchanges : List CallOn → List Answer → List Exchange
 exchanges calls answers = exchangesFrom (λ k. []) calls answers

@@ -2,19 +2,23 @@
 -- sway another").
 use Prim.Native.Nat.{ℕ}
 use mathlib.Core.Path.{_≡_}
-use mathlib.Core.Bool.{true}
+use mathlib.Core.Bool.{true, false}
 use mathlib.Core.Option.{some}
 use mathlib.Core.List.{List, [], _∷_}
 use lib.ListN.{length, getD}
+use lib.Dec.{eqb}
 use Rattle.wire.specs.Request.{requestOf}
 use Rattle.stream.specs.Frame.{legalStart}
-use Rattle.stream.specs.Rules.{judge}
+use Rattle.stream.specs.Rules.{judge, closed}
 use Rattle.stream.specs.Parts.{partsOf}
+use Rattle.connection.specs.Connection.{connectionOf}
 use Rattle.registry.specs.Registry.{lineCount, namesIn, applicationNamed, slotsOf, usesOf}
 use Rattle.registry.specs.declared.Line.{Line}
 use Rattle.judgement.specs.Counts.{noCounts}
 use Rattle.judgement.specs.Judgement.{judgement}
+use Rattle.counters.specs.Counters.{totalsOf}
 use Rattle.counters.specs.declared.Counters.{Counters}
+use Rattle.service.specs.Call.{Memory}
 use Rattle.isolation.specs.History.{CallOn, History, Exchange, exchanges, requests, responses, own}
 
 -- how many requests were served for the application in this line
@@ -65,3 +69,24 @@ AllOpenAlone (x ∷ xs) = OpenAlone x × AllOpenAlone xs
 abbrev pub AllOne : List Exchange → Type 0
 AllOne [] = Unit {0}
 AllOne (x ∷ xs) = (partsOf (x .request) .answered ≡ x .request ∷ []) × AllOne xs
+
+-- ---- a closed connection
+
+-- no exchange is on it
+abbrev pub NoneOn : (connection : ℕ) → List Exchange → Type 0
+NoneOn k [] = Unit {0}
+NoneOn k (x ∷ xs) = (eqb (x .connection) k ≡ false) × NoneOn k xs
+
+-- a wrong magic or H closes the connection: no exchange on it comes after
+abbrev pub AllLast : List Exchange → Type 0
+AllLast [] = Unit {0}
+AllLast (x ∷ xs) = (legalStart (x .request) ≡ false → NoneOn (x .connection) xs) × AllLast xs
+
+-- what a call on it writes and leaves: no response, the same registry, the same counts of served and refused requests and of
+-- answered bytes, and the connection closed
+pub record Unread (before : Memory) (written : ℕ) (after : Memory) : Type 0 where
+  pub nothing-written : written ≡ 0
+  pub still-closed : connectionOf (after .connection) ≡ closed
+  pub same-registry : after .registry ≡ before .registry
+  pub same-counts : totalsOf (after .counters) .counts ≡ totalsOf (before .counters) .counts
+  pub same-answered : after .counters .answered ≡ before .counters .answered
