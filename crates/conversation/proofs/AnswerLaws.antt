@@ -1,59 +1,121 @@
--- THE ANSWER TO A REQUEST OF THE CLIENT, on any well-formed registry, is read by the client as the result that the rules give.
-use mathlib.Core.Path.{_≡_, ap, _∙_}
-use Prim.Native.Nat.{ℕ, _≤_}
-use mathlib.Core.Bool.{true}
+-- WHAT THE SERVICE WRITES TO ANY REQUEST THAT A CLIENT MAY HAVE SENT, THE CLIENT READS AS THE SAME RESPONSE, on any well-formed
+-- registry: status and output, and never a refusal; and so it does the answer with status 17.
+use mathlib.Core.Path.{_≡_, refl, sym, ap, _∙_, subst}
+use Prim.Native.Nat.{ℕ, _+_, _≤_, _<_}
+use mathlib.Core.Bool.{Bool, true, false}
 use mathlib.Core.Option.{some}
-use mathlib.Core.List.{List, [], _++_}
+use mathlib.Core.List.{List, [], _++_, append-nil}
 use native.Mathlib.Omega.{arith}
-use lib.ListN.{length}
-use Rattle.wire.specs.Request.{requestBytes, Request}
+use lib.ListN.{length, take}
+use lib.Dec.{ltb, lit<}
+use Rattle.wire.specs.Numbers.{field}
+use Rattle.wire.specs.Request.{contentLength, headerLength, Request, requestOf}
 use Rattle.wire.specs.Response.{responseBytes}
+use Rattle.wire.proofs.TestLaws.{either}
+use Rattle.wire.proofs.NumberLaws.{field-part}
 use Rattle.wire.proofs.ResponseLaws.{response-long}
 use Rattle.messages.specs.Protobuf.{protobuf}
-use Rattle.messages.specs.Operations.{Operation, opcodeOf, providerOf, outputBytes}
+use Rattle.messages.specs.Operations.{outputBytes}
+use Rattle.messages.proofs.OperationLaws.{nothing-bytes}
+use Rattle.stream.specs.Frame.{contentMost, legalStart, oversized}
 use Rattle.stream.specs.Rules.{Verdict, judge}
+use Rattle.stream.specs.Parts.{verdictOn}
+use Rattle.stream.proofs.FrameLaws.{legal-size}
+use Rattle.stream.proofs.ChunkLaws.{whole-found}
 use Rattle.registry.specs.WellFormed.{wellFormedRegistry}
 use Rattle.judgement.specs.Status.{statusNumber}
 use Rattle.judgement.specs.Counts.{Counts}
-use Rattle.judgement.specs.Operations.{Result}
-use Rattle.judgement.specs.Judgement.{resultOf, verdictOf, judgement}
+use Rattle.judgement.specs.Operations.{Result, refuse}
+use Rattle.judgement.specs.Judgement.{refusedEarly, oversizedStatus, verdictOf, judgement}
+use Rattle.judgement.specs.declared.Status.{Status}
+use Rattle.judgement.specs.declared.Status.the-variants.{InvalidHeader}
 use Rattle.judgement.proofs.ResponseLaws.{judge-short}
-use Rattle.client_requests.specs.Writing.{Sender, requestFor}
-use Rattle.client_responses.specs.Reading.{answered, responseContentMost, found}
-use Rattle.conversation.proofs.Asked.{Writable, read-as-written}
-use Rattle.conversation.proofs.Answered.{askedFor, result-read}
-use Rattle.conversation.proofs.Results.{result-sound}
+use Rattle.client_responses.specs.Reading.{Asked, responseContentMost, bodyReply, found}
+use Rattle.conversation.specs.Conversation.{replyOf, askedBy, resultFor}
+use Rattle.conversation.specs.Claims.{Sent, Hears, ResponsesRead}
+use Rattle.conversation.proofs.Answered.{headerOf, Its, found-whole, invalid-its, its-own, Sound, sound-reply}
+use Rattle.conversation.proofs.ReadLaws.{response-read}
+use Rattle.conversation.proofs.Results.{refused, result-sound}
 
-module _ (list registry : List ℕ) (counts : Counts) (good : wellFormedRegistry registry ≡ true)
-    (session : ℕ) (sender : Sender) (operation : Operation) (writable : Writable sender operation) where
+-- a response that is for the request is heard as its body says
+heard : (asked : Asked) (provider session opcode status : ℕ) (body : List ℕ) → Its asked (headerOf provider session opcode status body)
+    → length body ≤ responseContentMost → Hears asked (responseBytes provider session opcode status body) (bodyReply (asked .opcode) status body)
+heard asked provider session opcode status body its short =
+    let response : List ℕ = responseBytes provider session opcode status body in
+    let finds : (rest : List ℕ) → found asked (response ++ rest) ≡ some (bodyReply (asked .opcode) status body)
+    = λ rest. found-whole asked provider session opcode status body rest its short in
+    record {
+      finds = finds;
+      reads = response-read asked provider session opcode status body its short (bodyReply (asked .opcode) status body) (ap (found asked) (sym (append-nil response)) ∙ finds []);
+    }
+
+-- ---- a whole request
+
+module _ (list registry : List ℕ) (counts : Counts) (good : wellFormedRegistry registry ≡ true) (request : List ℕ) (sent : Sent request) where
   abbrev q : Request
-  q = requestFor session sender operation
+  q = requestOf request
 
-  -- what the rules make of it
-  abbrev pub result : Result
-  result = resultOf list registry q
+  abbrev result : Result
+  result = resultFor list registry request
 
-  -- the verdict is that of the request as it was written
-  pub verdict-is : judge (judgement list) registry counts (requestBytes q) ≡ verdictOf registry counts q result
-  unfolding judge judgement
-  verdict-is =
-      let r = read-as-written session sender operation writable in
-      rw (r .within, r .fields)
+  abbrev v : Verdict (List ℕ) Counts (List ℕ)
+  v = verdictOn (judgement list) registry counts request
 
-  pub response-is : judge (judgement list) registry counts (requestBytes q) .response
-      ≡ responseBytes (providerOf operation) session (opcodeOf operation) (statusNumber (result .status)) (outputBytes protobuf (result .output))
-  unfolding verdictOf requestFor
-  response-is = ap (λ (v : Verdict (List ℕ) Counts (List ℕ)). v .response) verdict-is
+  -- the response with this result
+  abbrev response : Result → List ℕ
+  response r = responseBytes (q .provider) (q .session) (q .opcode) (statusNumber (r .status)) (outputBytes protobuf (r .output))
 
-  pub short-output : length (outputBytes protobuf (result .output)) ≤ responseContentMost
+  legal : legalStart request ≡ true
+  legal = whole-found request (length request) (sent .framed) .0
+
+  -- an oversized one's header has its fields
+  same : (at width : ℕ) → at + width ≤ 28 → field at width (take (headerLength request) request) ≡ field at width request
+  same at width h =
+      field-part 0 (headerLength request) at width request (omega (arith, legal-size request legal))
+      ∙ ap (λ (k : ℕ). field k width request) (let z : 0 + at ≡ at = omega arith in z)
+
+  response-is : v .response ≡ response result
+  unfolding verdictOn judge judgement refusedEarly verdictOf resultFor refuse requestOf oversizedStatus
+  response-is = go (oversized request) refl
+    where
+      go : (t : Bool) → oversized request ≡ t → v .response ≡ response result
+      go true e = rw (legal, e, same 8 1 (omega arith), same 9 8 (omega arith), same 20 4 (omega arith), same 26 2 (omega arith), nothing-bytes)
+      go false e = rw (legal, e)
+
+  short-output : length (outputBytes protobuf (result .output)) ≤ responseContentMost
+  unfolding verdictOn
   short-output =
-      let s = judge-short list registry counts (requestBytes q) good in
+      let s : length (v .response) ≤ 629 = rw legal (judge-short list registry counts request good) in
       let e = ap length response-is in
-      let l = response-long (providerOf operation) session (opcodeOf operation) (statusNumber (result .status)) (outputBytes protobuf (result .output)) [] in
+      let l = response-long (q .provider) (q .session) (q .opcode) (statusNumber (result .status)) (outputBytes protobuf (result .output)) [] in
       omega arith
 
-  pub answer-read : (rest : List ℕ)
-      → found (askedFor session operation) (judge (judgement list) registry counts (requestBytes q) .response ++ rest) ≡ some (answered (statusNumber (result .status)) (result .output))
-  answer-read rest =
-      ap (λ (b : List ℕ). found (askedFor session operation) (b ++ rest)) response-is
-      ∙ result-read session operation result rest (result-sound list registry good session sender operation writable) short-output
+  oversized-some : 0 < statusNumber (oversizedStatus request)
+  unfolding oversizedStatus statusNumber
+  oversized-some = either (λ (s : Status). 0 < statusNumber s) (ltb contentMost (contentLength request)) (λ _. lit< tt) (λ _. lit< tt)
+
+  sound : Sound (q .opcode) result
+  unfolding resultFor
+  sound =
+      either (Sound (q .opcode)) (oversized request)
+      (λ _. refused (q .opcode) (oversizedStatus request) oversized-some)
+      (λ _. result-sound list registry good q)
+
+  hears : Hears (askedBy request) (v .response) (replyOf result)
+  unfolding askedBy
+  hears =
+      let body : List ℕ = outputBytes protobuf (result .output) in
+      let status : ℕ = statusNumber (result .status) in
+      subst (λ (b : List ℕ). Hears (askedBy request) b (replyOf result)) (sym response-is)
+      (subst (Hears (askedBy request) (response result)) (sound-reply (q .opcode) result sound)
+      (heard (askedBy request) (q .provider) (q .session) (q .opcode) status body (its-own (askedBy request) (q .provider) status body (sent .provider)) short-output))
+
+-- ---- a wrong magic or H
+
+bad-hears : (list registry : List ℕ) (counts : Counts) (request : List ℕ) → legalStart request ≡ false → (asked : Asked)
+    → Hears asked (verdictOn (judgement list) registry counts request .response) (replyOf (refuse InvalidHeader))
+unfolding verdictOn judgement refusedEarly bodyReply refuse statusNumber
+bad-hears list registry counts request e asked = rw e (heard asked 0 0 0 17 [] (invalid-its asked) (omega arith))
+
+pub answer-read : ResponsesRead
+answer-read = record { whole = hears; bad-start = bad-hears }

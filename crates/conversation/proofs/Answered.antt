@@ -1,5 +1,4 @@
--- WHAT THE SERVICE WRITES TO A REQUEST OF THE CLIENT, THE CLIENT READS AS THE SAME RESPONSE: status and output, and never a
--- refusal; and so it does the answer with status 17.
+-- A response that is for the request, or the answer with status 17, is read as what its body says.
 use mathlib.Core.Path.{_≡_, refl, ap, _∙_}
 use Prim.Native.Nat.{ℕ, _+_, _≤_, _<_}
 use mathlib.Core.Bool.{true, _||_, or-true}
@@ -14,13 +13,13 @@ use Rattle.wire.specs.Response.{responseHeaderSize, responseLeast, responseByte
 use Rattle.wire.specs.declared.response.ResponseHeader.{ResponseHeader}
 use Rattle.wire.proofs.ResponseLaws.{response-long, response-magic, response-size, response-body, response-back}
 use Rattle.messages.specs.Protobuf.{protobuf}
-use Rattle.messages.specs.Operations.{Operation, ping, listProviders, listOpcodes, importKey, destroyKey, exportPublicKey, verifySignature, opcodeOf, providerOf, Output, nothing, outputBytes, Answers, messageOf}
+use Rattle.messages.specs.Operations.{Output, nothing, outputBytes, Answers, messageOf}
 use Rattle.messages.specs.Message.{AllFit}
 use Rattle.messages.proofs.OperationLaws.{nothing-bytes, answered-back}
 use Rattle.judgement.specs.Status.{statusNumber}
 use Rattle.judgement.specs.Operations.{Result}
-use Rattle.wire.specs.Lists.{oneOf}
 use Rattle.client_responses.specs.Reading.{Asked, providerFor, answered, responseContentMost, isIts, isInvalidHeader, headerTests, bodyReply, foundBehind, found}
+use Rattle.conversation.specs.Conversation.{replyOf}
 
 -- ---- a response of any status and body that is for the request
 
@@ -80,36 +79,19 @@ pub invalid-its : (asked : Asked) → Its asked (headerOf 0 0 0 17 [])
 unfolding isInvalidHeader
 invalid-its asked = or-true (isIts asked (headerOf 0 0 0 17 []))
 
-pub invalid-read : (asked : Asked) (rest : List ℕ) → found asked (responseBytes 0 0 0 17 [] ++ rest) ≡ some (answered 17 nothing)
-unfolding bodyReply
-invalid-read asked rest = found-whole asked 0 0 0 17 [] rest (invalid-its asked) (omega arith)
+-- ---- the answer to a request
 
--- ---- the answer to an operation
-
--- the request as a reader knows it
-abbrev pub askedFor : (session : ℕ) → Operation → Asked
-askedFor session operation = record { opcode = opcodeOf operation; session = session }
-
-provider-known : (operation : Operation) → providerOf operation ≡ providerFor (opcodeOf operation)
-unfolding oneOf
-provider-known ping = refl
-provider-known listProviders = refl
-provider-known (listOpcodes provider) = refl
-provider-known (importKey key) = refl
-provider-known (destroyKey name) = refl
-provider-known (exportPublicKey name) = refl
-provider-known (verifySignature name hash signature) = refl
-
-pub its-own : (session : ℕ) (operation : Operation) (status : ℕ) (body : List ℕ)
-    → Its (askedFor session operation) (headerOf (providerOf operation) session (opcodeOf operation) status body)
+-- the provider is the opcode's
+pub its-own : (asked : Asked) (provider status : ℕ) (body : List ℕ) → provider ≡ providerFor (asked .opcode)
+    → Its asked (headerOf provider (asked .session) (asked .opcode) status body)
 unfolding isIts
-its-own session operation status body =
-    rw (eq-eqb (opcodeOf operation) (opcodeOf operation) refl, eq-eqb session session refl, eq-eqb (providerOf operation) (providerFor (opcodeOf operation)) (provider-known operation))
+its-own asked provider status body e =
+    rw (eq-eqb (asked .opcode) (asked .opcode) refl, eq-eqb (asked .session) (asked .session) refl, eq-eqb provider (providerFor (asked .opcode)) e)
 
--- a status that is not 0, and then no output; or 0, and an output of the operation's kind that can be written
-pub data Sound (operation : Operation) (r : Result) : Type 0 where
-  notServed : 0 < statusNumber (r .status) → r .output ≡ nothing → Sound operation r
-  served : statusNumber (r .status) ≡ 0 → Answers (opcodeOf operation) (r .output) → AllFit (protobuf .lengthMost) (messageOf (r .output)) → Sound operation r
+-- a status that is not 0, and then no output; or 0, and an output of the opcode's kind that can be written
+pub data Sound (opcode : ℕ) (r : Result) : Type 0 where
+  notServed : 0 < statusNumber (r .status) → r .output ≡ nothing → Sound opcode r
+  served : statusNumber (r .status) ≡ 0 → Answers opcode (r .output) → AllFit (protobuf .lengthMost) (messageOf (r .output)) → Sound opcode r
 
 refused-reply : (opcode status : ℕ) (output : Output) → 0 < status → output ≡ nothing → bodyReply opcode status (outputBytes protobuf output) ≡ answered status output
 unfolding bodyReply
@@ -120,16 +102,7 @@ served-reply : (opcode status : ℕ) (output : Output) → status ≡ 0 → Answ
 unfolding bodyReply
 served-reply opcode status output z a f = rw (z, answered-back opcode output a f)
 
--- a response with a sound result is read as it
-pub result-read : (session : ℕ) (operation : Operation) (r : Result) (rest : List ℕ) → Sound operation r → length (outputBytes protobuf (r .output)) ≤ responseContentMost
-    → found (askedFor session operation) (responseBytes (providerOf operation) session (opcodeOf operation) (statusNumber (r .status)) (outputBytes protobuf (r .output)) ++ rest)
-    ≡ some (answered (statusNumber (r .status)) (r .output))
-result-read session operation r rest s short =
-    let status : ℕ = statusNumber (r .status) in
-    let body : List ℕ = outputBytes protobuf (r .output) in
-    found-whole (askedFor session operation) (providerOf operation) session (opcodeOf operation) status body rest (its-own session operation status body) short
-    ∙ ap some (reads s)
-  where
-    reads : Sound operation r → bodyReply (opcodeOf operation) (statusNumber (r .status)) (outputBytes protobuf (r .output)) ≡ answered (statusNumber (r .status)) (r .output)
-    reads (notServed h e) = refused-reply (opcodeOf operation) (statusNumber (r .status)) (r .output) h e
-    reads (served z a f) = served-reply (opcodeOf operation) (statusNumber (r .status)) (r .output) z a f
+-- its body is read as the result
+pub sound-reply : (opcode : ℕ) (r : Result) → Sound opcode r → bodyReply opcode (statusNumber (r .status)) (outputBytes protobuf (r .output)) ≡ replyOf r
+sound-reply opcode r (notServed h e) = refused-reply opcode (statusNumber (r .status)) (r .output) h e
+sound-reply opcode r (served z a f) = served-reply opcode (statusNumber (r .status)) (r .output) z a f

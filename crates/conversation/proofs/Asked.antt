@@ -1,9 +1,9 @@
 -- WHAT THE CLIENT WRITES, THE SERVICE READS AS THE SAME REQUEST: framed as one whole request whatever follows it, the header's
 -- fields, the operation, the application.
 use mathlib.Core.Path.{_≡_, refl, sym, ap, _∙_}
-use Prim.Native.Nat.{ℕ, _^_, _≤_, _<_}
+use Prim.Native.Nat.{ℕ, _≤_}
 use mathlib.Core.Bool.{true, false}
-use mathlib.Core.Option.{Option, none, some}
+use mathlib.Core.Option.{none, some}
 use mathlib.Core.List.{List, [], _++_, append-nil}
 use native.Mathlib.Omega.{arith}
 use borrow.Author.Tests.{eq-eqb, le-leb, le-ltb}
@@ -15,36 +15,15 @@ use Rattle.keys.proofs.NameLaws.{legal-short}
 use Rattle.keys.proofs.KeyLaws.{legal-data, legal-bits, import-legal}
 use Rattle.messages.specs.Message.{AllFit}
 use Rattle.messages.specs.Protobuf.{protobuf}
-use Rattle.messages.specs.Operations.{Operation, ping, listProviders, listOpcodes, importKey, destroyKey, exportPublicKey, verifySignature, inputOf, operationBody, operationOf}
+use Rattle.messages.specs.Operations.{Operation, ping, listProviders, listOpcodes, importKey, destroyKey, exportPublicKey, verifySignature, inputOf, operationBody}
 use Rattle.messages.proofs.OperationLaws.{asked-back}
 use Rattle.messages.proofs.WriteLaws.{verify-body-least}
 use Rattle.client_requests.proofs.WritingLaws.{auth-short, body-short}
-use Rattle.client_requests.specs.Writing.{Sender, requestFor, legalSender, legalKeyName, legalKeyData, legalKeyBits, legalHash, legalBody}
+use Rattle.client_requests.specs.Writing.{Sender, requestFor}
 use Rattle.stream.specs.Frame.{contentMost, authMost, legalStart, oversized, whole, next}
 use Rattle.stream.proofs.FrameLaws.{next-whole}
-use Rattle.registry.specs.Registry.{applicationNamed}
-use Rattle.registry.specs.declared.Line.{Line}
 use Rattle.judgement.specs.Judgement.{applicationOf}
-
--- what the client's code can be asked for: a provider is 32 bits
-abbrev pub Small : Operation → Type 0
-Small ping = Unit {0}
-Small listProviders = Unit {0}
-Small (listOpcodes provider) = provider < 2 ^ 32
-Small (importKey key) = Unit {0}
-Small (destroyKey name) = Unit {0}
-Small (exportPublicKey name) = Unit {0}
-Small (verifySignature name hash signature) = Unit {0}
-
--- a request that is not refused
-pub record Writable (sender : Sender) (operation : Operation) : Type 0 where
-  pub sender-legal : legalSender sender ≡ true
-  pub name-legal : legalKeyName operation ≡ true
-  pub data-legal : legalKeyData operation ≡ true
-  pub bits-legal : legalKeyBits operation ≡ true
-  pub hash-legal : legalHash operation ≡ true
-  pub body-legal : legalBody operation ≡ true
-  pub small : Small operation
+use Rattle.conversation.specs.Claims.{Writable, applicationFor, RequestsRead}
 
 -- ---- the body is short, and the values fit
 
@@ -68,18 +47,6 @@ fits sender (verifySignature name hash signature) w =
     (omega arith, (omega arith, (omega arith, tt)))
 
 -- ---- the claim
-
--- the application that the service finds for a sender
-unfoldable pub applicationFor : (registry : List ℕ) → Sender → Option Line
-applicationFor registry none = none
-applicationFor registry (some name) = applicationNamed registry name
-
-pub record ReadAsWritten (session : ℕ) (sender : Sender) (operation : Operation) : Type 0 where
-  pub framed : (rest : List ℕ) → next (requestBytes (requestFor session sender operation) ++ rest) ≡ whole (length (requestBytes (requestFor session sender operation)))
-  pub within : oversized (requestBytes (requestFor session sender operation)) ≡ false
-  pub fields : requestOf (requestBytes (requestFor session sender operation)) ≡ requestFor session sender operation
-  pub operation-read : operationOf protobuf (requestFor session sender operation .opcode) (requestFor session sender operation .body) ≡ some operation
-  pub application : (registry : List ℕ) → applicationOf registry (requestFor session sender operation) ≡ applicationFor registry sender
 
 module _ (session : ℕ) (sender : Sender) (operation : Operation) (w : Writable sender operation) where
   abbrev bytes : List ℕ
@@ -122,12 +89,12 @@ module _ (session : ℕ) (sender : Sender) (operation : Operation) (w : Writable
   application none registry = refl
   application (some name) registry = refl
 
-  pub read-as-written : ReadAsWritten session sender operation
-  unfolding requestFor
-  read-as-written = record {
-    framed = framed;
-    within = within;
-    fields = fields;
-    operation-read = asked-back operation (fits sender operation w);
-    application = application sender;
-  }
+pub read-as-written : RequestsRead
+unfolding requestFor
+read-as-written session sender operation w = record {
+  framed = framed session sender operation w;
+  within = within session sender operation w;
+  fields = fields session sender operation w;
+  operation-read = asked-back operation (fits sender operation w);
+  application = application session sender operation w sender;
+}

@@ -1,112 +1,143 @@
 -- Request by request: what the service answers is what the client hears.
-use mathlib.Core.Path.{_≡_, sym, ap, ap₂, _∙_, subst}
+use mathlib.Core.Path.{_≡_, refl, sym, ap, ap₂, _∙_}
 use Prim.Native.Nat.{ℕ}
 use mathlib.Core.Bool.{true}
-use mathlib.Core.Option.{some}
 use mathlib.Core.List.{List, [], _∷_, _++_, map, flatten, append-nil}
 use native.Mathlib.Omega.{arith}
 use lib.ListN.{length, take, drop, length-append}
 use lib.Seq.{take-append-seam, drop-append-seam}
-use Rattle.wire.specs.Request.{requestLength}
-use Rattle.wire.proofs.RequestLaws.{request-long}
-use Rattle.messages.specs.Protobuf.{protobuf}
-use Rattle.messages.specs.Operations.{opcodeOf, providerOf, outputBytes}
-use Rattle.reading.specs.Reader.{read}
-use Rattle.stream.specs.Frame.{legalStart}
+use Rattle.wire.specs.Lists.{oneOf}
+use Rattle.wire.specs.Request.{requestLength, Request, requestOf}
+use Rattle.messages.specs.Opcodes.{coreOpcodes, keystoreOpcodes}
+use Rattle.messages.specs.Operations.{Operation, ping, listProviders, listOpcodes, importKey, destroyKey, exportPublicKey, verifySignature, opcodeOf, providerOf}
+use Rattle.stream.specs.Frame.{legalStart, whole, next}
 use Rattle.stream.specs.Rules.{Verdict, judge}
 use Rattle.stream.specs.Parts.{andBefore, heldParts, partsOf, verdictOn, responsesFrom}
-use Rattle.stream.proofs.FrameLaws.{short}
+use Rattle.stream.proofs.FrameLaws.{short, legal-size, legalStart-append, requestLength-append}
+use Rattle.stream.proofs.ChunkLaws.{whole-found}
 use Rattle.stream.proofs.PartsLaws.{parts-unfinished, parts-whole}
 use Rattle.registry.specs.WellFormed.{wellFormedRegistry}
-use Rattle.judgement.specs.Status.{statusNumber}
 use Rattle.judgement.specs.Counts.{Counts}
 use Rattle.judgement.specs.Operations.{Result}
 use Rattle.judgement.specs.Judgement.{resultOf, verdictOf, judgement}
-use Rattle.judgement.proofs.JudgementLaws.{judge-good}
+use Rattle.judgement.proofs.VerdictLaws.{verdict-kept}
 use Rattle.client_requests.specs.Writing.{requestFor}
-use Rattle.client_responses.specs.Reading.{Asked, Reply, answered, found, responseReader}
-use Rattle.conversation.specs.Conversation.{Ask, written, askedFor, repliesFrom}
-use Rattle.conversation.proofs.Asked.{Writable, legal}
-use Rattle.conversation.proofs.Answered.{its-own}
-use Rattle.conversation.proofs.AnswerLaws.{result, verdict-is, response-is, short-output, answer-read}
-use Rattle.conversation.proofs.ReadLaws.{response-read}
+use Rattle.client_responses.specs.Reading.{Asked, providerFor, Reply}
+use Rattle.conversation.specs.Conversation.{replyOf, askedBy, resultFor, repliesInTurn, Ask, written, askedFor, repliesFrom}
+use Rattle.conversation.specs.Claims.{Writable, ReadAsWritten, Sent, Hears, AllSent, AllWritable}
+use Rattle.conversation.proofs.Asked.{read-as-written}
+use Rattle.conversation.proofs.AnswerLaws.{answer-read}
 
-abbrev pub AllWritable : List Ask → Type 0
-AllWritable [] = Unit {0}
-AllWritable (ask ∷ asks) = Writable (ask .sender) (ask .operation) × AllWritable asks
+-- ---- joined requests are framed as they are
 
--- ---- the joined requests are framed as they were written
-
-pub requests-framed : (asks : List Ask) → AllWritable asks → partsOf (flatten (map written asks)) ≡ record { answered = map written asks; held = []; dropped = [] }
-unfolding flatten heldParts written andBefore
-requests-framed [] w = parts-unfinished [] (short (omega arith))
-requests-framed (ask ∷ asks) (w, ws) =
-    let bytes : List ℕ = written ask in
-    let rest : List ℕ = flatten (map written asks) in
-    let q = requestFor (ask .session) (ask .sender) (ask .operation) in
-    let l : legalStart (bytes ++ rest) ≡ true = legal (ask .session) (ask .sender) (ask .operation) w rest in
-    let n : requestLength (bytes ++ rest) ≡ length bytes = request-long q rest in
-    let a = length-append bytes rest in
-    parts-whole (bytes ++ rest) l (omega arith)
-    ∙ ap (λ (k : ℕ). andBefore (take k (bytes ++ rest)) (partsOf (drop k (bytes ++ rest)))) n
-    ∙ ap₂ (λ (t d : List ℕ). andBefore t (partsOf d)) (take-append-seam bytes rest) (drop-append-seam bytes rest)
-    ∙ ap (andBefore bytes) (requests-framed asks ws)
+pub requests-framed : (requests : List (List ℕ)) → AllSent requests → partsOf (flatten requests) ≡ record { answered = requests; held = []; dropped = [] }
+unfolding flatten heldParts andBefore
+requests-framed [] s = parts-unfinished [] (short (omega arith))
+requests-framed (request ∷ requests) (s, ss) =
+    let rest : List ℕ = flatten requests in
+    let (legal, size, fits) = whole-found request (length request) (s .framed) in
+    let h = legal-size request legal in
+    let l : legalStart (request ++ rest) ≡ true = legalStart-append request rest (omega arith) ∙ legal in
+    let n : requestLength (request ++ rest) ≡ length request = requestLength-append request rest (omega arith) ∙ size in
+    let a = length-append request rest in
+    parts-whole (request ++ rest) l (omega arith)
+    ∙ ap (λ (k : ℕ). andBefore (take k (request ++ rest)) (partsOf (drop k (request ++ rest)))) n
+    ∙ ap₂ (λ (t d : List ℕ). andBefore t (partsOf d)) (take-append-seam request rest) (drop-append-seam request rest)
+    ∙ ap (andBefore request) (requests-framed requests ss)
 
 -- ---- what the client hears
 
--- the response is read to its end, whatever follows it, as this
-pub record Hears (asked : Asked) (response : List ℕ) (reply : Reply) : Type 0 where
-  pub said : found asked response ≡ some reply
-  pub reads : (rest : List ℕ) → read (responseReader asked) [] (response ++ rest) ≡ record { taken = length response; events = reply ∷ []; kept = response }
-
-abbrev pub AllHeard : List Ask → (responses : List (List ℕ)) → List Reply → Type 0
+abbrev pub AllHeard : List Asked → (responses : List (List ℕ)) → List Reply → Type 0
 AllHeard [] [] [] = Unit {0}
 AllHeard [] [] (y ∷ ys) = ⊥
 AllHeard [] (r ∷ rs) ys = ⊥
-AllHeard (ask ∷ asks) [] ys = ⊥
-AllHeard (ask ∷ asks) (r ∷ rs) [] = ⊥
-AllHeard (ask ∷ asks) (r ∷ rs) (y ∷ ys) = Hears (askedFor ask) r y × AllHeard asks rs ys
+AllHeard (asked ∷ more) [] ys = ⊥
+AllHeard (asked ∷ more) (r ∷ rs) [] = ⊥
+AllHeard (asked ∷ more) (r ∷ rs) (y ∷ ys) = Hears asked r y × AllHeard more rs ys
 
-module _ (list registry : List ℕ) (counts : Counts) (good : wellFormedRegistry registry ≡ true) (ask : Ask) (w : Writable (ask .sender) (ask .operation)) where
-  abbrev v : Verdict (List ℕ) Counts (List ℕ)
-  v = judge (judgement list) registry counts (written ask)
+pub all-heard : (requests : List (List ℕ)) → AllSent requests → (list registry : List ℕ) (counts : Counts) → wellFormedRegistry registry ≡ true
+    → AllHeard (map askedBy requests) (responsesFrom (judgement list) registry counts requests) (repliesInTurn list registry counts requests)
+unfolding responsesFrom repliesInTurn
+all-heard [] s list registry counts good = tt
+all-heard (request ∷ requests) (s, ss) list registry counts good =
+    let v : Verdict (List ℕ) Counts (List ℕ) = verdictOn (judgement list) registry counts request in (
+      answer-read .whole list registry counts good request s,
+      all-heard requests ss list (v .registry) (v .counts) (verdict-kept list registry counts request good .0),
+    )
 
-  abbrev r : Result
-  r = result list registry counts good (ask .session) (ask .sender) (ask .operation) w
+-- ---- requests that the client wrote are such requests, and are answered as their operations
 
-  hears : Hears (askedFor ask) (v .response) (answered (statusNumber (r .status)) (r .output))
-  unfolding askedFor written
-  hears =
-      let is = response-is list registry counts good (ask .session) (ask .sender) (ask .operation) w in
-      let e : found (askedFor ask) (v .response) ≡ some (answered (statusNumber (r .status)) (r .output))
-      = ap (found (askedFor ask)) (sym (append-nil (v .response))) ∙ answer-read list registry counts good (ask .session) (ask .sender) (ask .operation) w [] in
-      record {
-        said = e;
-        reads = λ rest.
-            subst
-            (λ (b : List ℕ). read (responseReader (askedFor ask)) [] (b ++ rest) ≡ record { taken = length b; events = answered (statusNumber (r .status)) (r .output) ∷ []; kept = b })
-            (sym is)
-            (response-read (askedFor ask) (providerOf (ask .operation)) (ask .session) (opcodeOf (ask .operation)) (statusNumber (r .status)) (outputBytes protobuf (r .output))
-            (its-own (ask .session) (ask .operation) (statusNumber (r .status)) (outputBytes protobuf (r .output)))
-            (short-output list registry counts good (ask .session) (ask .sender) (ask .operation) w)
-            (answered (statusNumber (r .status)) (r .output)) (ap (found (askedFor ask)) (sym is) ∙ e) rest);
-      }
+provider-known : (operation : Operation) → providerOf operation ≡ providerFor (opcodeOf operation)
+unfolding oneOf
+provider-known ping = refl
+provider-known listProviders = refl
+provider-known (listOpcodes provider) = refl
+provider-known (importKey key) = refl
+provider-known (destroyKey name) = refl
+provider-known (exportPublicKey name) = refl
+provider-known (verifySignature name hash signature) = refl
 
-  -- the verdict on the request as a part of the stream
-  verdict-on : verdictOn (judgement list) registry counts (written ask) ≡ v
-  unfolding verdictOn written
-  verdict-on = rw (ap legalStart (sym (append-nil (written ask))) ∙ legal (ask .session) (ask .sender) (ask .operation) w [])
+listed-opcode : (operation : Operation) → oneOf (coreOpcodes ++ keystoreOpcodes) (opcodeOf operation) ≡ true
+unfolding oneOf
+listed-opcode ping = refl
+listed-opcode listProviders = refl
+listed-opcode (listOpcodes provider) = refl
+listed-opcode (importKey key) = refl
+listed-opcode (destroyKey name) = refl
+listed-opcode (exportPublicKey name) = refl
+listed-opcode (verifySignature name hash signature) = refl
 
-pub all-heard : (asks : List Ask) → AllWritable asks → (list registry : List ℕ) (counts : Counts) → wellFormedRegistry registry ≡ true
-    → AllHeard asks (responsesFrom (judgement list) registry counts (map written asks)) (repliesFrom list registry counts asks)
-unfolding responsesFrom repliesFrom
-all-heard [] w list registry counts good = tt
-all-heard (ask ∷ asks) (w, ws) list registry counts good =
-    let x : Verdict (List ℕ) Counts (List ℕ) = v list registry counts good ask w in
-    let q = requestFor (ask .session) (ask .sender) (ask .operation) in
-    let z : Verdict (List ℕ) Counts (List ℕ) = verdictOf registry counts q (resultOf list registry q) in
-    let same : x ≡ z = unfold written in verdict-is list registry counts good (ask .session) (ask .sender) (ask .operation) w in
-    let rest : AllHeard asks (responsesFrom (judgement list) (x .registry) (x .counts) (map written asks)) (repliesFrom list (x .registry) (x .counts) asks)
-    = all-heard asks ws list (x .registry) (x .counts) (judge-good list registry counts (written ask) good) in
-    rw (verdict-on list registry counts good ask w)
-    (hears list registry counts good ask w, subst (λ (y : Verdict (List ℕ) Counts (List ℕ)). AllHeard asks (responsesFrom (judgement list) (x .registry) (x .counts) (map written asks)) (repliesFrom list (y .registry) (y .counts) asks)) same rest)
+module _ (ask : Ask) (w : Writable (ask .sender) (ask .operation)) where
+  abbrev q : Request
+  q = requestFor (ask .session) (ask .sender) (ask .operation)
+
+  read : ReadAsWritten (ask .session) (ask .sender) (ask .operation)
+  read = read-as-written (ask .session) (ask .sender) (ask .operation) w
+
+  is-read : requestOf (written ask) ≡ q
+  unfolding written
+  is-read = read .fields
+
+  is-whole : next (written ask) ≡ whole (length (written ask))
+  unfolding written
+  is-whole = ap next (sym (append-nil (written ask))) ∙ read .framed []
+
+  sent : Sent (written ask)
+  unfolding requestFor
+  sent = record {
+    framed = is-whole;
+    listed = ap (λ (r : Request). oneOf (coreOpcodes ++ keystoreOpcodes) (r .opcode)) is-read ∙ listed-opcode (ask .operation);
+    provider = ap (λ (r : Request). r .provider) is-read ∙ provider-known (ask .operation) ∙ sym (ap (λ (r : Request). providerFor (r .opcode)) is-read);
+  }
+
+  asked-is : askedBy (written ask) ≡ askedFor ask
+  unfolding askedBy askedFor requestFor
+  asked-is = ap (λ (r : Request). (let x : Asked = record { opcode = r .opcode; session = r .session } in x)) is-read
+
+  result-is : (list registry : List ℕ) → resultFor list registry (written ask) ≡ resultOf list registry q
+  unfolding resultFor written
+  result-is list registry = rw (read .within) (ap (resultOf list registry) is-read)
+
+  verdict-is : (list registry : List ℕ) (counts : Counts) → verdictOn (judgement list) registry counts (written ask) ≡ verdictOf registry counts q (resultOf list registry q)
+  unfolding verdictOn judge judgement written
+  verdict-is list registry counts =
+      rw (whole-found (written ask) (length (written ask)) is-whole .0, read .within)
+      (ap (λ (r : Request). verdictOf registry counts r (resultOf list registry r)) is-read)
+
+pub all-sent : (asks : List Ask) → AllWritable asks → AllSent (map written asks)
+all-sent [] w = tt
+all-sent (ask ∷ asks) (w, ws) = (sent ask w, all-sent asks ws)
+
+pub asked-same : (asks : List Ask) → AllWritable asks → map askedBy (map written asks) ≡ map askedFor asks
+asked-same [] w = refl
+asked-same (ask ∷ asks) (w, ws) = ap₂ (λ (a : Asked) (rest : List Asked). a ∷ rest) (asked-is ask w) (asked-same asks ws)
+
+pub replies-same : (asks : List Ask) → AllWritable asks → (list registry : List ℕ) (counts : Counts)
+    → repliesInTurn list registry counts (map written asks) ≡ repliesFrom list registry counts asks
+unfolding repliesInTurn repliesFrom
+replies-same [] w list registry counts = refl
+replies-same (ask ∷ asks) (w, ws) list registry counts =
+    ap₂ (λ (r : Result) (v : Verdict (List ℕ) Counts (List ℕ)). replyOf r ∷ repliesInTurn list (v .registry) (v .counts) (map written asks))
+    (result-is ask w list registry) (verdict-is ask w list registry counts)
+    ∙ (let v : Verdict (List ℕ) Counts (List ℕ) = verdictOf registry counts (q ask w) (resultOf list registry (q ask w)) in
+    ap (λ (rest : List Reply). replyOf (resultOf list registry (q ask w)) ∷ rest) (replies-same asks ws list (v .registry) (v .counts)))

@@ -1,11 +1,12 @@
--- Every result of a request that the client wrote can be read by it: a status that is not 0 and no output, or 0 and an output of
--- the operation's kind.
-use mathlib.Core.Path.{_≡_, refl}
+-- Every result of a request can be read by the client that sent it: a status that is not 0 and no output, or 0 and an output of the
+-- opcode's kind.
+use mathlib.Core.Path.{_≡_, refl, sym, subst}
 use Prim.Native.Nat.{ℕ, _*_, _^_, _≤_, _<_}
 use mathlib.Core.Bool.{Bool, true, false, not}
 use mathlib.Core.Option.{Option, none, some}
 use mathlib.Core.List.{List, []}
 use native.Mathlib.Omega.{arith}
+use borrow.Author.Tests.{eqb-true}
 use lib.ListN.{length, getD}
 use lib.Dec.{ltb, eqb, lit<}
 use Rattle.wire.specs.Choice.{firstOf}
@@ -15,8 +16,10 @@ use Rattle.wire.proofs.TestLaws.{either, first-has}
 use Rattle.keys.specs.Names.{keyNameMost, legalName}
 use Rattle.keys.specs.Key.{Key, dataMost, importBits}
 use Rattle.messages.specs.Protobuf.{protobuf}
+use Rattle.messages.specs.Message.{Message}
+use Rattle.messages.specs.Format.{Reading, read, broken, readMessage}
 use Rattle.messages.specs.Opcodes.{opcodesOf}
-use Rattle.messages.specs.Operations.{Operation, ping, listProviders, listOpcodes, importKey, destroyKey, exportPublicKey, verifySignature, ofPing, ofListProviders, ofListOpcodes, ofImport, ofDestroy, ofExport, ofVerify}
+use Rattle.messages.specs.Operations.{Operation, ping, listProviders, listOpcodes, importKey, destroyKey, exportPublicKey, verifySignature, opcodeOf, inputFields, Asking, asks, garbled, askingOf, askingBy, asked, operationIn, operationOf, ofPing, ofListProviders, ofListOpcodes, ofImport, ofDestroy, ofExport, ofVerify}
 use Rattle.rsa.specs.Signature.{verification}
 use Rattle.rsa.specs.declared.verify.Outcome.{Outcome}
 use Rattle.rsa.specs.declared.verify.Outcome.the-variants.{ValidSignature, InvalidSignature, InvalidKey}
@@ -35,22 +38,25 @@ use Rattle.judgement.specs.Operations.{Result, success, refuse, importable, per
 use Rattle.judgement.specs.Judgement.{applicationOf, refusals, askersSlots, resultOf}
 use Rattle.judgement.specs.declared.Status.{Status}
 use Rattle.judgement.proofs.SourceLaws.{source-short}
-use Rattle.judgement.proofs.JudgementLaws.{asks}
-use Rattle.client_requests.specs.Writing.{Sender, requestFor}
-use Rattle.conversation.proofs.Asked.{Writable, read-as-written}
+use Rattle.judgement.specs.declared.Status.the-variants.{DeserializingBodyFailed}
+use Rattle.judgement.proofs.JudgementLaws.{asks as asks-line}
 use Rattle.conversation.proofs.Answered.{Sound, notServed, served}
 
-refused : (operation : Operation) (status : Status) → 0 < statusNumber status → Sound operation (refuse status)
+-- a result of the operation's kind
+abbrev SoundFor : Operation → Result → Type 0
+SoundFor operation r = Sound (opcodeOf operation) r
+
+pub refused : (opcode : ℕ) (status : Status) → 0 < statusNumber status → Sound opcode (refuse status)
 unfolding refuse
-refused operation status h = notServed h refl
+refused opcode status h = notServed h refl
 
 -- counting a use changes neither the status nor the output
-sound-counted : (operation : Operation) (source : Source) (r : Result) → Sound operation r → Sound operation (counted source r)
+sound-counted : (opcode : ℕ) (source : Source) (r : Result) → Sound opcode r → Sound opcode (counted source r)
 unfolding counted
-sound-counted operation (listed key) r sound = sound
-sound-counted operation (own slot key) r sound = either (Sound operation) (eqb (statusNumber (r .status)) 0) (λ _. again sound) (λ _. sound)
+sound-counted opcode (listed key) r sound = sound
+sound-counted opcode (own slot key) r sound = either (Sound opcode) (eqb (statusNumber (r .status)) 0) (λ _. again sound) (λ _. sound)
   where
-    again : Sound operation r → Sound operation (record { status = r .status; output = r .output; change = addUse slot })
+    again : Sound opcode r → Sound opcode (record { status = r .status; output = r .output; change = addUse slot })
     again (notServed h e) = notServed h e
     again (served h kind fits) = served h kind fits
 
@@ -68,61 +74,61 @@ module _ (slots : List Entry) (list : List ℕ) where
   abbrev keys : List ListedKey
   keys = keysIn list
 
-  sound-import : (key : Key) → Sound (importKey key) (performImport key slots keys)
+  sound-import : (key : Key) → SoundFor (importKey key) (performImport key slots keys)
   unfolding performImport success statusNumber
   sound-import key = go (importable key) refl
     where
-      third : importable key ≡ true → keyNamed (key .name) slots keys ≡ none → (f : Found) → slotNamed [] slots ≡ f → Sound (importKey key) (performImport key slots keys)
-      third v n Nothing e = rw (v, n, e, performImport) (refused (importKey key) _ (lit< tt))
+      third : importable key ≡ true → keyNamed (key .name) slots keys ≡ none → (f : Found) → slotNamed [] slots ≡ f → SoundFor (importKey key) (performImport key slots keys)
+      third v n Nothing e = rw (v, n, e, performImport) (refused _ _ (lit< tt))
       third v n (At slot) e = rw (v, n, e, performImport) (served refl ofImport tt)
 
-      second : importable key ≡ true → (o : Option Source) → keyNamed (key .name) slots keys ≡ o → Sound (importKey key) (performImport key slots keys)
-      second v (some source) e = rw (v, e, performImport) (refused (importKey key) _ (lit< tt))
+      second : importable key ≡ true → (o : Option Source) → keyNamed (key .name) slots keys ≡ o → SoundFor (importKey key) (performImport key slots keys)
+      second v (some source) e = rw (v, e, performImport) (refused _ _ (lit< tt))
       second v none e = third v e (slotNamed [] slots) refl
 
-      go : (t : Bool) → importable key ≡ t → Sound (importKey key) (performImport key slots keys)
-      go false e = rw (e, performImport) (refused (importKey key) _ (lit< tt))
+      go : (t : Bool) → importable key ≡ t → SoundFor (importKey key) (performImport key slots keys)
+      go false e = rw (e, performImport) (refused _ _ (lit< tt))
       go true e = second e (keyNamed (key .name) slots keys) refl
 
-  sound-destroying : (name : List ℕ) (source : Source) → Sound (destroyKey name) (destroyOf source)
+  sound-destroying : (name : List ℕ) (source : Source) → SoundFor (destroyKey name) (destroyOf source)
   unfolding destroyOf success statusNumber
   sound-destroying name (own slot key) = served refl ofDestroy tt
-  sound-destroying name (listed key) = refused (destroyKey name) _ (lit< tt)
+  sound-destroying name (listed key) = refused _ _ (lit< tt)
 
-  sound-destroy : (name : List ℕ) → Sound (destroyKey name) (performDestroy name slots keys)
+  sound-destroy : (name : List ℕ) → SoundFor (destroyKey name) (performDestroy name slots keys)
   unfolding performDestroy success statusNumber
   sound-destroy name = go (legalName keyNameMost name) refl
     where
-      second : legalName keyNameMost name ≡ true → (o : Option Source) → keyNamed name slots keys ≡ o → Sound (destroyKey name) (performDestroy name slots keys)
-      second v none e = rw (v, e, performDestroy) (refused (destroyKey name) _ (lit< tt))
+      second : legalName keyNameMost name ≡ true → (o : Option Source) → keyNamed name slots keys ≡ o → SoundFor (destroyKey name) (performDestroy name slots keys)
+      second v none e = rw (v, e, performDestroy) (refused _ _ (lit< tt))
       second v (some source) e = rw (v, e, performDestroy) (sound-destroying name source)
 
-      go : (t : Bool) → legalName keyNameMost name ≡ t → Sound (destroyKey name) (performDestroy name slots keys)
-      go false e = rw (e, performDestroy) (refused (destroyKey name) _ (lit< tt))
+      go : (t : Bool) → legalName keyNameMost name ≡ t → SoundFor (destroyKey name) (performDestroy name slots keys)
+      go false e = rw (e, performDestroy) (refused _ _ (lit< tt))
       go true e = second e (keyNamed name slots keys) refl
 
-  sound-exporting : (name : List ℕ) (key : Key) → length (key .bytes) ≤ dataMost → Sound (exportPublicKey name) (exportOf key)
+  sound-exporting : (name : List ℕ) (key : Key) → length (key .bytes) ≤ dataMost → SoundFor (exportPublicKey name) (exportOf key)
   unfolding exportOf success statusNumber
   sound-exporting name key s =
-      either (Sound (exportPublicKey name)) (key .exportAllowed)
+      either (SoundFor (exportPublicKey name)) (key .exportAllowed)
       (λ _. served refl ofExport (omega (arith, s), tt))
-      (λ _. refused (exportPublicKey name) _ (lit< tt))
+      (λ _. refused _ _ (lit< tt))
 
-  sound-export : ShortSlots slots → (name : List ℕ) → Sound (exportPublicKey name) (performExport name slots keys)
+  sound-export : ShortSlots slots → (name : List ℕ) → SoundFor (exportPublicKey name) (performExport name slots keys)
   unfolding performExport statusNumber
   sound-export short name = go (legalName keyNameMost name) refl
     where
-      second : legalName keyNameMost name ≡ true → (o : Option Source) → keyNamed name slots keys ≡ o → Sound (exportPublicKey name) (performExport name slots keys)
-      second v none e = rw (v, e, performExport) (refused (exportPublicKey name) _ (lit< tt))
+      second : legalName keyNameMost name ≡ true → (o : Option Source) → keyNamed name slots keys ≡ o → SoundFor (exportPublicKey name) (performExport name slots keys)
+      second v none e = rw (v, e, performExport) (refused _ _ (lit< tt))
       second v (some source) e = rw (v, e, performExport) (sound-counted _ source _ (sound-exporting name (keyOf source) (source-short name slots list short source e)))
 
-      go : (t : Bool) → legalName keyNameMost name ≡ t → Sound (exportPublicKey name) (performExport name slots keys)
-      go false e = rw (e, performExport) (refused (exportPublicKey name) _ (lit< tt))
+      go : (t : Bool) → legalName keyNameMost name ≡ t → SoundFor (exportPublicKey name) (performExport name slots keys)
+      go false e = rw (e, performExport) (refused _ _ (lit< tt))
       go true e = second e (keyNamed name slots keys) refl
 
   module _ (name hash signature : List ℕ) where
     abbrev SoundVerify : Result → Type 0
-    SoundVerify r = Sound (verifySignature name hash signature) r
+    SoundVerify r = SoundFor (verifySignature name hash signature) r
 
     sound-checked : (outcome : Outcome) → SoundVerify (checked outcome)
     unfolding checked success statusNumber
@@ -153,14 +159,14 @@ module _ (slots : List Entry) (list : List ℕ) where
         go false e = rw (e, performVerify) (refused _ _ (lit< tt))
         go true e = second e (keyNamed name slots keys) refl
 
-  sound-opcodes : (provider : ℕ) → Sound (listOpcodes provider) (performListOpcodes provider)
+  sound-opcodes : (provider : ℕ) → SoundFor (listOpcodes provider) (performListOpcodes provider)
   unfolding performListOpcodes success statusNumber
   sound-opcodes provider =
-      either (Sound (listOpcodes provider)) (ltb 1 provider)
-      (λ _. refused (listOpcodes provider) _ (lit< tt))
+      either (SoundFor (listOpcodes provider)) (ltb 1 provider)
+      (λ _. refused _ _ (lit< tt))
       (λ _. served refl ofListOpcodes (opcodes-fit provider, tt))
 
-  sound-perform : ShortSlots slots → (operation : Operation) → Sound operation (perform operation slots keys)
+  sound-perform : ShortSlots slots → (operation : Operation) → SoundFor operation (perform operation slots keys)
   unfolding perform success statusNumber
   sound-perform short ping = served refl ofPing (omega arith, (omega arith, tt))
   sound-perform short listProviders = served refl ofListProviders ((refl, omega arith), tt)
@@ -178,7 +184,7 @@ short-slots registry w q i = go (applicationOf registry q) refl
   where
     go : (o : Option Line) → applicationOf registry q ≡ o → ShortEntry (getD (askersSlots registry o) i free)
     go none e = tt
-    go (some line) e = slots-short registry w line (asks registry q line e .there) i
+    go (some line) e = slots-short registry w line (asks-line registry q line e .there) i
 
 -- no test's status is Success
 status-some : (registry : List ℕ) (q : Request) (status : Status) → firstOf (refusals registry q) ≡ some status → 0 < statusNumber status
@@ -187,19 +193,49 @@ status-some registry q status e =
     first-has (λ s. 0 < statusNumber s) (refusals registry q)
     (omega arith, (omega arith, (omega arith, (omega arith, (omega arith, (omega arith, (omega arith, (omega arith, (omega arith, (omega arith, tt)))))))))) status e
 
-pub result-sound : (list registry : List ℕ) → wellFormedRegistry registry ≡ true → (session : ℕ) (sender : Sender) (operation : Operation)
-    → Writable sender operation → Sound operation (resultOf list registry (requestFor session sender operation))
-unfolding resultOf operated
-result-sound list registry w session sender operation writable = go (firstOf (refusals registry q)) refl
-  where
-    q : Request
-    q = requestFor session sender operation
+-- an opcode and a body ask for an operation of that opcode
+abbrev Of : (opcode : ℕ) → Asking → Type 0
+Of opcode (asks operation) = opcodeOf operation ≡ opcode
+Of opcode (garbled at) = Unit {0}
 
+asking-of : (opcode : ℕ) (m : Message) → Of opcode (askingOf opcode m)
+unfolding askingOf
+asking-of opcode m =
+    either (Of opcode) (eqb opcode 1) (λ e. sym (eqb-true opcode 1 e))
+    (λ _. either (Of opcode) (eqb opcode 8) (λ e. sym (eqb-true opcode 8 e))
+    (λ _. either (Of opcode) (eqb opcode 9) (λ e. sym (eqb-true opcode 9 e))
+    (λ _. either (Of opcode) (eqb opcode 6) (λ e. sym (eqb-true opcode 6 e))
+    (λ _. either (Of opcode) (eqb opcode 3) (λ e. sym (eqb-true opcode 3 e))
+    (λ _. either (Of opcode) (eqb opcode 7) (λ e. sym (eqb-true opcode 7 e))
+    (λ _. either (Of opcode) (eqb opcode 5) (λ e. sym (eqb-true opcode 5 e)) (λ _. tt)))))))
+
+asked-of : (opcode : ℕ) (body : List ℕ) → Of opcode (asked protobuf opcode body)
+unfolding asked
+asked-of opcode body = go (readMessage protobuf (inputFields opcode) body)
+  where
+    go : (r : Reading) → Of opcode (askingBy opcode r)
+    go (read m) = asking-of opcode m
+    go (broken at) = tt
+
+unreadable-some : 0 < statusNumber DeserializingBodyFailed
+unfolding statusNumber
+unreadable-some = lit< tt
+
+-- of any request, whatever is in it
+pub result-sound : (list registry : List ℕ) → wellFormedRegistry registry ≡ true → (q : Request) → Sound (q .opcode) (resultOf list registry q)
+unfolding resultOf operated operationOf
+result-sound list registry w q = go (firstOf (refusals registry q)) refl
+  where
     slots : List Entry
     slots = askersSlots registry (applicationOf registry q)
 
-    go : (o : Option Status) → firstOf (refusals registry q) ≡ o → Sound operation (resultOf list registry q)
-    go (some status) e = rw (e, resultOf) (refused operation status (status-some registry q status e))
-    go none e =
-        rw (e, resultOf, read-as-written session sender operation writable .operation-read, operated)
-        (sound-perform slots list (short-slots registry w q) operation)
+    performed : (a : Asking) → Of (q .opcode) a → Sound (q .opcode) (elim (operationIn a) [
+      | none ↦ refuse DeserializingBodyFailed
+      | some operation ↦ perform operation slots (keysIn list)
+    ])
+    performed (garbled at) e = refused (q .opcode) DeserializingBodyFailed unreadable-some
+    performed (asks operation) e = subst (λ (n : ℕ). Sound n (perform operation slots (keysIn list))) e (sound-perform slots list (short-slots registry w q) operation)
+
+    go : (o : Option Status) → firstOf (refusals registry q) ≡ o → Sound (q .opcode) (resultOf list registry q)
+    go (some status) e = rw (e, resultOf) (refused (q .opcode) status (status-some registry q status e))
+    go none e = rw (e, resultOf) (performed (asked protobuf (q .opcode) (q .body)) (asked-of (q .opcode) (q .body)))

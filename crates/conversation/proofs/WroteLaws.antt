@@ -16,12 +16,7 @@ use Rattle.client_requests.specs.declared.WriteRefusal.{WriteRefusal}
 use Rattle.client_requests.specs.declared.WriteRefusal.the-variants.{BufferTooSmall}
 use Rattle.client_requests.specs.declared.Written.the-variants.{Bytes, Refused}
 use Rattle.conversation.specs.Conversation.{Ask, written}
-use Rattle.conversation.proofs.Asked.{Small, Writable}
-
--- n bytes were written, and these are the buffer's now
-pub record WroteRequest (ask : Ask) (n : ℕ) (out : List ℕ) : Type 0 where
-  pub bytes : take n out ≡ written ask
-  pub writable : Writable (ask .sender) (ask .operation)
+use Rattle.conversation.specs.Claims.{Small, Writable, WroteRequest, RequestsWritten}
 
 module _ (ask : Ask) (small : Small (ask .operation)) (before : List ℕ) where
   abbrev tests : List (Bool × WriteRefusal)
@@ -39,9 +34,9 @@ module _ (ask : Ask) (small : Small (ask .operation)) (before : List ℕ) where
     small = small;
   }
 
-  pub wrote-request : (n : ℕ) (out : List ℕ) → record { answer = Bytes n; out = out } ≡ writeOutcome before (ask .session) (ask .sender) (ask .operation) → WroteRequest ask n out
+  wrote : (n : ℕ) (out : List ℕ) → record { answer = Bytes n; out = out } ≡ writeOutcome before (ask .session) (ask .sender) (ask .operation) → WroteRequest ask n out
   unfolding writeOutcome written
-  wrote-request n out e = go (firstOf tests) refl
+  wrote n out e = go (firstOf tests) refl
     where
       go : (o : Option WriteRefusal) → firstOf tests ≡ o → WroteRequest ask n out
       go (some refusal) t =
@@ -57,3 +52,6 @@ module _ (ask : Ask) (small : Small (ask .operation)) (before : List ℕ) where
             bytes = ap₂ (λ (k : ℕ) (x : List ℕ). take k x) l (ap (λ (o : WriteOutcome). o .out) q) ∙ take-append-seam b (drop (length b) before);
             writable = writable t;
           }
+
+pub wrote-request : RequestsWritten
+wrote-request ask small before n out e = wrote ask small before n out e
