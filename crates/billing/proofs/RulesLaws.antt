@@ -24,7 +24,9 @@ use Rattle.judgement.proofs.NamesLaws.{rules-names}
 use Rattle.counters.specs.Counters.{totalsOf}
 use Rattle.service.specs.Call.{Memory, stateIn, memoryOf, layout, fresh, Call}
 use Rattle.service.proofs.Demand3.{lawful}
-use Rattle.service.proofs.CodeDemand3.{Ran, Runs, answersIn, leftAfter, code-demand3}
+use Rattle.service.specs.Contract.{Ran}
+use Rattle.service.specs.Claims.{Runs, answersIn, leftAfter}
+use Rattle.service.proofs.CodeDemand3.{code-demand3}
 use Rattle.billing.specs.Bill.{billOf, requestsOn, billFor}
 use Rattle.billing.specs.Outcome.{usedNames, billIn}
 use Rattle.billing.proofs.RequestLaws.{bill-requests}

@@ -9,7 +9,9 @@ use Rattle.registry.specs.WellFormed.{wellFormedRegistry}
 use Rattle.judgement.specs.Counts.{noCounts}
 use Rattle.judgement.specs.Judgement.{judgement}
 use Rattle.service.specs.Call.{Call, fresh, responsesIn}
-use Rattle.service.proofs.CodeDemand3.{Ran, Runs, answersIn, code-demand3}
+use Rattle.service.specs.Contract.{Ran}
+use Rattle.service.specs.Claims.{Runs, answersIn}
+use Rattle.service.proofs.CodeDemand3.{code-demand3}
 use Rattle.conversation.specs.Conversation.{askedBy, repliesInTurn}
 use Rattle.conversation.specs.Claims.{AllSent}
 use Rattle.conversation.proofs.HeardLaws.{requests-framed, AllHeard, all-heard}

@@ -4,7 +4,8 @@ use Prim.Native.Nat.{ℕ}
 use mathlib.Core.Path.{_≡_, refl, sym, ap, subst, _∙_}
 use mathlib.Core.List.{List, [], _∷_}
 use Rattle.service.specs.Call.{CallOutcome}
-use Rattle.service.proofs.CodeDemand3.{Ran, leftBy, answerIn, answersIn}
+use Rattle.service.specs.Contract.{Ran, answerIn}
+use Rattle.service.specs.Claims.{answersIn}
 use Rattle.isolation.specs.History.{Host, left, freshWith, CallOn, History, historyOf, exchanges}
 use Rattle.isolation.specs.Isolated.{SameRequests, Isolated, AllOpenAlone, AllOne, AllLast, Unread}
 use Rattle.isolation.specs.Claims.{Runs, leftAfter, ranFrom, CodeIsolation}
@@ -21,7 +22,7 @@ ran list (c ∷ calls) h [] p = absurd p
 ran list (c ∷ calls) h (r ∷ rest) (e, p) =
     ap (λ (o : CallOutcome). (let after : History = historyOf list (left h (c .connection) (o .memory)) calls in
     let x : History = record { answers = o .answer ∷ after .answers; host = after .host } in x)) (sym e)
-    ∙ ap (λ (o : History). (let x : History = record { answers = answerIn r ∷ o .answers; host = o .host } in x)) (ran list calls (left h (c .connection) (leftBy r)) rest p)
+    ∙ ap (λ (o : History). (let x : History = record { answers = answerIn r ∷ o .answers; host = o .host } in x)) (ran list calls (left h (c .connection) (r .memory)) rest p)
 
 -- ---- the claim
 

@@ -27,7 +27,6 @@ use Rattle.judgement.proofs.VerdictLaws.{verdict-some}
 use Rattle.counters.specs.Counters.{totalsOf, countersOf}
 use Rattle.counters.specs.declared.Counters.{Counters}
 use Rattle.service.specs.Call.{Memory, stateIn, memoryOf, withResponse, layout, Call, CallOutcome, refusalOf, callOutcome}
-use Rattle.service.specs.declared.Refusal.{Refusal}
 use Rattle.service.specs.code.Served.{effectOf}
 use Rattle.service.proofs.CallLaws.{passed, refused-outcome, taken-outcome}
 use Rattle.isolation.specs.History.{Host, with, lent, left, freshWith, CallOn, historyOf, Exchange, exchangesFrom, exchanges, requests}
@@ -75,7 +74,7 @@ module _ (list : List ℕ) where
     unfolding layout withResponse written stateIn
     happened stands = go (refusalOf list m call) refl
       where
-        go : (o : Option Refusal) → refusalOf list m call ≡ o → Happened list m w call (callOutcome list m call)
+        go : (o : Option ℕ) → refusalOf list m call ≡ o → Happened list m w call (callOutcome list m call)
         go (some code) e = rw (refused-outcome list m call code e) (subst (Stands (connectionOf (m .connection))) (sym (append-nil w)) stands, refl, refl)
         go none e =
             let f = effectOf list m (call .chunk) in
@@ -88,7 +87,7 @@ module _ (list : List ℕ) where
   unfolding layout withResponse written stateIn memoryOf totalsOf countersOf
   closed-unread m call e = go (refusalOf list m call) refl
     where
-      go : (o : Option Refusal) → refusalOf list m call ≡ o → Unread m (callOutcome list m call .answer .given .count) (callOutcome list m call .memory)
+      go : (o : Option ℕ) → refusalOf list m call ≡ o → Unread m (callOutcome list m call .answer .given .count) (callOutcome list m call .memory)
       go (some code) q =
           rw (refused-outcome list m call code q)
           (record { nothing-written = refl; still-closed = e; same-registry = refl; same-counts = refl; same-answered = refl })
@@ -238,7 +237,7 @@ module _ (list : List ℕ) where
   idle-from [] h w bad = refl
   idle-from (t ∷ calls) h w bad = go (refusalOf list (lent h (t .connection)) (t .call)) refl (idle-from calls)
     where
-      go : (o : Option Refusal) → refusalOf list (lent h (t .connection)) (t .call) ≡ o
+      go : (o : Option ℕ) → refusalOf list (lent h (t .connection)) (t .call) ≡ o
           → ((h : Host) (w : ℕ → List ℕ) → wellFormedRegistry (h .registry) ≡ false → exchangesFrom w calls (historyOf list h calls .answers) ≡ [])
           → exchangesFrom w (t ∷ calls) (historyOf list h (t ∷ calls) .answers) ≡ []
       go none e ih = absurd (true≢false (sym (passed list (lent h (t .connection)) (t .call) e .ready .registry-good) ∙ bad))

@@ -1,5 +1,5 @@
--- What is claimed of the code (document 02, "One application can't sway another"): any histories of calls of `service::call::call` on
--- many connections, each step being the contract of that function (`CallContract`, which its `ensures` cites).
+-- What is claimed of the code (document 02, "One application can't sway another"): any histories of calls on many
+-- connections, of whatever code meets the contract of a call (`CallContract`).
 use Prim.Native.Nat.{ℕ}
 use mathlib.Core.Path.{_≡_}
 use mathlib.Core.List.{List, [], _∷_}
@@ -8,7 +8,8 @@ use Rattle.connection.specs.Connection.{connectionOf}
 use Rattle.registry.specs.declared.Line.{Line}
 use Rattle.counters.specs.declared.Counters.{Counters}
 use Rattle.service.specs.Call.{Memory, Call}
-use Rattle.service.proofs.CodeDemand3.{Ran, leftBy, Contract, answersIn}
+use Rattle.service.specs.Contract.{Ran, CallContract}
+use Rattle.service.specs.Claims.{answersIn}
 use Rattle.isolation.specs.History.{Host, lent, left, freshWith, CallOn, History, exchanges}
 use Rattle.isolation.specs.Isolated.{EachLine, Alike, SameRequests, Isolated, AllOpenAlone, AllOne, Unread, AllLast}
 
@@ -19,12 +20,12 @@ abbrev pub Runs : (list : List ℕ) → Host → List CallOn → List Ran → Ty
 Runs list h [] [] = Unit {0}
 Runs list h [] (r ∷ rest) = ⊥
 Runs list h (c ∷ calls) [] = ⊥
-Runs list h (c ∷ calls) (r ∷ rest) = Contract list (lent h (c .connection)) (c .call) r × Runs list (left h (c .connection) (leftBy r)) calls rest
+Runs list h (c ∷ calls) (r ∷ rest) = CallContract list (lent h (c .connection)) (c .call) r × Runs list (left h (c .connection) (r .memory)) calls rest
 
 abbrev pub leftAfter : Host → List CallOn → List Ran → Host
 leftAfter h [] runs = h
 leftAfter h (c ∷ calls) [] = h
-leftAfter h (c ∷ calls) (r ∷ rest) = leftAfter (left h (c .connection) (leftBy r)) calls rest
+leftAfter h (c ∷ calls) (r ∷ rest) = leftAfter (left h (c .connection) (r .memory)) calls rest
 
 -- what they said and left
 abbrev pub ranFrom : (registry : List ℕ) → Counters → List CallOn → List Ran → History
@@ -50,5 +51,5 @@ pub record CodeIsolation : Type 0 where
   pub closing-last : (list registry : List ℕ) (counters : Counters) (calls : List CallOn) (runs : List Ran)
       → Runs list (freshWith registry counters) calls runs → AllLast (exchanges calls (answersIn runs))
   -- a call on a closed connection reads nothing
-  pub closed-unread : (list : List ℕ) (m : Memory) (call : Call) (r : Ran) → Contract list m call r
-      → connectionOf (m .connection) ≡ closed → Unread m (r .says .written) (leftBy r)
+  pub closed-unread : (list : List ℕ) (m : Memory) (call : Call) (r : Ran) → CallContract list m call r
+      → connectionOf (m .connection) ≡ closed → Unread m (r .written) (r .memory)

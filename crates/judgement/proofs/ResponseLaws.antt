@@ -27,15 +27,11 @@ use Rattle.lookup.specs.Lookup.{keyOf}
 use Rattle.judgement.specs.Status.{statusNumber}
 use Rattle.judgement.specs.Operations.{success, refuse}
 use Rattle.judgement.specs.Counts.{Counts}
-use Rattle.judgement.specs.Judgement.{applicationOf, askersSlots, resultOf, verdictOf, refusedEarly, judgement}
+use Rattle.judgement.specs.Judgement.{applicationOf, askersSlots, resultOf, verdictOf, refusedEarly, longestResponse, judgement}
 use Rattle.judgement.specs.declared.Status.{Status}
 use Rattle.judgement.proofs.SourceLaws.{source-short}
 use Rattle.judgement.proofs.Results.{served-output, by-result}
 use Rattle.judgement.proofs.JudgementLaws.{asks, judge-good}
-
--- the longest response
-abbrev pub responseMost : ℕ
-responseMost = 629
 
 abbrev bodyMost : ℕ
 bodyMost = 3 + dataMost
@@ -72,34 +68,34 @@ output-short list r w q = by-result list r q (λ x. length (outputBytes protobuf
 
 -- ---- one response
 
-early-short : (r : List ℕ) (c : Counts) (p s o : ℕ) (status : Status) → length (refusedEarly r c p s o status .response) ≤ responseMost
+early-short : (r : List ℕ) (c : Counts) (p s o : ℕ) (status : Status) → length (refusedEarly r c p s o status .response) ≤ longestResponse
 unfolding refusedEarly
 early-short r c p s o status = omega (arith, response-length p s o (statusNumber status) [])
 
-pub bad-short : (list r : List ℕ) (c : Counts) → length (judgement list .onBadStart r c .response) ≤ responseMost
+pub bad-short : (list r : List ℕ) (c : Counts) → length (judgement list .onBadStart r c .response) ≤ longestResponse
 unfolding judgement
 bad-short list r c = early-short r c 0 0 0 _
 
-pub oversized-short : (list r : List ℕ) (c : Counts) (header : List ℕ) → length (judgement list .onOversized r c header .response) ≤ responseMost
+pub oversized-short : (list r : List ℕ) (c : Counts) (header : List ℕ) → length (judgement list .onOversized r c header .response) ≤ longestResponse
 unfolding judgement
 oversized-short list r c header = early-short r c _ _ _ _
 
-pub judge-short : (list r : List ℕ) (c : Counts) (request : List ℕ) → wellFormedRegistry r ≡ true → length (judge (judgement list) r c request .response) ≤ responseMost
+pub judge-short : (list r : List ℕ) (c : Counts) (request : List ℕ) → wellFormedRegistry r ≡ true → length (judge (judgement list) r c request .response) ≤ longestResponse
 unfolding judge judgement verdictOf
 judge-short list r c request w =
     let q : Request = requestOf request in
     let l = response-length (q .provider) (q .session) (q .opcode) (statusNumber (resultOf list r q .status)) (outputBytes protobuf (resultOf list r q .output)) in
     let s = output-short list r w q in
-    either (λ (v : Verdict (List ℕ) Counts (List ℕ)). length (v .response) ≤ responseMost) (oversized request)
+    either (λ (v : Verdict (List ℕ) Counts (List ℕ)). length (v .response) ≤ longestResponse) (oversized request)
     (λ _. early-short r c _ _ _ _) (λ _. omega arith)
 
 -- ---- all responses that the rules give
 
 abbrev pub AllShort : List (List ℕ) → Type 0
 AllShort [] = Unit {0}
-AllShort (x ∷ xs) = (length x ≤ responseMost) × AllShort xs
+AllShort (x ∷ xs) = (length x ≤ longestResponse) × AllShort xs
 
-short-join : (xs : List (List ℕ)) (x : List ℕ) → AllShort xs → length x ≤ responseMost → AllShort (xs ++ (x ∷ []))
+short-join : (xs : List (List ℕ)) (x : List ℕ) → AllShort xs → length x ≤ longestResponse → AllShort (xs ++ (x ∷ []))
 short-join [] x a h = (h, tt)
 short-join (y ∷ xs) x a h = (a .0, short-join xs x (a .1) h)
 

@@ -82,6 +82,10 @@ verdictOf registry counts q r = record {
   counts = count counts (applicationOf registry q) (r .status);
 }
 
+-- "The longest response has 629 bytes"
+abbrev pub longestResponse : ℕ
+longestResponse = 629
+
 unfoldable pub judgement : (list : List ℕ) → Judgement (List ℕ) Counts (List ℕ)
 judgement list = record {
   noCounts = noCounts;

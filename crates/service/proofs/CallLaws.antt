@@ -1,6 +1,6 @@
 -- What every call keeps to, whatever it is lent: it is refused exactly in the six cases, a refused one alters nothing, an
 -- empty chunk alters nothing, at most 629 bytes are written, and the response buffer keeps its length.
-use mathlib.Core.Path.{_≡_, refl, _∙_}
+use mathlib.Core.Path.{_≡_, refl, sym, ap, subst, _∙_}
 use mathlib.Core.Bool.{true}
 use mathlib.Core.Option.{Option, none, some, map-eq-none-iff}
 use mathlib.Core.List.{List, []}
@@ -13,7 +13,7 @@ use Rattle.wire.proofs.TestLaws.{some≢none, none-at}
 use Rattle.stream.specs.Rules.{State}
 use Rattle.reading.specs.Call.{callRule}
 use Rattle.reading.specs.Calls.{refused, took, callOn}
-use Rattle.reading.specs.Buffer.{written}
+use Rattle.reading.specs.Buffer.{Written, written}
 use Rattle.reading.proofs.BufferLaws.{same-length}
 use Rattle.stream.specs.Call.{reader}
 use Rattle.stream.proofs.ResponseLaws.{IfSome, Every, call-every}
@@ -22,10 +22,12 @@ use Rattle.connection.proofs.ConnectionLaws.{store-load}
 use Rattle.registry.specs.WellFormed.{wellFormedRegistry}
 use Rattle.shipped.specs.Shipped.{wellFormedList}
 use Rattle.judgement.specs.Counts.{Counts}
-use Rattle.judgement.specs.Judgement.{refusedEarly, judgement}
-use Rattle.judgement.proofs.ResponseLaws.{responseMost, bad-short, oversized-short, judge-short}
+use Rattle.judgement.specs.Judgement.{refusedEarly, longestResponse, judgement}
+use Rattle.judgement.proofs.ResponseLaws.{bad-short, oversized-short, judge-short}
 use Rattle.counters.specs.Counters.{totalsOf, countersOf, zeroCounters, counterMost, largestCounter}
 use Rattle.service.specs.Call.{Memory, stateIn, memoryOf, withResponse, layout, Call, CallOutcome, fresh, bufferLeast, refusalTests, refusalOf, callOutcome}
+use Rattle.service.specs.Contract.{Ran, CallContract}
+use Rattle.service.specs.Claims.{Still, Demand1}
 use Rattle.service.specs.code.Served.{Ready, effectOf}
 use Rattle.service.specs.Refusals.{refusalNumber}
 use Rattle.service.specs.declared.Refusal.the-variants.{ResponseBufferTooSmall, ChunkTooLong, ConnectionIllFormed, RegistryIllFormed, CounterTooHigh, ListIllFormed}
@@ -40,7 +42,7 @@ abbrev Good : (registry : List ℕ) → Type 0
 Good registry = wellFormedRegistry registry ≡ true
 
 abbrev Short : (response : List ℕ) → Type 0
-Short response = length response ≤ responseMost
+Short response = length response ≤ longestResponse
 
 every-short : (list : List ℕ) → Every (judgement list) Good Short
 unfolding judgement refusedEarly
@@ -90,9 +92,9 @@ module _ (list : List ℕ) (m : Memory) (call : Call) where
   taken-outcome e = rw (e, callOn)
 
   -- at most 629 bytes are written, and the buffer keeps its length
-  pub record Fits (o : CallOutcome) : Type 0 where
-    pub written : o .answer .given .count ≤ responseMost
-    pub buffer-length : length (o .answer .given .buffer) ≡ length (call .lent)
+  record Fits (o : CallOutcome) : Type 0 where
+    written : o .answer .given .count ≤ longestResponse
+    buffer-length : length (o .answer .given .buffer) ≡ length (call .lent)
 
   took-fits : (n : ℕ) (o : Option (List ℕ)) (l : Memory) → IfSome Short o → bufferLeast ≤ length (call .lent) → Fits (record { answer = took layout n o call; memory = l })
   unfolding layout withResponse written
@@ -118,22 +120,13 @@ module _ (list : List ℕ) (m : Memory) (call : Call) where
       go (some code) e = rw (refused-outcome code e)
       go none e = rw (taken-outcome e)
 
-  -- a refused call takes nothing, writes nothing and alters nothing
-  pub record Refused (code : ℕ) (o : CallOutcome) : Type 0 where
-    pub answer : o .answer ≡ record { refusal = some code; taken = 0; given = record { count = 0; buffer = call .lent } }
-    pub memory : o .memory ≡ m
-
-  pub refused-stays : (code : ℕ) → refusalOf list m call ≡ some code → Refused code (callOutcome list m call)
-  unfolding layout withResponse written
-  refused-stays code e = rw (refused-outcome code e) (record { answer = refl; memory = refl })
-
 -- an empty chunk alters nothing, whether the call is refused or not
-pub record Idle (m : Memory) (buffer : List ℕ) (o : CallOutcome) : Type 0 where
-  pub taken : o .answer .taken ≡ 0
-  pub stays : o .answer .given ≡ record { count = 0; buffer = buffer }
-  pub memory-stays : o .memory ≡ m
+record Idle (m : Memory) (buffer : List ℕ) (o : CallOutcome) : Type 0 where
+  taken : o .answer .taken ≡ 0
+  stays : o .answer .given ≡ record { count = 0; buffer = buffer }
+  memory-stays : o .memory ≡ m
 
-pub empty-idle : (list : List ℕ) (m : Memory) (buffer : List ℕ) → Idle m buffer (callOutcome list m (record { chunk = []; lent = buffer }))
+empty-idle : (list : List ℕ) (m : Memory) (buffer : List ℕ) → Idle m buffer (callOutcome list m (record { chunk = []; lent = buffer }))
 unfolding layout withResponse written callRule stateIn memoryOf countersOf totalsOf
 empty-idle list m buffer = go (refusalOf list m call) refl
   where
@@ -150,6 +143,41 @@ empty-idle list m buffer = go (refusalOf list m call) refl
           stays = refl;
           memory-stays = λ i. record { connection = store-load (m .connection) (t .ready .connection-good) i; registry = m .registry; counters = m .counters };
         })
+
+-- ---- DEMAND 1 OF THE CODE
+
+module _ (list : List ℕ) (m : Memory) (call : Call) (r : Ran) (e : CallContract list m call r) where
+  still : callOutcome list m call .answer .taken ≡ 0 → callOutcome list m call .answer .given ≡ record { count = 0; buffer = call .lent }
+      → callOutcome list m call .memory ≡ m → Still m call r
+  still taken given memory = record {
+    taken = ap (λ (o : CallOutcome). o .answer .taken) e ∙ taken;
+    written = ap (λ (o : CallOutcome). o .answer .given .count) e ∙ ap (λ (w : Written). w .count) given;
+    memory = ap (λ (o : CallOutcome). o .memory) e ∙ memory;
+    response = ap (λ (o : CallOutcome). o .answer .given .buffer) e ∙ ap (λ (w : Written). w .buffer) given;
+  }
+
+  when-refused : (code : ℕ) → refusalOf list m call ≡ some code → Still m call r
+  unfolding layout withResponse written
+  when-refused code q =
+      let o = refused-outcome list m call code q in
+      still (ap (λ (x : CallOutcome). x .answer .taken) o) (ap (λ (x : CallOutcome). x .answer .given) o) (ap (λ (x : CallOutcome). x .memory) o)
+
+  when-empty : call .chunk ≡ [] → Still m call r
+  when-empty q =
+      let i : Idle m (call .lent) (callOutcome list m call)
+      = subst (λ (chunk : List ℕ). Idle m (call .lent) (callOutcome list m (record { chunk = chunk; lent = call .lent }))) (sym q) (empty-idle list m (call .lent)) in
+      still (i .taken) (i .stays) (i .memory-stays)
+
+pub each-call : Demand1
+each-call list m call r e =
+    let fits = call-fits list m call in
+    record {
+      refused-exactly = ap (λ (o : CallOutcome). o .answer .refusal) e ∙ refused-exactly list m call;
+      refused-still = when-refused list m call r e;
+      empty-still = when-empty list m call r e;
+      short = subst (λ (o : CallOutcome). o .answer .given .count ≤ longestResponse) (sym e) (fits .written);
+      kept-length = subst (λ (o : CallOutcome). length (o .answer .given .buffer) ≡ length (call .lent)) (sym e) (fits .buffer-length);
+    }
 
 -- ---- the counters that demand 3 starts from are those that cleared counters are
 

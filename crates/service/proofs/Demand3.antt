@@ -1,5 +1,5 @@
--- DEMAND 3, as one claim, at document 01's judgement and on memory as the code has it. The list of keys that we ship is a fixed
--- input: the same in all calls.
+-- Demand 3 of the definition's calls, at document 01's judgement and on memory as the code has it. The list of keys that we ship
+-- is a fixed input: the same in all calls.
 use mathlib.Core.Path.{_≡_, ap, _∙_}
 use mathlib.Core.Bool.{true}
 use mathlib.Core.Option.{none}
@@ -10,22 +10,22 @@ use borrow.Author.Tests.{le-ltb}
 use lib.ListN.{length}
 use Rattle.wire.specs.Choice.{firstOf}
 use Rattle.wire.proofs.TestLaws.{either}
-use Rattle.reading.specs.Calls.{takenStream, handOver, answersBy}
+use Rattle.reading.specs.Calls.{takenStream, handOver}
 use Rattle.reading.specs.Buffer.{bytesOf, asOne}
 use Rattle.reading.specs.Claims.{Finds}
 use Rattle.reading.proofs.CallsLaws.{said-each}
 use Rattle.reading.proofs.BufferLaws.{bytes-of, as-one, as-none}
 use Rattle.stream.specs.Frame.{oversized}
-use Rattle.stream.specs.Rules.{heldBytes, State, judge, rules}
+use Rattle.stream.specs.Rules.{State, judge, rules}
 use Rattle.stream.specs.Call as stream
-use Rattle.stream.specs.Call.{reader, byRules}
-use Rattle.stream.specs.Parts.{joined, partsOf, responsesTo}
+use Rattle.stream.specs.Call.{reader}
+use Rattle.stream.specs.Parts.{partsOf, responsesTo}
+use Rattle.stream.specs.Claims.{within, TakenWhole}
 use Rattle.stream.proofs.PartsLaws.{one-each}
 use Rattle.stream.proofs.ResponseLaws.{Answers, Every, Anything, NotEmpty, every-event}
 use Rattle.stream.proofs.KeptLaws.{rules-connection, rules-kept}
 use Rattle.stream.proofs.CallsLaws.{Lawful, follows-rules}
-use Rattle.stream.proofs.DeliveryLaws.{within, TakenWhole, delivered}
-use Rattle.connection.specs.Connection.{connectionOf}
+use Rattle.stream.proofs.DeliveryLaws.{delivered}
 use Rattle.connection.proofs.ConnectionLaws.{load-store, stored-good}
 use Rattle.registry.specs.WellFormed.{wellFormedRegistry}
 use Rattle.shipped.specs.Shipped.{wellFormedList}
@@ -34,7 +34,8 @@ use Rattle.judgement.specs.Judgement.{refusedEarly, verdictOf, judgement}
 use Rattle.judgement.proofs.ResponseLaws.{response-some}
 use Rattle.counters.specs.Counters.{totalsOf, countersOf, zeroCounters, counterMost, largestCount, largestCounter}
 use Rattle.counters.proofs.RequestLaws.{rules-requests}
-use Rattle.service.specs.Call.{Memory, stateIn, memoryOf, withResponse, layout, Call, CallsOutcome, fresh, bufferLeast, chunkMost, refusalTests, refusalOf, callsOutcome, joinedResponses, responsesIn}
+use Rattle.service.specs.Call.{Memory, stateIn, memoryOf, withResponse, layout, Call, CallsOutcome, fresh, bufferLeast, chunkMost, refusalTests, refusalOf, callsOutcome, responsesIn}
+use Rattle.service.specs.Claims.{FollowsRules}
 use Rattle.service.proofs.KeptLaws.{keeps}
 
 -- ---- memory
@@ -104,29 +105,6 @@ unfolding memoryOf totalsOf countersOf
 requests-stored list registry stream = rules-requests list registry stream
 
 -- ---- the claim
-
--- what a list of calls did, against the rules on the joined stream of taken bytes, uncut
-pub record FollowsRules (list registry : List ℕ) (calls : List Call) (o : CallsOutcome) : Type 0 where
-  -- each call answers as the rules say: refused with its code, or so many bytes taken and that response written
-  pub answers : o .answers ≡ answersBy (byRules (judgement list) registry) layout (refusalOf list) [] calls
-  -- the joined responses are theirs
-  pub responses : joinedResponses (o .answers) ≡ flatten (rules (judgement list) registry (takenStream calls (o .answers)) .responses)
-  -- and so are connection, registry and counters
-  pub memory : o .memory ≡ memoryOf (rules (judgement list) registry (takenStream calls (o .answers)) .state)
-  -- bytes taken are the stream's length: bytes of answered requests, of the unfinished one, and dropped after closing
-  pub taken : o .memory .counters .taken ≡ length (takenStream calls (o .answers))
-  pub accounted : o .memory .counters .taken
-      ≡ o .memory .counters .answered + heldBytes (connectionOf (o .memory .connection)) + o .memory .counters .dropped
-  -- each counted from the stream itself: it is its parts joined, which framing alone tells, and these are their lengths
-  pub parts : takenStream calls (o .answers) ≡ joined (partsOf (takenStream calls (o .answers)))
-  pub answered : o .memory .counters .answered ≡ length (flatten (partsOf (takenStream calls (o .answers)) .answered))
-  pub held : heldBytes (connectionOf (o .memory .connection)) ≡ length (partsOf (takenStream calls (o .answers)) .held)
-  pub dropped : o .memory .counters .dropped ≡ length (partsOf (takenStream calls (o .answers)) .dropped)
-  -- the responses that the calls wrote: one for each answered request, in their order
-  pub each : responsesIn (o .answers) ≡ responsesTo (judgement list) registry (partsOf (takenStream calls (o .answers)) .answered)
-  pub oneEach : length (responsesIn (o .answers)) ≡ length (partsOf (takenStream calls (o .answers)) .answered)
-  -- served for all lines, served with auth type 0 and refused for all statuses: each answered request is counted once
-  pub requests : requestsIn (totalsOf (o .memory .counters) .counts) ≡ length (partsOf (takenStream calls (o .answers)) .answered)
 
 -- from a fresh connection, zero counters and this registry, with this list
 pub record Demand3 (list registry : List ℕ) : Type 0 where

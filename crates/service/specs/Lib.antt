@@ -1,4 +1,5 @@
 pub mod Refusals
 pub mod Call
 pub mod Contract
+pub mod Claims
 pub mod code

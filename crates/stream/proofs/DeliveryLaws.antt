@@ -1,7 +1,7 @@
 -- LIVENESS: a stream handed over chunk by chunk, what is left of a chunk again, is taken whole and no call is refused.
 use mathlib.Core.Path.{_≡_, sym, ap, ap₂, _∙_, subst}
 use Prim.Native.Nat.{ℕ, _+_, _≤_}
-use mathlib.Core.Bool.{Bool, true, _&&_}
+use mathlib.Core.Bool.{true, _&&_}
 use mathlib.Core.Option.{Option, none}
 use mathlib.Core.List.{List, [], _∷_, _++_, flatten}
 use native.Mathlib.Omega.{arith}
@@ -9,25 +9,16 @@ use borrow.Author.Tests.{le-leb, leb-true}
 use lib.ListN.{length, take, drop, length-append, length-drop, take-append-drop}
 use lib.Seq.{take-length}
 use lib.Dec.{leb}
-use Rattle.wire.specs.Lists.{all}
 use Rattle.wire.proofs.TestLaws.{and-left, and-right}
 use Rattle.reading.specs.Reader.{Reading, read}
-use Rattle.reading.specs.Calls.{Call, Layout, CallsOutcome, callsOn, leaving, handOver, takenStream}
-use Rattle.reading.specs.Claims.{noneRefused, enough}
+use Rattle.reading.specs.Calls.{Call, Layout, callsOn, leaving, handOver}
+use Rattle.reading.specs.Claims.{enough}
 use Rattle.reading.proofs.DeliveryLaws.{flatten-leaving, unrefused, delivered as delivered-reading}
 use Rattle.stream.specs.Rules.{Judgement, State, rules}
 use Rattle.stream.specs.Call.{reader, fresh, byRules}
+use Rattle.stream.specs.Claims.{within, TakenWhole}
 use Rattle.stream.proofs.CallLaws.{rules-read}
 use Rattle.stream.proofs.CallsLaws.{Lawful, loads-back}
-
--- every chunk has at most so many bytes
-abbrev pub within : (most : ℕ) → List (List ℕ) → Bool
-within most chunks = all (λ chunk. leb (length chunk) most) chunks
-
--- what a caller did that hands over what is left of a chunk again
-pub record TakenWhole {Memory Lent Code Given : Type 0} (chunks : List (List ℕ)) (calls : List (Call Lent)) (o : CallsOutcome Memory Code Given) : Type 0 where
-  pub neverRefused : noneRefused (o .answers) ≡ true
-  pub whole : takenStream calls (o .answers) ≡ flatten chunks
 
 -- no chunk is too long, nor is what is seen and left
 record Fine (streamMost chunkMost : ℕ) (seen : List ℕ) (chunks : List (List ℕ)) : Type 0 where

@@ -2,4 +2,5 @@ pub mod Frame
 pub mod Rules
 pub mod Call
 pub mod Parts
+pub mod Claims
 pub mod code

@@ -25,7 +25,9 @@ use Rattle.judgement.specs.Judgement.{refusedEarly, verdictOf, judgement}
 use Rattle.judgement.proofs.VerdictLaws.{verdict-kept}
 use Rattle.counters.proofs.RequestLaws.{sum-increment}
 use Rattle.service.specs.Call.{Memory, memoryOf, fresh, Call}
-use Rattle.service.proofs.CodeDemand3.{Ran, Runs, answersIn, leftAfter, code-demand3}
+use Rattle.service.specs.Contract.{Ran}
+use Rattle.service.specs.Claims.{Runs, answersIn, leftAfter}
+use Rattle.service.proofs.CodeDemand3.{code-demand3}
 use Rattle.uses.specs.Uses.{isUse, destroysKey, registryAfter, countIf}
 use Rattle.uses.proofs.RequestLaws.{Step, stays, adds, request-step}
 

@@ -6,7 +6,7 @@ use borrow.Author.Needs.{needs}
 use lib.ListN.{length, take, drop}
 use Rattle.wire.proofs.BufferLaws.{lent}
 use Rattle.service.specs.Call.{CallOutcome, callOutcome}
-use Rattle.service.specs.Contract.{lentMemory, callWith, outcomeWith}
+use Rattle.service.specs.Contract.{lentMemory, callWith, codeNumber, ranWith, outcomeIn}
 use Rattle.counters.specs.declared.Counters.{Counters}
 use Rattle.starting.specs.code.Stream.{Takes}
 use Rattle.starting.proofs.FeedLaws.{takes-none, takes-all, takes-more, takes-fits}
@@ -26,7 +26,7 @@ abbrev outcome : (c : tie.After-call-by-value Inv-loop μ-loop) → CallOutcome
 outcome c =
     let call = c .call-by-value in
     let r = call .result in
-    outcomeWith (r .code) (r .taken) (r .written) (lentMemory (call .last .1 .0) (call .last .1 .1 .0) (r .counters)) (call .last .1 .1 .1 .1 .1 .0)
+    outcomeIn (ranWith (codeNumber (r .code)) (r .taken) (r .written) (lentMemory (call .last .1 .0) (call .last .1 .1 .0) (r .counters)) (call .last .1 .1 .1 .1 .1 .0))
 
 called : (c : tie.After-call-by-value Inv-loop μ-loop)
     → (let l = c .before .before .before .before .before .before .loop in
