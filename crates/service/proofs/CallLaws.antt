@@ -101,7 +101,7 @@ module _ (list : List ℕ) (m : Memory) (call : Call) where
   took-fits n none l s h = record { written = omega arith; buffer-length = refl }
   took-fits n (some r) l s h = record { written = s; buffer-length = same-length r (call .lent) (omega arith) }
 
-  pub call-fits : Fits (callOutcome list m call)
+  call-fits : Fits (callOutcome list m call)
   unfolding layout withResponse written stateIn
   call-fits = go (refusalOf list m call) refl
     where
@@ -113,7 +113,7 @@ module _ (list : List ℕ) (m : Memory) (call : Call) where
           rw (taken-outcome e) (took-fits (f .taken) (f .event) _ (call-short list (stateIn m) (t .ready .registry-good) (call .chunk)) (t .ready .buffer-good))
 
   -- a call says the first case that applies, if one does
-  pub refused-exactly : callOutcome list m call .answer .refusal ≡ refusalOf list m call
+  refused-exactly : callOutcome list m call .answer .refusal ≡ refusalOf list m call
   refused-exactly = go (refusalOf list m call) refl
     where
       go : (o : Option ℕ) → refusalOf list m call ≡ o → callOutcome list m call .answer .refusal ≡ o
