@@ -1,4 +1,4 @@
--- Laws of a slot's bytes: a key written is read as itself, and a key that Import allows is a well-formed slot.
+-- Laws of a slot's bytes: a key written is read as itself, and a key that a registry may hold is a well-formed slot.
 use mathlib.Core.Path.{_≡_, refl, sym, ap, _∙_}
 use mathlib.Core.Bool.{Bool, true, false, or-true, or-false}
 use mathlib.Core.List.{List, [], _∷_, _++_, append-assoc, append-nil}

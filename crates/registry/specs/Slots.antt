@@ -97,7 +97,7 @@ used uses = if ltb uses usesMost then uses + 1 else uses
 unfoldable pub usedSlot : List ℕ → List ℕ
 usedSlot slot = put slot usesAt (littleEndianOf 4 (used (usesIn slot)))
 
--- ---- well formed: all zero, or a key that Import allows, flags of 0 or 1, unused bytes zero, and any count
+-- ---- well formed: all zero, or a key that a registry may hold, flags of 0 or 1, unused bytes zero, and any count
 
 -- the bytes behind a name for which there are `most`
 abbrev pub behindName : (most : ℕ) → List ℕ → List ℕ

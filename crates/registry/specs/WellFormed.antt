@@ -44,7 +44,7 @@ registryTests registry =
     ∷ all legalIfUsed (namesIn registry)  -- with legal,
     ∷ distinct (namesIn registry)  -- distinct names;
     ∷ all freeIfUnused (linesIn registry)  -- slots of unused lines are free;
-    ∷ all slotsWellFormed (linesIn registry)  -- each slot is all zero or holds what Import allows, its unused bytes zero;
+    ∷ all slotsWellFormed (linesIn registry)  -- each slot is all zero or holds a key that a registry may hold, its unused bytes zero;
     ∷ all zerosBehindName (linesIn registry)  -- and so are those behind an application's name;
     ∷ all keysDistinct (linesIn registry)  -- no line holds one name twice
     ∷ []
