@@ -8,6 +8,7 @@ mod call;
 mod client;
 mod connection;
 mod counters;
+mod crc;
 mod list;
 mod opcode;
 mod operation;
@@ -30,6 +31,7 @@ pub use client::{
 };
 pub use connection::{connection_is_well_formed, open_connection, CONNECTION_SIZE};
 pub use counters::Counters;
+pub use crc::crc32;
 pub use list::{list_is_well_formed, MOST_LISTED_KEYS};
 pub use opcode::{CoreOpcode, KeystoreOpcode, Opcode, Provider};
 pub use operation::LONGEST_RESPONSE;
