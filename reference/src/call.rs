@@ -1,5 +1,6 @@
-//! One call: the six refusals, then bytes taken until one response or to the chunk's end.
-//! Document 01, "When a call is not taken"; document 02, "Keys we ship", for the sixth.
+//! One call: the seven refusals, then bytes taken until one response or to the chunk's end.
+//! Document 01, "When a call is not taken"; document 02, "Keys we ship", for the sixth, and "Surviving
+//! a power cut", for the seventh and for the record.
 
 use crate::connection::{self, State};
 use crate::counters::Counters;
@@ -9,12 +10,14 @@ use crate::service::{self, Answer, Caller, Verdict};
 use crate::wire::{header_length, start_is_good, Header, START_LENGTH};
 
 pub const MIN_RESPONSE_BUFFER: usize = 1_024;
+/// For the record of any one call.
+pub const MIN_JOURNAL_BUFFER: usize = 1_024;
 /// A chunk is what document 01 calls a piece.
 pub const MAX_CHUNK: usize = 65_536;
 /// For each counter by itself; a counter of just this is not too high.
 const HIGHEST_COUNTER: u64 = 1 << 62;
 
-/// Why a call is not taken; `number` gives the digit of C1 to C6.
+/// Why a call is not taken; `number` gives the digit of C1 to C7.
 #[derive(Clone, Copy, Debug, PartialEq, Eq)]
 #[repr(u8)]
 pub enum Refusal {
@@ -24,6 +27,7 @@ pub enum Refusal {
     RegistryIllFormed = 4,
     CounterTooHigh = 5,
     ListIllFormed = 6,
+    JournalBufferTooSmall = 7,
 }
 
 impl Refusal {
@@ -32,15 +36,16 @@ impl Refusal {
     }
 }
 
-/// How many bytes of the chunk a call took, and how many bytes of response it wrote.
+/// How many bytes of the chunk a call took, how many of a response it wrote, and how many of a record.
 #[derive(Clone, Copy, Debug, PartialEq, Eq)]
 pub struct Taken {
     pub taken: usize,
     pub written: usize,
+    /// 0 but for a served import or destroy.
+    pub recorded: usize,
 }
 
-/// Takes bytes of `chunk` until one response is written or to its end; a refused call changes
-/// nothing. Bytes of `response` past the response stay.
+/// `call_with_journal` for a caller that keeps no journal.
 pub fn call(
     chunk: &[u8],
     connection: &mut [u8],
@@ -49,13 +54,33 @@ pub fn call(
     counters: &mut Counters,
     response: &mut [u8],
 ) -> Result<Taken, Refusal> {
-    let state = judge_call(chunk, connection, registry, list, counters, response)?;
+    let journal = &mut [0; MIN_JOURNAL_BUFFER];
+    call_with_journal(
+        chunk, connection, registry, list, counters, response, journal,
+    )
+}
+
+/// Takes bytes of `chunk` until one response is written or to its end; a refused call changes
+/// nothing. Bytes of `response` past the response stay, and those of `journal` past the record.
+pub fn call_with_journal(
+    chunk: &[u8],
+    connection: &mut [u8],
+    registry: &mut [u8],
+    list: &[u8],
+    counters: &mut Counters,
+    response: &mut [u8],
+    journal: &mut [u8],
+) -> Result<Taken, Refusal> {
+    let state = judge_call(
+        chunk, connection, registry, list, counters, response, journal,
+    )?;
     let mut lent = Lent {
         connection,
         registry,
         list,
         counters,
         response,
+        journal,
     };
     let taken = match state {
         State::Open { held: 0 } => lent.begin(chunk),
@@ -75,6 +100,7 @@ fn judge_call(
     list: &[u8],
     counters: &Counters,
     response: &[u8],
+    journal: &[u8],
 ) -> Result<State, Refusal> {
     if response.len() < MIN_RESPONSE_BUFFER {
         return Err(Refusal::ResponseBufferTooSmall);
@@ -91,6 +117,9 @@ fn judge_call(
     }
     if !list_is_well_formed(list) {
         return Err(Refusal::ListIllFormed);
+    }
+    if journal.len() < MIN_JOURNAL_BUFFER {
+        return Err(Refusal::JournalBufferTooSmall);
     }
     Ok(state)
 }
@@ -134,6 +163,7 @@ struct Lent<'a> {
     list: &'a [u8],
     counters: &'a mut Counters,
     response: &'a mut [u8],
+    journal: &'a mut [u8],
 }
 
 impl Lent<'_> {
@@ -147,9 +177,13 @@ impl Lent<'_> {
             Frame::BadStart => self.refuse_start(START_LENGTH),
             Frame::Oversized(header) => self.begin_oversized(&header, chunk),
             Frame::Whole(length) => {
-                let request = &chunk[..length];
-                let answer =
-                    service::answer_whole(request, self.registry, self.list, self.response);
+                let answer = service::answer_whole(
+                    &chunk[..length],
+                    self.registry,
+                    self.list,
+                    self.response,
+                    self.journal,
+                );
                 self.count(length as u64, answer, length)
             }
         }
@@ -187,7 +221,7 @@ impl Lent<'_> {
                     let skipped = self.skip(to_go, rest);
                     return Taken {
                         taken: taken + skipped.taken,
-                        written: skipped.written,
+                        ..skipped
                     };
                 }
                 Frame::Whole(length) => return self.answer_held(length, taken),
@@ -197,7 +231,13 @@ impl Lent<'_> {
 
     fn answer_held(&mut self, length: usize, taken: usize) -> Taken {
         let request = connection::held_bytes(self.connection, length);
-        let answer = service::answer_whole(request, self.registry, self.list, self.response);
+        let answer = service::answer_whole(
+            request,
+            self.registry,
+            self.list,
+            self.response,
+            self.journal,
+        );
         connection::reset(self.connection);
         self.count(length as u64, answer, taken)
     }
@@ -243,6 +283,7 @@ impl Lent<'_> {
         Taken {
             taken,
             written: answer.written,
+            recorded: answer.recorded,
         }
     }
 }
@@ -251,5 +292,6 @@ fn all_taken(chunk: &[u8]) -> Taken {
     Taken {
         taken: chunk.len(),
         written: 0,
+        recorded: 0,
     }
 }

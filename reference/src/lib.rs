@@ -9,6 +9,7 @@ mod client;
 mod connection;
 mod counters;
 mod crc;
+mod journal;
 mod list;
 mod opcode;
 mod operation;
@@ -23,7 +24,9 @@ mod status;
 mod wire;
 
 pub use bill::{bill, bill_from_reader, bill_text};
-pub use call::{call, Refusal, Taken, MAX_CHUNK, MIN_RESPONSE_BUFFER};
+pub use call::{
+    call, call_with_journal, Refusal, Taken, MAX_CHUNK, MIN_JOURNAL_BUFFER, MIN_RESPONSE_BUFFER,
+};
 pub use client::{
     client_begin, client_read, read_response, write_request, IllFormed, Operation, Output,
     ReadAnswer, ReadRefusal, Reader, Reading, WriteRefusal, WrongSize, CLIENT_SIZE,
@@ -32,6 +35,7 @@ pub use client::{
 pub use connection::{connection_is_well_formed, open_connection, CONNECTION_SIZE};
 pub use counters::Counters;
 pub use crc::crc32;
+pub use journal::LONGEST_RECORD;
 pub use list::{list_is_well_formed, MOST_LISTED_KEYS};
 pub use opcode::{CoreOpcode, KeystoreOpcode, Opcode, Provider};
 pub use operation::LONGEST_RESPONSE;

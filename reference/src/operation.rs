@@ -1,7 +1,7 @@
 //! The seven operations: what each reads from its body, does and writes.
 //! Document 01, "Operations and their fields"; document 02, "Unlisted fields" (a field that is not
-//! listed, or has another wire type, is skipped), "Checking signatures", "Keys we ship" and "Use per
-//! key".
+//! listed, or has another wire type, is skipped), "Checking signatures", "Keys we ship", "Use per key"
+//! and "Surviving a power cut".
 
 use crate::list::find_listed_key;
 use crate::opcode::{CoreOpcode, KeystoreOpcode, Provider};
@@ -49,31 +49,73 @@ fn opcode_numbers(provider: Provider) -> Vec<u32> {
     }
 }
 
-/// Writes the response's body to `out` and says how long it is; a refusal changes nothing.
-pub fn perform_keystore(
+/// What an import or a destroy changes, as it lies in the request or in the journal.
+#[derive(Clone, Copy, Debug, PartialEq, Eq)]
+pub enum Change<'a> {
+    Import(Key<'a>),
+    /// The key of this name.
+    Destroy(&'a [u8]),
+}
+
+/// The length of the response's body, and what the journal is to have; uses are no change.
+#[derive(Clone, Copy, Debug, PartialEq, Eq)]
+pub struct Performed<'a> {
+    pub body_length: usize,
+    pub change: Option<Change<'a>>,
+}
+
+impl Performed<'_> {
+    pub fn without_change(body_length: usize) -> Self {
+        Performed {
+            body_length,
+            change: None,
+        }
+    }
+}
+
+/// Writes the response's body to `out`; a refusal changes nothing.
+pub fn perform_keystore<'a>(
     opcode: KeystoreOpcode,
     line: Line,
-    body: &[u8],
+    body: &'a [u8],
     registry: &mut [u8],
     list: &[u8],
     out: &mut [u8],
-) -> Result<usize, Status> {
-    match opcode {
-        KeystoreOpcode::Import => import(registry, list, line, &read_key_input(body)?),
-        KeystoreOpcode::Destroy => destroy(registry, list, line, read_name(body)?),
+) -> Result<Performed<'a>, Status> {
+    let change = match opcode {
+        KeystoreOpcode::Import => Change::Import(read_key_input(body)?),
+        KeystoreOpcode::Destroy => Change::Destroy(read_name(body)?),
         KeystoreOpcode::Export => {
             let source = find_key(registry, list, line, read_name(body)?)?;
             let written = export(&source, out)?;
             count_use(source.own_slot(), line, registry);
-            Ok(written)
+            return Ok(Performed::without_change(written));
         }
         KeystoreOpcode::Verify => {
             let input = read_verify_input(body)?;
             let source = find_key(registry, list, line, input.name)?;
             let written = verify(&source, &input)?;
             count_use(source.own_slot(), line, registry);
-            Ok(written)
+            return Ok(Performed::without_change(written));
         }
+    };
+    make_change(registry, list, line, &change)?;
+    Ok(Performed {
+        body_length: 0,
+        change: Some(change),
+    })
+}
+
+/// Import or Destroy by its own rules; a refusal changes nothing.
+fn make_change(
+    registry: &mut [u8],
+    list: &[u8],
+    line: Line,
+    change: &Change,
+) -> Result<(), Status> {
+    match change {
+        Change::Import(key) => import(registry, list, line, key),
+        Change::Destroy(name) => destroy(registry, list, line, name),
     }
 }
 
@@ -118,7 +160,7 @@ fn find_key<'a>(
 }
 
 /// Bounds of name, data and bits, then a name that is held or listed, then a full line.
-fn import(registry: &mut [u8], list: &[u8], line: Line, key: &Key) -> Result<usize, Status> {
+fn import(registry: &mut [u8], list: &[u8], line: Line, key: &Key) -> Result<(), Status> {
     if !key.is_allowed() {
         return Err(Status::PsaErrorInvalidArgument);
     }
@@ -129,16 +171,16 @@ fn import(registry: &mut [u8], list: &[u8], line: Line, key: &Key) -> Result<usi
     let slot =
         registry::find_free_slot(registry, line).ok_or(Status::PsaErrorInsufficientStorage)?;
     registry::write_key(registry, line, slot, key);
-    Ok(0)
+    Ok(())
 }
 
 /// A listed key stays, unless the application holds its own of that name: then its own goes.
-fn destroy(registry: &mut [u8], list: &[u8], line: Line, name: &[u8]) -> Result<usize, Status> {
+fn destroy(registry: &mut [u8], list: &[u8], line: Line, name: &[u8]) -> Result<(), Status> {
     let Source::Own(slot, _) = find_key(registry, list, line, name)? else {
         return Err(Status::PsaErrorNotPermitted);
     };
     registry::free_slot(registry, line, slot);
-    Ok(0)
+    Ok(())
 }
 
 fn export(source: &Source, out: &mut [u8]) -> Result<usize, Status> {

@@ -7,10 +7,10 @@ use crate::bytes::{is_zero, read_u16, read_u32, write_at};
 pub const REGISTRY_SIZE: usize = LINES * LINE_SIZE;
 pub const LINES: usize = 8;
 pub const LONGEST_APPLICATION_NAME: usize = 64;
+pub const LONGEST_KEY_NAME: usize = 32;
 pub const LONGEST_DATA: usize = 600;
 
 const SLOTS: usize = 8;
-const LONGEST_KEY_NAME: usize = 32;
 
 // A line: its name field, then its slots. A name field is a length byte, the name, then zeros.
 const LINE_SIZE: usize = SLOTS_AT + SLOTS * SLOT_SIZE;

@@ -1,17 +1,19 @@
 //! The rules fed the start registry and the uncut stream, and nothing that `call` keeps.
 //! Document 01, "A whole stream under the rules"; the four cases stand in the paper's order. Document
-//! 02, "Keys we ship", has the list as one more fixed input.
+//! 02, "Keys we ship", has the list as one more fixed input, and "Surviving a power cut" the records.
 
 use crate::connection;
 use crate::counters::Counters;
 use crate::service::{answer_bad_start, answer_oversized, answer_whole, Answer, Caller, Verdict};
 use crate::wire::{header_length, start_is_good, Header, START_LENGTH};
-use crate::{CONNECTION_SIZE, LONGEST_RESPONSE};
+use crate::{CONNECTION_SIZE, LONGEST_RECORD, LONGEST_RESPONSE};
 
 /// What the rules make of a whole stream.
 #[derive(Clone, Debug, PartialEq, Eq)]
 pub struct Outcome {
     pub responses: Vec<Vec<u8>>,
+    /// One for each served import and destroy.
+    pub records: Vec<Vec<u8>>,
     pub registry: Vec<u8>,
     pub counters: Counters,
     pub connection: ConnectionState,
@@ -83,6 +85,7 @@ pub fn run_with_list(registry: &[u8], list: &[u8], stream: &[u8]) -> Outcome {
 fn begin(registry: &[u8], taken: u64) -> Outcome {
     Outcome {
         responses: Vec::new(),
+        records: Vec::new(),
         registry: registry.to_vec(),
         counters: Counters {
             taken,
@@ -130,11 +133,16 @@ fn close(outcome: &mut Outcome, dropped: u64) {
 
 fn answer(outcome: &mut Outcome, list: &[u8], header: &Header, request: &[u8]) {
     let mut response = [0; LONGEST_RESPONSE];
+    let mut record = [0; LONGEST_RECORD];
     let answer = if header.is_oversized() {
         answer_oversized(header, &mut response)
     } else {
-        answer_whole(request, &mut outcome.registry, list, &mut response)
+        let registry = &mut outcome.registry;
+        answer_whole(request, registry, list, &mut response, &mut record)
     };
+    if answer.recorded > 0 {
+        outcome.records.push(record[..answer.recorded].to_vec());
+    }
     join(outcome, request.len() as u64, answer, &response);
 }
 

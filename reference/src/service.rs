@@ -1,8 +1,10 @@
-//! The judgement of one request and the writing of its response.
-//! Document 01, "Order of judgement on one request".
+//! The judgement of one request and the writing of its response and of its record.
+//! Document 01, "Order of judgement on one request"; document 02, "Surviving a power cut", for the
+//! record.
 
+use crate::journal::write_record;
 use crate::opcode::{Opcode, Provider};
-use crate::operation::{perform_core, perform_keystore};
+use crate::operation::{perform_core, perform_keystore, Performed};
 use crate::registry::{find_application, Line};
 use crate::status::Status;
 use crate::wire::{
@@ -24,11 +26,13 @@ pub enum Verdict {
     Refused(Status),
 }
 
-/// The verdict on a request and how many bytes of response were written.
+/// The verdict on a request, how many bytes of response were written, and how many of a record.
 #[derive(Clone, Copy, Debug, PartialEq, Eq)]
 pub struct Answer {
     pub verdict: Verdict,
     pub written: usize,
+    /// 0 for none.
+    pub recorded: usize,
 }
 
 /// Test 1: wrong magic or H; provider, session and opcode are zero.
@@ -52,18 +56,29 @@ pub fn answer_whole(
     registry: &mut [u8],
     list: &[u8],
     response: &mut [u8],
+    journal: &mut [u8],
 ) -> Answer {
     let header = Header::read(request);
     let body_out = &mut response[RESPONSE_HEADER_LENGTH..];
     match judge(&header, &request[header.length..], registry, list, body_out) {
-        Ok((caller, body_length)) => {
+        Ok((caller, performed)) => {
+            let body_length = performed.body_length;
             write_response_header(response, header.echo(), Status::Success, body_length);
             Answer {
                 verdict: Verdict::Served(caller),
                 written: RESPONSE_HEADER_LENGTH + body_length,
+                recorded: record(caller, &performed, journal),
             }
         }
         Err(status) => refuse(status, header.echo(), response),
+    }
+}
+
+/// The record's length; where there is none, 0, and the journal's buffer stays.
+fn record(caller: Caller, performed: &Performed, journal: &mut [u8]) -> usize {
+    match (caller, &performed.change) {
+        (Caller::Application(line), Some(change)) => write_record(journal, line, change),
+        _ => 0,
     }
 }
 
@@ -72,28 +87,31 @@ fn refuse(status: Status, echo: Echo, response: &mut [u8]) -> Answer {
     Answer {
         verdict: Verdict::Refused(status),
         written: RESPONSE_HEADER_LENGTH,
+        recorded: 0,
     }
 }
 
-/// The caller served and the length of the body written, or the first status that applies.
-fn judge(
+/// The caller served and what was performed, or the first status that applies.
+fn judge<'a>(
     header: &Header,
-    payload: &[u8],
+    payload: &'a [u8],
     registry: &mut [u8],
     list: &[u8],
     body_out: &mut [u8],
-) -> Result<(Caller, usize), Status> {
+) -> Result<(Caller, Performed<'a>), Status> {
     let opcode = judge_header(header)?;
     let (body, auth) = payload.split_at(header.content_length as usize);
     let caller = authenticate(header.auth_type, auth, registry)?;
-    let body_length = match (opcode, caller) {
-        (Opcode::Core(opcode), _) => perform_core(opcode, body, body_out)?,
+    let performed = match (opcode, caller) {
+        (Opcode::Core(opcode), _) => {
+            Performed::without_change(perform_core(opcode, body, body_out)?)
+        }
         (Opcode::Keystore(_), Caller::Unauthenticated) => return Err(Status::NotAuthenticated),
         (Opcode::Keystore(opcode), Caller::Application(line)) => {
             perform_keystore(opcode, line, body, registry, list, body_out)?
         }
     };
-    Ok((caller, body_length))
+    Ok((caller, performed))
 }
 
 fn judge_header(header: &Header) -> Result<Opcode, Status> {

@@ -22,6 +22,7 @@ fn an_empty_chunk_is_taken_and_alters_nothing() {
         let nothing = Taken {
             taken: 0,
             written: 0,
+            recorded: 0,
         };
         assert_eq!(service.call(&[]), Ok(nothing));
         assert_eq!(service, before);
@@ -35,6 +36,7 @@ fn a_call_takes_bytes_until_it_has_written_one_response() {
     let first = Taken {
         taken: 28,
         written: 28,
+        recorded: 0,
     };
     assert_eq!(service.call(&two), Ok(first));
     assert_eq!(service.counters.taken, 28);
@@ -52,6 +54,7 @@ fn a_call_that_ends_a_held_request_takes_only_its_bytes() {
     let taken = Taken {
         taken: 8,
         written: 28,
+        recorded: 0,
     };
     assert_eq!(service.call(&rest), Ok(taken));
     assert_eq!(service.response[..28], PING_RESPONSE);
@@ -65,6 +68,7 @@ fn a_call_that_closes_takes_up_to_the_sixth_byte() {
         let taken = Taken {
             taken: 6 - held,
             written: 26,
+            recorded: 0,
         };
         assert_eq!(service.call(&[0xFF; 100]), Ok(taken));
         assert_eq!(service.connection, closed());
@@ -80,6 +84,7 @@ fn a_closed_connection_takes_and_drops_all() {
     let taken = Taken {
         taken: 28,
         written: 0,
+        recorded: 0,
     };
     assert_eq!(service.call(&PING_REQUEST), Ok(taken));
     let expected = Counters {
@@ -151,6 +156,7 @@ fn an_oversized_request_is_answered_within_one_chunk() {
     let taken = Taken {
         taken: request.len(),
         written: 26,
+        recorded: 0,
     };
     assert_eq!(service.call(&stream), Ok(taken));
     assert_eq!(service.connection, open_holding(&[]));

@@ -1,9 +1,11 @@
 //! Any cut against the uncut rules, on generated rosters, lists and streams.
-//! Document 01, "A whole stream under the rules"; document 02, "Keys we ship" and "Use per key".
+//! Document 01, "A whole stream under the rules"; document 02, "Keys we ship", "Use per key" and
+//! "Surviving a power cut".
 
 mod common;
 
 use common::generate::{filling, list, names, requests, Random};
+use common::journal::{places, DESTROY_TAG, IMPORT_TAG};
 use common::listed::{self, Asked, MOST_USES};
 use common::*;
 use reference::rules::{self, ConnectionState, Outcome};
@@ -96,11 +98,6 @@ impl Case {
     }
 }
 
-/// Every slot, ascending by line, then slot.
-fn places() -> impl Iterator<Item = (usize, usize)> {
-    (0..LINES).flat_map(|line| (0..SLOTS).map(move |slot| (line, slot)))
-}
-
 fn same<T: PartialEq + Debug>(what: &str, call: T, rules: T) -> Result<(), String> {
     if call == rules {
         Ok(())
@@ -159,15 +156,19 @@ fn check(case: &Case) -> Result<Outcome, String> {
     let stream = case.requests.concat();
     let registry = case.service().registry;
     let expected = rules::run_with_list(&registry, &case.list, &stream);
-    let mut responses = Vec::new();
+    let (mut responses, mut records) = (Vec::new(), Vec::new());
     let service = hand_over(case, &stream, |service, chunk, _| {
         let taken = service.call(chunk).map_err(|code| format!("{code:?}"))?;
         if taken.written > 0 {
             responses.push(service.response[..taken.written].to_vec());
         }
+        if taken.recorded > 0 {
+            records.push(service.journal[..taken.recorded].to_vec());
+        }
         Ok(taken)
     })?;
     same("responses", &responses, &expected.responses)?;
+    same("records", &records, &expected.records)?;
     same_memory("registry", &service.registry, &expected.registry)?;
     same("counters", &service.counters, &expected.counters)?;
     let connection = expected.connection.to_memory();
@@ -192,6 +193,10 @@ fn check_every_call(case: &Case) -> Result<Outcome, String> {
             let response = service.response[..taken.written].to_vec();
             same("response", Some(&response), now.responses.last())?;
         }
+        if taken.recorded > 0 {
+            let record = service.journal[..taken.recorded].to_vec();
+            same("record", Some(&record), now.records.last())?;
+        }
         same_memory("registry", &service.registry, &now.registry)?;
         same("counters", &service.counters, &now.counters)?;
         let connection = now.connection.to_memory();
@@ -205,27 +210,36 @@ fn check_every_call(case: &Case) -> Result<Outcome, String> {
 fn expected_of_call(prefixes: &[Outcome]) -> Taken {
     let before = prefixes[0].responses.len();
     let answered = |outcome: &Outcome| outcome.responses.len() > before;
-    match prefixes.iter().position(answered) {
-        Some(taken) => Taken {
-            taken,
-            written: prefixes[taken].responses[before].len(),
-        },
-        None => Taken {
-            taken: prefixes.len() - 1,
-            written: 0,
-        },
+    let place = prefixes.iter().position(answered);
+    let taken = place.unwrap_or(prefixes.len() - 1);
+    let now = &prefixes[taken];
+    Taken {
+        taken,
+        written: now.responses.get(before).map_or(0, Vec::len),
+        recorded: now
+            .records
+            .get(prefixes[0].records.len())
+            .map_or(0, Vec::len),
     }
 }
 
 fn check_refused_call(service: &mut Service, chunk: &[u8]) -> Result<(), String> {
     let before = service.clone();
     service.response.truncate(1_023);
-    let refused = service.call(chunk);
+    let first = service.call(chunk);
     service.response.push(before.response[1_023]);
+    service.journal.truncate(1_023);
+    let last = service.call(chunk);
+    service.journal.push(before.journal[1_023]);
     same(
-        "refused call",
-        refused,
+        "small response buffer",
+        first,
         Err(Refusal::ResponseBufferTooSmall),
+    )?;
+    same(
+        "small journal buffer",
+        last,
+        Err(Refusal::JournalBufferTooSmall),
     )?;
     same("after a refused call", service == &before, true)
 }
@@ -268,6 +282,7 @@ struct Reached {
     statuses: BTreeSet<u16>,
     connections: BTreeSet<&'static str>,
     flags: BTreeSet<[u8; 2]>,
+    tags: BTreeSet<u8>,
 }
 
 impl Reached {
@@ -276,6 +291,8 @@ impl Reached {
         for response in &outcome.responses {
             self.statuses.insert(Response::read(response).status);
         }
+        self.tags
+            .extend(outcome.records.iter().map(|record| record[0]));
         self.connections.insert(match &outcome.connection {
             ConnectionState::Open(held) if held.is_empty() => "fresh",
             ConnectionState::Open(_) => "open",
@@ -297,6 +314,7 @@ impl Reached {
         assert_eq!(self.connections, connections);
         let flags = [[0, 0], [0, 1], [1, 0], [1, 1]].into();
         assert_eq!(self.flags, flags);
+        assert_eq!(self.tags, [IMPORT_TAG, DESTROY_TAG].into());
     }
 }
 

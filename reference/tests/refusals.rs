@@ -1,6 +1,6 @@
 //! Every refused call with nothing changed, their order, and every ill-formed memory.
 //! Document 01, "When a call is not taken" and "Roster, registry, connection, tally"; document 02, "Keys
-//! we ship", whose bad lists listed_keys.rs has.
+//! we ship", whose bad lists listed_keys.rs has, and "Surviving a power cut".
 
 mod common;
 
@@ -11,7 +11,7 @@ use reference::{
 };
 
 #[test]
-fn refusals_are_numbered_from_1_to_6() {
+fn refusals_are_numbered_from_1_to_7() {
     let refusals = [
         Refusal::ResponseBufferTooSmall,
         Refusal::ChunkTooLong,
@@ -19,8 +19,9 @@ fn refusals_are_numbered_from_1_to_6() {
         Refusal::RegistryIllFormed,
         Refusal::CounterTooHigh,
         Refusal::ListIllFormed,
+        Refusal::JournalBufferTooSmall,
     ];
-    assert_eq!(refusals.map(Refusal::number), [1, 2, 3, 4, 5, 6]);
+    assert_eq!(refusals.map(Refusal::number), [1, 2, 3, 4, 5, 6, 7]);
 }
 
 #[test]
@@ -74,8 +75,14 @@ fn every_counter_at_2_to_the_62_is_taken() {
 
 // The order: each service has the fault of its name and every later one.
 
+fn with_small_journal_buffer() -> Service {
+    let mut service = Service::new();
+    service.journal = vec![0x55; 1_023];
+    service
+}
+
 fn with_bad_list() -> Service {
-    Service::new().with_list(&lists::record(1, b"a"))
+    with_small_journal_buffer().with_list(&lists::record(1, b"a"))
 }
 
 fn with_high_counter() -> Service {
@@ -125,6 +132,16 @@ fn c5_comes_before_c6() {
 }
 
 #[test]
+fn c6_comes_before_c7() {
+    with_bad_list().expect_refusal(&PING_REQUEST, Refusal::ListIllFormed);
+}
+
+#[test]
+fn c7_comes_last() {
+    with_small_journal_buffer().expect_refusal(&PING_REQUEST, Refusal::JournalBufferTooSmall);
+}
+
+#[test]
 fn a_bad_list_is_c6_whatever_the_connection_and_the_chunk() {
     for connection in [open_holding(&PING_REQUEST[..9]), closed()] {
         let mut service = with_bad_list();
@@ -141,6 +158,7 @@ fn an_empty_chunk_is_refused_like_any_other() {
     with_ill_formed_registry().expect_refusal(&[], Refusal::RegistryIllFormed);
     with_high_counter().expect_refusal(&[], Refusal::CounterTooHigh);
     with_bad_list().expect_refusal(&[], Refusal::ListIllFormed);
+    with_small_journal_buffer().expect_refusal(&[], Refusal::JournalBufferTooSmall);
 }
 
 // C3.

@@ -1,12 +1,13 @@
 //! Builders of requests, bodies, rosters and lent memory, and a service to hand them to.
 //! Document 01, "Bytes on the wire", "Operations and their fields" and the layout in docs/; document
-//! 02, "Checking signatures", "Keys we ship" and "Use per key".
+//! 02, "Checking signatures", "Keys we ship", "Use per key" and "Surviving a power cut".
 
 // Every test crate compiles this file and uses some of it.
 #![allow(dead_code)]
 
 pub mod client;
 pub mod generate;
+pub mod journal;
 #[path = "../../../tests/src/listed.rs"]
 pub mod listed;
 #[path = "../../../tests/src/lists.rs"]
@@ -15,8 +16,8 @@ pub mod lists;
 pub mod vectors;
 
 use reference::{
-    call, load_roster, Counters, Refusal, Status, Taken, CONNECTION_SIZE, MAX_CHUNK,
-    MIN_RESPONSE_BUFFER, REGISTRY_SIZE,
+    call_with_journal, load_roster, Counters, Refusal, Status, Taken, CONNECTION_SIZE, MAX_CHUNK,
+    MIN_JOURNAL_BUFFER, MIN_RESPONSE_BUFFER, REGISTRY_SIZE,
 };
 
 pub const MAGIC: [u8; 4] = [0x10, 0xA7, 0xC0, 0x5E];
@@ -378,6 +379,7 @@ pub struct Service {
     pub list: Vec<u8>,
     pub counters: Counters,
     pub response: Vec<u8>,
+    pub journal: Vec<u8>,
 }
 
 impl Service {
@@ -395,6 +397,7 @@ impl Service {
             list: Vec::new(),
             counters: Counters::default(),
             response: vec![0x55; MIN_RESPONSE_BUFFER],
+            journal: vec![0x55; MIN_JOURNAL_BUFFER],
         }
     }
 
@@ -416,13 +419,14 @@ impl Service {
     }
 
     pub fn call(&mut self, chunk: &[u8]) -> Result<Taken, Refusal> {
-        call(
+        call_with_journal(
             chunk,
             &mut self.connection,
             &mut self.registry,
             &self.list,
             &mut self.counters,
             &mut self.response,
+            &mut self.journal,
         )
     }
 
