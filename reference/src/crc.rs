@@ -4,7 +4,10 @@
 const POLYNOMIAL: u32 = 0xEDB8_8320;
 
 /// The register before the first byte.
-const FRESH_REGISTER: u32 = u32::MAX;
+pub const FRESH_REGISTER: u32 = u32::MAX;
+
+/// The register behind bytes and their own CRC; behind any other four bytes it is another.
+pub const RESIDUE: u32 = 0xDEBB_20E3;
 
 /// Made by the compiler from the bitwise rule, so that a long journal is read in good time.
 static TABLE: [u32; 256] = {
@@ -22,7 +25,7 @@ pub fn crc32(bytes: &[u8]) -> u32 {
 }
 
 /// The register after these bytes more.
-fn register_after(register: u32, bytes: &[u8]) -> u32 {
+pub fn register_after(register: u32, bytes: &[u8]) -> u32 {
     bytes.iter().fold(register, |register, &byte| {
         TABLE[usize::from(register as u8 ^ byte)] ^ register >> 8
     })

@@ -35,7 +35,10 @@ pub use client::{
 pub use connection::{connection_is_well_formed, open_connection, CONNECTION_SIZE};
 pub use counters::Counters;
 pub use crc::crc32;
-pub use journal::LONGEST_RECORD;
+pub use journal::{
+    journal_begin, journal_read, journal_state_is_well_formed, read_journal, JournalAnswer,
+    JournalFault, JournalRefusal, Restored, JOURNAL_STATE_SIZE, LONGEST_JOURNAL, LONGEST_RECORD,
+};
 pub use list::{list_is_well_formed, MOST_LISTED_KEYS};
 pub use opcode::{CoreOpcode, KeystoreOpcode, Opcode, Provider};
 pub use operation::LONGEST_RESPONSE;

@@ -107,7 +107,7 @@ pub fn perform_keystore<'a>(
 }
 
 /// Import or Destroy by its own rules; a refusal changes nothing.
-fn make_change(
+pub fn make_change(
     registry: &mut [u8],
     list: &[u8],
     line: Line,

@@ -202,6 +202,13 @@ pub fn find_application(registry: &[u8], name: &[u8]) -> Option<Line> {
     Line::all().find(|&line| application_name(registry, line) == name)
 }
 
+/// The line of this number, if it is in use.
+pub fn find_used_line(registry: &[u8], number: u8) -> Option<Line> {
+    Line::all()
+        .nth(number.into())
+        .filter(|&line| !application_name(registry, line).is_empty())
+}
+
 /// The slot of this application that holds a key of this legal name, wherever free slots lie.
 pub fn find_key(registry: &[u8], line: Line, name: &[u8]) -> Option<Slot> {
     Slot::all().find(|&slot| name_in(slot_bytes(registry, line, slot)) == name)

@@ -1,17 +1,20 @@
-//! One record of the journal: tag, length of the value, value, CRC-32 over these three.
+//! One record of the journal, written and carried out: tag, length of the value, value, CRC-32 over
+//! these three.
 //! Document 02, "Surviving a power cut"; the layout is the one set down in docs/.
 
-use crate::bytes::write_at;
+use crate::bytes::{read_u16, write_at};
 use crate::crc::crc32;
-use crate::operation::Change;
-use crate::registry::{Key, Line, LONGEST_DATA, LONGEST_KEY_NAME};
+use crate::operation::{make_change, Change};
+use crate::records::Record;
+use crate::registry::{find_used_line, Key, Line, LONGEST_DATA, LONGEST_KEY_NAME};
 
 /// The import of the longest name and data.
 pub const LONGEST_RECORD: usize = HEAD_LENGTH + LONGEST_VALUE + CRC_LENGTH;
 
-const HEAD_LENGTH: usize = 3;
-const CRC_LENGTH: usize = 4;
-const LONGEST_VALUE: usize = NAME_AT + LONGEST_KEY_NAME + LONGEST_DATA;
+/// Tag and length.
+pub const HEAD_LENGTH: usize = 3;
+pub const CRC_LENGTH: usize = 4;
+pub const LONGEST_VALUE: usize = NAME_AT + LONGEST_KEY_NAME + LONGEST_DATA;
 
 const IMPORT_TAG: u8 = 2;
 const DESTROY_TAG: u8 = 3;
@@ -25,6 +28,24 @@ const NAME_AT: usize = 6;
 
 // A destroy's value has the line and then the name.
 const DESTROYED_NAME_AT: usize = 1;
+
+/// Why a journal is refused; `number` gives the digit of J1 to J3.
+#[derive(Clone, Copy, Debug, PartialEq, Eq)]
+#[repr(u8)]
+pub enum JournalFault {
+    WrongCrc = 1,
+    WrongLayout = 2,
+    /// The line is not in use, or Import or Destroy would refuse the change.
+    RefusedChange = 3,
+}
+
+impl JournalFault {
+    pub const ALL: [JournalFault; 3] = [Self::WrongCrc, Self::WrongLayout, Self::RefusedChange];
+
+    pub fn number(self) -> u8 {
+        self as u8
+    }
+}
 
 /// Writes the record of a change that was served to the start of `out`, says how long it is and
 /// leaves the bytes past it alone.
@@ -59,4 +80,39 @@ fn write_key(value: &mut [u8], key: &Key) -> usize {
 fn write_name(value: &mut [u8], name: &[u8]) -> usize {
     write_at(value, DESTROYED_NAME_AT, name);
     DESTROYED_NAME_AT + name.len()
+}
+
+/// J2 and J3, in this order, of a record whose CRC is right; a faulty one leaves the registry alone.
+pub fn carry_out(record: &Record, registry: &mut [u8]) -> Result<(), JournalFault> {
+    let (line, change) = read_value(record).ok_or(JournalFault::WrongLayout)?;
+    let line = find_used_line(registry, line).ok_or(JournalFault::RefusedChange)?;
+    // The list of shipped keys is left aside.
+    make_change(registry, &[], line, &change).map_err(|_| JournalFault::RefusedChange)
+}
+
+/// The number of the line and the change, unless the layout is another.
+fn read_value<'a>(record: &Record<'a>) -> Option<(u8, Change<'a>)> {
+    let value = record.value;
+    let &line = value.first().filter(|_| value.len() <= LONGEST_VALUE)?;
+    match record.tag {
+        IMPORT_TAG => Some((line, Change::Import(read_key(value)?))),
+        DESTROY_TAG => Some((line, Change::Destroy(&value[DESTROYED_NAME_AT..]))),
+        _ => None,
+    }
+}
+
+fn read_key(value: &[u8]) -> Option<Key<'_>> {
+    let (fixed, rest) = value.split_at_checked(NAME_AT)?;
+    let (name, data) = rest.split_at_checked(fixed[NAME_LENGTH_AT].into())?;
+    Some(Key {
+        name,
+        data,
+        bits: read_u16(fixed, BITS_AT).into(),
+        export_allowed: read_flag(fixed[EXPORT_ALLOWED_AT])?,
+        verify_allowed: read_flag(fixed[VERIFY_ALLOWED_AT])?,
+    })
+}
+
+fn read_flag(byte: u8) -> Option<bool> {
+    (byte <= 1).then_some(byte == 1)
 }
