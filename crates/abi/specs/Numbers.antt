@@ -33,7 +33,7 @@ abbrev pub openedWith : Opening → ℕ × List ℕ
 openedWith o = (openedNumber (o .answer), o .memory)
 
 abbrev pub numbered : CallAnswer → Answer
-numbered a = record { code = codeNumber (a .code); taken = a .taken; written = a .written }
+numbered a = record { code = codeNumber (a .code); taken = a .taken; written = a .written; recorded = a .recorded }
 
 unfoldable pub billedNumber : Billed → ℕ
 billedNumber (Written written) = 0

@@ -21,12 +21,15 @@ ghost use Rattle.service.specs.Contract.{lentMemory, callWith, codeNumber, ranW
 ghost use Rattle.billing.specs.Outcome.{billOutcome};
 ghost use Rattle.abi.specs.Numbers.{loadedWith, openedWith, numbered, billNumbered, billedWith};
 
+pub mod restoring;
+
 // What a call says: 0 if it was taken, else the C number; how many bytes of the chunk it took, and how many it wrote.
 #[repr(C)]
 pub struct Answer {
     pub code: u32,
     pub taken: usize,
     pub written: usize,
+    pub recorded: usize,
 }
 
 // What writing a bill says: 0 if it was written, else why not; and how many bytes it has, 0 where there is none.
@@ -75,6 +78,7 @@ fn refusal_number(refusal: Refusal) -> u32
         Refusal::RegistryIllFormed => 4,
         Refusal::CounterTooHigh => 5,
         Refusal::ListIllFormed => 6,
+        Refusal::JournalBufferTooSmall => 7,
     }
 }
 
@@ -95,6 +99,7 @@ fn number(a: CallAnswer) -> Answer
         code: code_number(code),
         taken: a.taken,
         written: a.written,
+        recorded: a.recorded,
     }
 }
 
@@ -106,10 +111,19 @@ pub extern "C" fn razidkot_call(
     list: &[u8],
     counters: &mut Counters,
     response: &mut [u8],
+    journal: &mut [u8],
 ) -> Answer
-    ensures { λ r. ⌜ CallContract (now (list .entry)) (lentMemory (now (connection .entry)) (now (registry .entry)) (now (counters .entry))) (callWith (now (chunk .entry)) (now (response .entry))) (ranWith (r .code) (r .taken) (r .written) (lentMemory (now (connection .exit)) (now (registry .exit)) (now (counters .exit))) (now (response .exit))) ⌝ }
+    ensures { λ r. ⌜ CallContract (now (list .entry)) (lentMemory (now (connection .entry)) (now (registry .entry)) (now (counters .entry))) (callWith (now (chunk .entry)) (now (response .entry)) (now (journal .entry))) (ranWith (r .code) (r .taken) (r .written) (r .recorded) (lentMemory (now (connection .exit)) (now (registry .exit)) (now (counters .exit))) (now (response .exit)) (now (journal .exit))) ⌝ }
 {
-    number(call(chunk, connection, registry, list, counters, response))
+    number(call(
+        chunk,
+        connection,
+        registry,
+        list,
+        counters,
+        response,
+        journal,
+    ))
 }
 
 fn number_billed(billed: Billed) -> Bill

@@ -1,8 +1,8 @@
 -- From the code's chain of tests to the judgement of a request: what is answered at each way out is what `judgement` says.
-use mathlib.Core.Path.{_≡_, refl, sym, ap, subst, _∙_}
+use mathlib.Core.Path.{_≡_, refl, sym, ap, ap₂, subst, _∙_}
 use mathlib.Core.Bool.{Bool, true, false, and-true, and-false}
 use mathlib.Core.Option.{Option, none, some}
-use mathlib.Core.List.{List, _++_}
+use mathlib.Core.List.{List, [], _++_}
 use Prim.Native.Nat.{ℕ, _+_, _-_, _≤_, _<_}
 use native.Mathlib.Nat.{add-sub-cancel-left}
 use native.Mathlib.Omega.{arith}
@@ -16,8 +16,10 @@ use Rattle.wire.specs.code.Header.{headerOf}
 use Rattle.wire.specs.Response.{responseBytes}
 use Rattle.wire.specs.code.Wrote.{Wrote}
 use Rattle.wire.specs.declared.header.Header.{Header}
+use Rattle.wire.proofs.BufferLaws.{wrote-none}
 use Rattle.wire.proofs.TestLaws.{first-has, none-at, first-before, first-behind}
 use Rattle.stream.specs.Frame.{contentMost}
+use Rattle.stream.specs.Handed.{handing}
 use Rattle.registry.specs.Slots.{Entry}
 use Rattle.registry.specs.Registry.{applicationNamed, slotsOf, changed}
 use Rattle.registry.specs.declared.Line.{Line}
@@ -36,6 +38,10 @@ use Rattle.judgement.specs.declared.Asker.the-variants.{Nobody, Named}
 use Rattle.judgement.specs.declared.Auth.{Auth}
 use Rattle.judgement.specs.declared.Auth.the-variants.{Refused as AuthRefused, Accepted}
 use Rattle.judgement.specs.declared.Decision.{Decision}
+use Rattle.journal.specs.Record.{Act}
+use Rattle.journal.specs.Journalling.{recordFor, servedAct, recordedFor, journalling}
+use Rattle.journal.specs.code.Written.{actOfAsker}
+use Rattle.journal.proofs.ChangeLaws.{act-changed}
 use Rattle.answer.specs.code.Answers.{AnsweredBy, PassedHeader, resultForNobody, ResultAnswered, RefusedWith}
 use Rattle.answer.specs.declared.Answered.{Answered}
 
@@ -179,9 +185,9 @@ module _ (request : List ℕ) where
 pub decided-answered : {slots : List Entry} {list body : List ℕ} {x : Result} {d : Decision} {before after : List ℕ} {n : ℕ} (h : Header) (who : Asker)
     → Decided slots list body x d
     → Wrote (responseBytes (h .provider) (h .session) (h .opcode) (statusNumber (d .status)) (outputBytes slots list (d .output))) before after n
-    → ResultAnswered h x who before after (record { status = d .status; asker = who; written = n })
+    → (recorded : ℕ) → ResultAnswered h x who before after (record { status = d .status; asker = who; written = n; recorded = recorded })
 unfolding resultIn
-decided-answered h who e w = record { status = rw (← e .result); asker = refl; response = rw (← e .result) w }
+decided-answered h who e w recorded = record { status = rw (← e .result); asker = refl; response = rw (← e .result) w }
 
 -- ---- what was answered is what the judgement says
 
@@ -203,14 +209,25 @@ unfolding changedBy changed refuse
 refused-kept registry none status = refl
 refused-kept registry (some line) status = refl
 
+-- nothing is written of no record
+pub no-record : (journal : List ℕ) (n : ℕ) → n ≡ 0 → Wrote [] journal journal n
+no-record journal n e = subst (λ (k : ℕ). Wrote [] journal journal k) (sym e) (wrote-none journal)
+
+-- a request that is refused has none
+refused-act : (list registry : List ℕ) (q : Request) (status : Status) → resultOf list registry q ≡ refuse status → 0 < statusNumber status
+    → recordFor (servedAct list registry q) ≡ []
+unfolding servedAct refuse recordFor
+refused-act list registry q status e h = rw (e, ne-eqb (statusNumber status) 0 (λ z. let x : ⊥ = omega arith in x), servedAct)
+
 module _ {before after : List ℕ} {r : Answered} where
   -- before the last byte, or at the wrong start
   pub answered-early : (provider session opcode : ℕ) (status : Status) → 0 < statusNumber status
       → RefusedWith provider session opcode status before after r
-      → (registry : List ℕ) → AnsweredBy (λ c. refusedEarly registry c provider session opcode status) registry before after r
+      → (registry journal : List ℕ) → AnsweredBy (λ c. handing [] (refusedEarly registry c provider session opcode status)) registry before after journal journal r
   unfolding refusedEarly
-  answered-early provider session opcode status h w registry = record {
+  answered-early provider session opcode status h w registry journal = record {
     response = w .2;
+    recorded = no-record journal (r .recorded) (w .3);
     kept = refl;
     counts = λ c. rw (w .0) (refused-count c _ status h);
     asker = rw (w .1) tt;
@@ -218,30 +235,36 @@ module _ {before after : List ℕ} {r : Answered} where
 
   pub answered-oversized : (header : List ℕ) (status : Status) → oversizedStatus header ≡ status → 0 < statusNumber status
       → RefusedWith (headerOf header .provider) (headerOf header .session) (headerOf header .opcode) status before after r
-      → (list registry : List ℕ) → AnsweredBy (λ c. judgement list .onOversized registry c header) registry before after r
-  unfolding judgement headerOf
-  answered-oversized header status e h w list registry = rw e (answered-early _ _ _ status h w registry)
+      → (list registry journal : List ℕ) → AnsweredBy (λ c. journalling list .onOversized registry c header) registry before after journal journal r
+  unfolding journalling judgement headerOf
+  answered-oversized header status e h w list registry journal = rw e (answered-early _ _ _ status h w registry journal)
 
   module _ (list registry request : List ℕ) where
-    pub answered-refused : (status : Status) → resultOf list registry (requestOf request) ≡ refuse status → 0 < statusNumber status
+    pub answered-refused : (journal : List ℕ) (status : Status) → resultOf list registry (requestOf request) ≡ refuse status → 0 < statusNumber status
         → RefusedWith (headerOf request .provider) (headerOf request .session) (headerOf request .opcode) status before after r
-        → AnsweredBy (λ c. judgement list .onRequest registry c request) registry before after r
-    unfolding judgement verdictOf headerOf refuse
-    answered-refused status e h w = record {
+        → AnsweredBy (λ c. journalling list .onRequest registry c request) registry before after journal journal r
+    unfolding journalling recordedFor judgement verdictOf headerOf refuse
+    answered-refused journal status e h w = record {
       response = rw (e, nothing-bytes) (w .2);
+      recorded = subst (λ (x : List ℕ). Wrote x journal journal (r .recorded)) (sym (refused-act list registry (requestOf request) status e h)) (no-record journal (r .recorded) (w .3));
       kept = rw e (sym (refused-kept registry (applicationOf registry (requestOf request)) status));
       counts = λ c. rw (e, w .0) (refused-count c _ status h ∙ sym (refused-count c _ status h));
       asker = rw (w .1) tt;
     }
 
-    pub answered : (registry′ : List ℕ) (who : Asker) (x : Result)
+    pub answered : (registry′ journal journal′ : List ℕ) (who : Asker) (x : Result)
         → (applicationOf registry (requestOf request) ≡ askersLine who) × (resultOf list registry (requestOf request) ≡ x)
         → AskerBelow who → registry′ ≡ changedBy registry (askersLine who) x
+        → Wrote (recordFor (actOfAsker (askersSlots registry (askersLine who)) (askersLine who) (x .change))) journal journal′ (r .recorded)
         → ResultAnswered (headerOf request) x who before after r
-        → AnsweredBy (λ c. judgement list .onRequest registry c request) registry′ before after r
-    unfolding judgement verdictOf headerOf
-    answered registry′ who x e below kept a = record {
+        → AnsweredBy (λ c. journalling list .onRequest registry c request) registry′ before after journal journal′ r
+    unfolding journalling recordedFor judgement verdictOf headerOf
+    answered registry′ journal journal′ who x e below kept wrote a = record {
       response = rw (e .1) (a .response);
+      recorded = subst (λ (o : Option Act). Wrote (recordFor o) journal journal′ (r .recorded))
+          (sym (act-changed list registry (requestOf request)
+          ∙ ap₂ (λ (o : Option Line) (y : Result). actOfAsker (askersSlots registry o) o (y .change)) (e .0) (e .1)))
+          wrote;
       kept = rw (e .0, e .1) kept;
       counts = λ c. rw (e .0, e .1, a .asker, a .status);
       asker = rw (a .asker) below;

@@ -3,6 +3,7 @@
 use crate::Answered;
 use crate::response::write_refused;
 use crate::response::write_response;
+use journal::record::write_record;
 use judgement::Asker;
 use judgement::Auth;
 use judgement::Checked;
@@ -27,13 +28,16 @@ ghost use Prim.Native.Nat.{ℕ, _≤_, _<_};
 ghost use lib.ListN.{length, take};
 ghost use Rattle.wire.specs.Request.{requestLeast, headerLength, requestLength};
 ghost use Rattle.wire.specs.Response.{bufferLeast};
+ghost use Rattle.wire.specs.code.Wrote.{Wrote};
 ghost use Rattle.stream.specs.Frame.{legalStart, oversized};
 ghost use Rattle.stream.specs.Rules.{judge};
-ghost use Rattle.registry.specs.Registry.{lineCount, registrySize, changed};
+ghost use Rattle.registry.specs.Registry.{lineCount, registrySize, slotsOf, changed};
 ghost use Rattle.registry.specs.WellFormed.{wellFormedRegistry};
 ghost use Rattle.shipped.specs.Shipped.{wellFormedList};
-ghost use Rattle.judgement.specs.Judgement.{judgement};
 ghost use Rattle.judgement.specs.code.Decided.{SafeEdit, changeOf};
+ghost use Rattle.journal.specs.Journalling.{recordFor, journalling};
+ghost use Rattle.journal.specs.Record.{recordMost};
+ghost use Rattle.journal.specs.code.Written.{actOfChange};
 ghost use Rattle.answer.specs.code.Answers.{AnsweredBy, RefusedWith, PassedHeader, resultForNamed, resultForNobody, ResultAnswered};
 
 // Carries out what an operation changes.
@@ -80,32 +84,35 @@ fn refuse(out: &mut [u8], h: Header, status: Status) -> Answered
         status,
         asker: Asker::Nobody,
         written,
+        recorded: 0,
     }
 }
 
 // A request whose header and auth bytes have passed, answered for an application.
 fn answer_named(
     out: &mut [u8],
+    journal: &mut [u8],
     h: Header,
     body: &[u8],
     registry: &mut [u8],
     list: &[u8],
     line: Line,
 ) -> Answered
-    requires { ⌜ (wellFormedRegistry (now registry) ≡ true) × (line .0 < lineCount) × (bufferLeast ≤ length (now out)) × (wellFormedList (now list) ≡ true) ⌝ }
-    ensures { λ r. ⌜ ResultAnswered h (resultForNamed h (now (body .entry)) (now (registry .entry)) (now (list .entry)) line) (Asker.Named line) (now (out .entry)) (now (out .exit)) r ⌝ }
-    ensures { λ _. ⌜ now (registry .exit) ≡ changed (now (registry .entry)) line (resultForNamed h (now (body .entry)) (now (registry .entry)) (now (list .entry)) line .change) ⌝ }
+    requires { ⌜ (wellFormedRegistry (now registry) ≡ true) × (line .0 < lineCount) × (bufferLeast ≤ length (now out)) × (wellFormedList (now list) ≡ true) × (recordMost ≤ length (now journal)) ⌝ }
+    ensures { λ r. ⌜ ResultAnswered h (resultForNamed h (now (body .entry)) (now (registry .entry)) (now (list .entry)) line) (Asker.Named line) (now (out .entry)) (now (out .exit)) r × (now (registry .exit) ≡ changed (now (registry .entry)) line (resultForNamed h (now (body .entry)) (now (registry .entry)) (now (list .entry)) line .change)) × Wrote (recordFor (actOfChange (slotsOf (now (registry .entry)) line) line (resultForNamed h (now (body .entry)) (now (registry .entry)) (now (list .entry)) line .change))) (now (journal .entry)) (now (journal .exit)) (r .recorded) ⌝ }
 {
     let d = perform_operation(h.opcode, body, registry, list, line);
     let status = d.status;
     let output = d.output;
     let edit = d.edit;
     let written = write_response(out, h, status, registry, list, line, output);
+    let recorded = write_record(journal, registry, line, body, edit);
     make_edit(registry, line, body, edit);
     Answered {
         status,
         asker: Asker::Named(line),
         written,
+        recorded,
     }
 }
 
@@ -118,7 +125,7 @@ fn answer_nobody<'a>(
     list: &'a [u8],
 ) -> Answered
     requires { ⌜ PassedHeader h × (wellFormedRegistry (now registry) ≡ true) × (bufferLeast ≤ length (now out)) × (wellFormedList (now list) ≡ true) ⌝ }
-    ensures { λ r. ⌜ ResultAnswered h (resultForNobody h (now (body .entry)) (now (list .entry))) Asker.Nobody (now (out .entry)) (now (out .exit)) r ⌝ }
+    ensures { λ r. ⌜ ResultAnswered h (resultForNobody h (now (body .entry)) (now (list .entry))) Asker.Nobody (now (out .entry)) (now (out .exit)) r × (r .recorded ≡ 0) ⌝ }
 {
     if h.provider == 1 {
         return refuse(out, h, Status::NotAuthenticated);
@@ -133,13 +140,20 @@ fn answer_nobody<'a>(
         status,
         asker: Asker::Nobody,
         written,
+        recorded: 0,
     }
 }
 
 // A whole request that is not oversized.
-fn answer_request(out: &mut [u8], request: &[u8], registry: &mut [u8], list: &[u8]) -> Answered
-    requires { ⌜ (legalStart (now request) ≡ true) × (length (now request) ≡ requestLength (now request)) × (oversized (now request) ≡ false) × (wellFormedRegistry (now registry) ≡ true) × (bufferLeast ≤ length (now out)) × (wellFormedList (now list) ≡ true) ⌝ }
-    ensures { λ r. ⌜ AnsweredBy (λ c. judgement (now (list .entry)) .onRequest (now (registry .entry)) c (now (request .entry))) (now (registry .exit)) (now (out .entry)) (now (out .exit)) r ⌝ }
+fn answer_request(
+    out: &mut [u8],
+    journal: &mut [u8],
+    request: &[u8],
+    registry: &mut [u8],
+    list: &[u8],
+) -> Answered
+    requires { ⌜ (legalStart (now request) ≡ true) × (length (now request) ≡ requestLength (now request)) × (oversized (now request) ≡ false) × (wellFormedRegistry (now registry) ≡ true) × (bufferLeast ≤ length (now out)) × (wellFormedList (now list) ≡ true) × (recordMost ≤ length (now journal)) ⌝ }
+    ensures { λ r. ⌜ AnsweredBy (λ c. journalling (now (list .entry)) .onRequest (now (registry .entry)) c (now (request .entry))) (now (registry .exit)) (now (out .entry)) (now (out .exit)) (now (journal .entry)) (now (journal .exit)) r ⌝ }
 {
     let h = read_header(request);
     if let Checked::Refused(status) = check_header(h) {
@@ -151,7 +165,15 @@ fn answer_request(out: &mut [u8], request: &[u8], registry: &mut [u8], list: &[u
         Auth::Refused => refuse(out, h, Status::AuthenticationError),
         Auth::Accepted(asker) => match asker {
             Asker::Nobody => answer_nobody(out, h, &request[start..end], registry, list),
-            Asker::Named(line) => answer_named(out, h, &request[start..end], registry, list, line),
+            Asker::Named(line) => answer_named(
+                out,
+                journal,
+                h,
+                &request[start..end],
+                registry,
+                list,
+                line,
+            ),
         },
     }
 }
@@ -159,7 +181,7 @@ fn answer_request(out: &mut [u8], request: &[u8], registry: &mut [u8], list: &[u
 // An oversized request, from its header: 20 if C is too large, else 11.
 fn answer_oversized(out: &mut [u8], header: &[u8]) -> Answered
     requires { ⌜ (requestLeast ≤ length (now header)) × (bufferLeast ≤ length (now out)) ⌝ }
-    ensures { λ r. ⌜ ((list registry : List ℕ) → AnsweredBy (λ c. judgement list .onOversized registry c (now (header .entry))) registry (now (out .entry)) (now (out .exit)) r) ⌝ }
+    ensures { λ r. ⌜ ((list registry journal : List ℕ) → AnsweredBy (λ c. journalling list .onOversized registry c (now (header .entry))) registry (now (out .entry)) (now (out .exit)) journal journal r) ⌝ }
 {
     let h = read_header(header);
     if CONTENT_MOST < h.content_length {
@@ -171,7 +193,7 @@ fn answer_oversized(out: &mut [u8], header: &[u8]) -> Answered
 // The response to an oversized request, whose header the bytes begin with.
 pub fn answer_skipped(out: &mut [u8], bytes: &[u8]) -> Answered
     requires { ⌜ (requestLeast ≤ headerLength (now bytes)) × (headerLength (now bytes) ≤ length (now bytes)) × (bufferLeast ≤ length (now out)) ⌝ }
-    ensures { λ r. ⌜ ((list registry : List ℕ) → AnsweredBy (λ c. judgement list .onOversized registry c (take (headerLength (now (bytes .entry))) (now (bytes .entry)))) registry (now (out .entry)) (now (out .exit)) r) ⌝ }
+    ensures { λ r. ⌜ ((list registry journal : List ℕ) → AnsweredBy (λ c. journalling list .onOversized registry c (take (headerLength (now (bytes .entry))) (now (bytes .entry)))) registry (now (out .entry)) (now (out .exit)) journal journal r) ⌝ }
 {
     let end = header_length(bytes);
     answer_oversized(out, &bytes[..end])
@@ -180,23 +202,30 @@ pub fn answer_skipped(out: &mut [u8], bytes: &[u8]) -> Answered
 // A wrong magic or H: provider, session and opcode are zero.
 pub fn answer_bad_start(out: &mut [u8]) -> Answered
     requires { ⌜ bufferLeast ≤ length (now out) ⌝ }
-    ensures { λ r. ⌜ ((list registry : List ℕ) → AnsweredBy (λ c. judgement list .onBadStart registry c) registry (now (out .entry)) (now (out .exit)) r) ⌝ }
+    ensures { λ r. ⌜ ((list registry journal : List ℕ) → AnsweredBy (λ c. journalling list .onBadStart registry c) registry (now (out .entry)) (now (out .exit)) journal journal r) ⌝ }
 {
     let written = write_refused(out, 0, 0, 0, Status::InvalidHeader);
     Answered {
         status: Status::InvalidHeader,
         asker: Asker::Nobody,
         written,
+        recorded: 0,
     }
 }
 
 // A whole request, oversized or not.
-pub fn answer_whole(out: &mut [u8], request: &[u8], registry: &mut [u8], list: &[u8]) -> Answered
-    requires { ⌜ (legalStart (now request) ≡ true) × (length (now request) ≡ requestLength (now request)) × (wellFormedRegistry (now registry) ≡ true) × (bufferLeast ≤ length (now out)) × (wellFormedList (now list) ≡ true) ⌝ }
-    ensures { λ r. ⌜ AnsweredBy (λ c. judge (judgement (now (list .entry))) (now (registry .entry)) c (now (request .entry))) (now (registry .exit)) (now (out .entry)) (now (out .exit)) r ⌝ }
+pub fn answer_whole(
+    out: &mut [u8],
+    journal: &mut [u8],
+    request: &[u8],
+    registry: &mut [u8],
+    list: &[u8],
+) -> Answered
+    requires { ⌜ (legalStart (now request) ≡ true) × (length (now request) ≡ requestLength (now request)) × (wellFormedRegistry (now registry) ≡ true) × (bufferLeast ≤ length (now out)) × (wellFormedList (now list) ≡ true) × (recordMost ≤ length (now journal)) ⌝ }
+    ensures { λ r. ⌜ AnsweredBy (λ c. judge (journalling (now (list .entry))) (now (registry .entry)) c (now (request .entry))) (now (registry .exit)) (now (out .entry)) (now (out .exit)) (now (journal .entry)) (now (journal .exit)) r ⌝ }
 {
     if is_oversized(request) {
         return answer_skipped(out, request);
     }
-    answer_request(out, request, registry, list)
+    answer_request(out, journal, request, registry, list)
 }

@@ -25,6 +25,7 @@ pub fn take_stream(fd: i32, connection: &mut [u8], registry: &mut [u8], list: &[
     open_connection(connection);
     let mut chunk = io::large_buffer();
     let mut response = io::buffer();
+    let mut journal = io::buffer();
     let mut counters = zero_counters();
     let mut turns = TURNS;
     while 0 < turns {
@@ -42,6 +43,7 @@ pub fn take_stream(fd: i32, connection: &mut [u8], registry: &mut [u8], list: &[
             list,
             counters,
             &mut response,
+            &mut journal,
         );
         turns -= 1;
     }

@@ -3,12 +3,14 @@ use mathlib.Core.Path.{_≡_, sym, ap, _∙_, subst}
 use Prim.Native.Nat.{ℕ}
 use mathlib.Core.Bool.{true}
 use mathlib.Core.List.{List, map, flatten}
+use Rattle.stream.specs.Handed.{responsesIn}
 use Rattle.stream.specs.Parts.{Parts, partsOf, responsesTo}
 use Rattle.reading.specs.Calls.{takenStream}
 use Rattle.registry.specs.WellFormed.{wellFormedRegistry}
 use Rattle.judgement.specs.Counts.{noCounts}
 use Rattle.judgement.specs.Judgement.{judgement}
-use Rattle.service.specs.Call.{Call, fresh, responsesIn}
+use Rattle.stream.specs.Handed.{responsesIn}
+use Rattle.service.specs.Call.{Call, fresh}
 use Rattle.service.specs.Contract.{Ran}
 use Rattle.service.specs.Claims.{Runs, answersIn}
 use Rattle.service.proofs.CodeDemand3.{code-demand3}

@@ -14,7 +14,8 @@ use Rattle.reading.specs.Claims.{answersIn as answersBy, enough}
 use Rattle.reading.proofs.RunsLaws.{handed-fine}
 use Rattle.registry.specs.WellFormed.{wellFormedRegistry}
 use Rattle.judgement.specs.Counts.{noCounts}
-use Rattle.service.specs.Call.{Call as ServiceCall, fresh, responsesIn}
+use Rattle.stream.specs.Handed.{responsesIn}
+use Rattle.service.specs.Call.{Call as ServiceCall, fresh}
 use Rattle.service.specs.Contract.{Ran}
 use Rattle.service.specs.Claims.{Runs, answersIn}
 use Rattle.client_responses.specs.Reading.{Asked, Reply, found, responseReader}

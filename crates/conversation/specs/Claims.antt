@@ -22,7 +22,8 @@ use Rattle.judgement.specs.Operations.{refuse}
 use Rattle.judgement.specs.Counts.{Counts, noCounts}
 use Rattle.judgement.specs.Judgement.{applicationOf, judgement}
 use Rattle.judgement.specs.declared.Status.the-variants.{InvalidHeader}
-use Rattle.service.specs.Call.{Call, fresh, responsesIn}
+use Rattle.stream.specs.Handed.{responsesIn}
+use Rattle.service.specs.Call.{Call, fresh}
 use Rattle.service.specs.Contract.{Ran}
 use Rattle.service.specs.Claims.{Runs, answersIn}
 use Rattle.client_requests.specs.Writing.{Sender, requestFor, legalSender, legalKeyName, legalKeyData, legalKeyBits, legalHash, legalBody, writeOutcome}

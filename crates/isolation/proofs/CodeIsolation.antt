@@ -41,5 +41,5 @@ code-isolation = record {
   closing-last = λ list registry counters calls runs p.
       subst (λ (o : History). AllLast (exchanges calls (o .answers))) (ran list calls (freshWith registry counters) runs p) (isolation list .closing-last registry counters calls);
   closed-unread = λ list m call r e n.
-      subst (λ (o : CallOutcome). Unread m (o .answer .given .count) (o .memory)) (sym e) (isolation list .closed-unread m call n);
+      subst (λ (o : CallOutcome). Unread m (o .answer .given .response .count) (o .memory)) (sym e) (isolation list .closed-unread m call n);
 }

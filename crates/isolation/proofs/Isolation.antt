@@ -112,7 +112,7 @@ pub record Isolation (list : List ℕ) : Type 0 where
       → AllLast (exchanges calls (from list registry counters calls .answers))
   -- a call on a closed connection reads nothing
   pub closed-unread : (m : Memory) (call : Call) → connectionOf (m .connection) ≡ closed
-      → Unread m (callOutcome list m call .answer .given .count) (callOutcome list m call .memory)
+      → Unread m (callOutcome list m call .answer .given .response .count) (callOutcome list m call .memory)
 
 pub isolation : (list : List ℕ) → Isolation list
 isolation list = record {

@@ -10,11 +10,14 @@ use borrow.Author.Tests.{eq-eqb, ne-eqb, eqb-true}
 use lib.ListN.{length, take}
 use lib.Dec.{eqb}
 use Rattle.wire.specs.Choice.{if_then_else_}
+use Rattle.reading.specs.Call.{Effect}
 use Rattle.reading.specs.Calls.{took}
 use Rattle.reading.specs.Buffer.{written, bytesOf}
 use Rattle.reading.proofs.BufferLaws.{bytes-of}
 use Rattle.stream.specs.Frame.{legalStart}
 use Rattle.stream.specs.Rules.{Verdict, Connection, opened, closed, State}
+use Rattle.stream.specs.Handed.{Handed, give}
+use Rattle.stream.proofs.HandedLaws.{bareEvent}
 use Rattle.stream.specs.Parts.{verdictOn}
 use Rattle.stream.proofs.PartsLaws.{countsFrom, registryFrom}
 use Rattle.stream.proofs.ChunkLaws.{call-closed}
@@ -26,9 +29,9 @@ use Rattle.judgement.specs.Judgement.{judgement}
 use Rattle.judgement.proofs.VerdictLaws.{verdict-some}
 use Rattle.counters.specs.Counters.{totalsOf, countersOf}
 use Rattle.counters.specs.declared.Counters.{Counters}
-use Rattle.service.specs.Call.{Memory, stateIn, memoryOf, withResponse, layout, Call, CallOutcome, refusalOf, callOutcome}
-use Rattle.service.specs.code.Served.{effectOf}
-use Rattle.service.proofs.CallLaws.{passed, refused-outcome, taken-outcome}
+use Rattle.journal.specs.Journalling.{recordedFor, journalling}
+use Rattle.service.specs.Call.{Memory, stateIn, memoryOf, layout, Call, CallOutcome, refusalOf, callOutcome}
+use Rattle.service.proofs.CallLaws.{passed, refused-outcome, taken-outcome, recordedEffect, effect-bare}
 use Rattle.isolation.specs.History.{Host, with, lent, left, freshWith, CallOn, historyOf, Exchange, exchangesFrom, exchanges, requests}
 use Rattle.isolation.specs.Isolated.{AllOne, NoneOn, AllLast, Unread}
 use Rattle.isolation.proofs.CallLaws.{OneRequest, Stands, Closes, stands-fresh, stands-well, Came, brings}
@@ -49,7 +52,7 @@ HappenedIf list false m bytes response after =
 
 abbrev Happened : (list : List ℕ) → Memory → (w : List ℕ) → Call → CallOutcome → Type 0
 Happened list m w call o =
-    HappenedIf list (eqb (o .answer .given .count) 0) m (w ++ take (o .answer .taken) (call .chunk)) (bytesOf (o .answer .given)) (o .memory)
+    HappenedIf list (eqb (o .answer .given .response .count) 0) m (w ++ take (o .answer .taken) (call .chunk)) (bytesOf (o .answer .given .response)) (o .memory)
 
 abbrev Some : Verdict (List ℕ) Counts (List ℕ) → Type 0
 Some v = 0 < length (v .response)
@@ -62,37 +65,40 @@ module _ (list : List ℕ) where
     stored : (c : Connection) (bytes : List ℕ) → Stands c bytes → Stands (connectionOf (connectionBytes c)) bytes
     stored c bytes s = subst (λ (x : Connection). Stands x bytes) (sym (load-store c (stands-well (judgement list) [] c bytes s))) s
 
-    landed : (n : ℕ) (o : Option (List ℕ)) (s : State (List ℕ) Counts) → Came (judgement list) (stateIn m) (w ++ take n (call .chunk)) o s
+    landed : (n : ℕ) (o : Option Handed) (s : State (List ℕ) Counts) → Came (judgement list) (stateIn m) (w ++ take n (call .chunk)) (bareEvent (recordedFor list) (judgement list) o) s
         → Happened list m w call (record { answer = took layout n o call; memory = memoryOf s })
-    unfolding layout withResponse written memoryOf stateIn totalsOf countersOf
+    unfolding layout give written memoryOf stateIn totalsOf countersOf
     landed n none s (stands, same, counts) = (stored (s .connection) _ stands, same, counts)
-    landed n (some r) s (stands, verdict, one, closes) =
+    landed n (some h) s (stands, verdict, one, closes) =
+        let r : List ℕ = h .response in
         let some-response : 0 < length r = subst Some verdict (verdict-some list (m .registry) (countsIn (m .counters)) (w ++ take n (call .chunk))) in
-        rw (ne-eqb (length r) 0 (λ z. (let x : ⊥ = omega arith in x)), bytes-of r (call .lent)) (stored (s .connection) [] stands, verdict, one, λ bad. ap (λ (c : Connection). connectionOf (connectionBytes c)) (closes bad) ∙ closed-back)
+        rw (ne-eqb (length r) 0 (λ z. (let x : ⊥ = omega arith in x)), bytes-of r (call .lent .response)) (stored (s .connection) [] stands, verdict, one, λ bad. ap (λ (c : Connection). connectionOf (connectionBytes c)) (closes bad) ∙ closed-back)
 
     happened : Stands (connectionOf (m .connection)) w → Happened list m w call (callOutcome list m call)
-    unfolding layout withResponse written stateIn
+    unfolding layout give written stateIn
     happened stands = go (refusalOf list m call) refl
       where
         go : (o : Option ℕ) → refusalOf list m call ≡ o → Happened list m w call (callOutcome list m call)
         go (some code) e = rw (refused-outcome list m call code e) (subst (Stands (connectionOf (m .connection))) (sym (append-nil w)) stands, refl, refl)
         go none e =
-            let f = effectOf list m (call .chunk) in
-            rw (taken-outcome list m call e) (landed (f .taken) (f .event) (f .kept) (brings (judgement list) (stateIn m) w (call .chunk) stands))
+            let f : Effect (State (List ℕ) Counts) Handed = recordedEffect list m (call .chunk) in
+            rw (taken-outcome list m call e) (landed (f .taken) (f .event) (f .kept)
+            (subst (λ (x : Effect (State (List ℕ) Counts) (List ℕ)). Came (judgement list) (stateIn m) (w ++ take (x .taken) (call .chunk)) (x .event) (x .kept))
+            (sym (effect-bare list m (call .chunk))) (brings (judgement list) (stateIn m) w (call .chunk) stands)))
 
   -- ---- a closed connection
 
   pub closed-unread : (m : Memory) (call : Call) → connectionOf (m .connection) ≡ closed
-      → Unread m (callOutcome list m call .answer .given .count) (callOutcome list m call .memory)
-  unfolding layout withResponse written stateIn memoryOf totalsOf countersOf
+      → Unread m (callOutcome list m call .answer .given .response .count) (callOutcome list m call .memory)
+  unfolding layout give written stateIn memoryOf totalsOf countersOf
   closed-unread m call e = go (refusalOf list m call) refl
     where
-      go : (o : Option ℕ) → refusalOf list m call ≡ o → Unread m (callOutcome list m call .answer .given .count) (callOutcome list m call .memory)
+      go : (o : Option ℕ) → refusalOf list m call ≡ o → Unread m (callOutcome list m call .answer .given .response .count) (callOutcome list m call .memory)
       go (some code) q =
           rw (refused-outcome list m call code q)
           (record { nothing-written = refl; still-closed = e; same-registry = refl; same-counts = refl; same-answered = refl })
       go none q =
-          rw (taken-outcome list m call q, call-closed (judgement list) (stateIn m) (call .chunk) e)
+          rw (taken-outcome list m call q, call-closed (journalling list) (stateIn m) (call .chunk) e)
           (record { nothing-written = refl; still-closed = closed-back; same-registry = refl; same-counts = refl; same-answered = refl })
 
   -- a call on connection j leaves connection k closed
@@ -110,7 +116,7 @@ module _ (list : List ℕ) where
       → NoneOn k (exchangesFrom w calls (historyOf list h calls .answers))
   unfolding historyOf exchangesFrom
   silent [] h w k e = tt
-  silent (t ∷ calls) h w k e = go (eqb (o .answer .given .count) 0) refl (silent calls h′)
+  silent (t ∷ calls) h w k e = go (eqb (o .answer .given .response .count) 0) refl (silent calls h′)
     where
       j : ℕ
       j = t .connection
@@ -124,7 +130,7 @@ module _ (list : List ℕ) where
       bytes : List ℕ
       bytes = w j ++ take (o .answer .taken) (t .call .chunk)
 
-      here : k ≡ j → Unread (lent h j) (o .answer .given .count) (o .memory)
+      here : k ≡ j → Unread (lent h j) (o .answer .given .response .count) (o .memory)
       here same = closed-unread (lent h j) (t .call) (ap (λ (i : ℕ). connectionOf (h .connections i)) (sym same) ∙ e)
 
       closed-still : connectionOf (h′ .connections k) ≡ closed
@@ -133,11 +139,11 @@ module _ (list : List ℕ) where
       more : (ℕ → List ℕ) → List Exchange
       more w′ = exchangesFrom w′ calls (historyOf list h′ calls .answers)
 
-      go : (b : Bool) → eqb (o .answer .given .count) 0 ≡ b → ((w′ : ℕ → List ℕ) (k : ℕ) → connectionOf (h′ .connections k) ≡ closed → NoneOn k (more w′))
-          → NoneOn k (if b then more (with w j bytes) else (record { connection = j; request = bytes; response = bytesOf (o .answer .given) } ∷ more (with w j [])))
+      go : (b : Bool) → eqb (o .answer .given .response .count) 0 ≡ b → ((w′ : ℕ → List ℕ) (k : ℕ) → connectionOf (h′ .connections k) ≡ closed → NoneOn k (more w′))
+          → NoneOn k (if b then more (with w j bytes) else (record { connection = j; request = bytes; response = bytesOf (o .answer .given .response) } ∷ more (with w j [])))
       go true n ih = ih (with w j bytes) k closed-still
       go false n ih = (
-        ne-eqb j k (λ same. true≢false (sym (eq-eqb (o .answer .given .count) 0 (here (sym same) .nothing-written)) ∙ n)),
+        ne-eqb j k (λ same. true≢false (sym (eq-eqb (o .answer .given .response .count) 0 (here (sym same) .nothing-written)) ∙ n)),
         ih (with w j []) k closed-still,
       )
 
@@ -188,7 +194,7 @@ module _ (list : List ℕ) where
   unfolding historyOf exchangesFrom replay registryFrom countsFrom
   serial-from [] h w all = record { answered = refl; registry = refl; counts = refl; one-each = tt; closing-last = tt }
   serial-from (t ∷ calls) h w all =
-      go (eqb (o .answer .given .count) 0) (happened (lent h k) (w k) (t .call) (all k)) (serial-from calls (left h k (o .memory)))
+      go (eqb (o .answer .given .response .count) 0) (happened (lent h k) (w k) (t .call) (all k)) (serial-from calls (left h k (o .memory)))
     where
       k : ℕ
       k = t .connection
@@ -203,7 +209,7 @@ module _ (list : List ℕ) where
       bytes = w k ++ take (o .answer .taken) (t .call .chunk)
 
       response : List ℕ
-      response = bytesOf (o .answer .given)
+      response = bytesOf (o .answer .given .response)
 
       more : (ℕ → List ℕ) → List Exchange
       more w′ = exchangesFrom w′ calls (historyOf list h′ calls .answers)
@@ -233,7 +239,7 @@ module _ (list : List ℕ) where
 
   idle-from : (calls : List CallOn) (h : Host) (w : ℕ → List ℕ) → wellFormedRegistry (h .registry) ≡ false
       → exchangesFrom w calls (historyOf list h calls .answers) ≡ []
-  unfolding historyOf exchangesFrom layout withResponse written
+  unfolding historyOf exchangesFrom layout give written
   idle-from [] h w bad = refl
   idle-from (t ∷ calls) h w bad = go (refusalOf list (lent h (t .connection)) (t .call)) refl (idle-from calls)
     where

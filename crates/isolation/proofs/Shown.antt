@@ -35,6 +35,7 @@ use Rattle.lookup.specs.Lookup.{shippedKey, keyOf, ownIn, listedIn, keyNamed}
 use Rattle.reading.specs.Call.{callRule}
 use Rattle.reading.specs.Calls.{callOn}
 use Rattle.reading.specs.Buffer.{written, bytesOf}
+use Rattle.stream.specs.Handed.{give}
 use Rattle.stream.specs.Frame.{legalStart, oversized, next}
 use Rattle.stream.specs.Rules.{judge}
 use Rattle.stream.specs.Call.{isBeginning, wellFormed, keep, respond, dropByte, openRule, skipRule, byteRule}
@@ -44,7 +45,8 @@ use Rattle.judgement.specs.Operations.{success, refuse, importable, performImpo
 use Rattle.judgement.specs.Counts.{noCounts, increment, indexOf, countRefused, countServed, count}
 use Rattle.judgement.specs.Judgement.{applicationOf, refusals, askersSlots, resultOf, changedBy, verdictOf, refusedEarly, judgement}
 use Rattle.counters.specs.Counters.{totalsOf, countersOf, zeroCounters, maximum, largestCount, largestCounter}
-use Rattle.service.specs.Call.{stateIn, memoryOf, withResponse, layout, refusalTests, refusalOf, callOutcome}
+use Rattle.journal.specs.Journalling.{recordedFor, journalling}
+use Rattle.service.specs.Call.{stateIn, memoryOf, journalLeast, layout, refusalTests, refusalOf, callOutcome}
 use Rattle.isolation.specs.History.{with, freshWith, CallOn, historyOf, exchangesFrom, exchanges, requests, responses, isBy, those, own}
 use Rattle.isolation.specs.Isolated.{servedFor}
 
@@ -71,7 +73,7 @@ shipped : List ℕ
 shipped = 1 ∷ 1 ∷ 0 ∷ 0x73 ∷ 2 ∷ 1 ∷ 0 ∷ 0xEE ∷ []
 
 on : (connection : ℕ) (chunk : List ℕ) → CallOn
-on connection chunk = record { connection = connection; call = record { chunk = chunk; lent = replicate bufferLeast 0 } }
+on connection chunk = record { connection = connection; call = record { chunk = chunk; lent = record { response = replicate bufferLeast 0; journal = replicate journalLeast 0 } } }
 
 alone : List CallOn
 alone =
@@ -93,7 +95,7 @@ record Shown : Type 0 where
 
 -- what application "b" gets
 showing : List CallOn → Shown
-unfolding firstOf isSome oneOf littleEndian littleEndianOf field scanFrom scanAt requestOf responseHeader responseBytes varintOf numberAt fixedAt spanAt contentAt fieldAt groupAt withValue itemOf stepAt varintWithin varint numberField bytesField packedField flatMap flatten legalName legalData legalBits importBits opcodesOf listed messageBytes readMessage packedOf readBody inputFields askingOf asked operationOf outputBytes indexFrom distinct keyBytes slotBytes slotOf used usedSlot wellFormedSlot applicationNamed slotsOf usesOf slotNamed changed lineOf registryOf usedFirst wellFormedRegistry isWhole recordTurn readRecords pairStep pairsDone listOf wellFormedList keysIn listedNamed shippedKey keyOf ownIn listedIn keyNamed legalStart oversized next judge isBeginning wellFormed keep respond dropByte openRule skipRule byteRule callRule callOn written bytesOf connectionBytes connectionOf wellFormedConnection statusNumber success refuse importable performImport counted exportOf performExport perform operated noCounts increment indexOf countRefused countServed count applicationOf refusals askersSlots resultOf changedBy verdictOf refusedEarly judgement totalsOf countersOf zeroCounters maximum largestCount largestCounter stateIn memoryOf withResponse layout refusalTests refusalOf callOutcome with historyOf exchangesFrom exchanges isBy those bind
+unfolding firstOf isSome oneOf littleEndian littleEndianOf field scanFrom scanAt requestOf responseHeader responseBytes varintOf numberAt fixedAt spanAt contentAt fieldAt groupAt withValue itemOf stepAt varintWithin varint numberField bytesField packedField flatMap flatten legalName legalData legalBits importBits opcodesOf listed messageBytes readMessage packedOf readBody inputFields askingOf asked operationOf outputBytes indexFrom distinct keyBytes slotBytes slotOf used usedSlot wellFormedSlot applicationNamed slotsOf usesOf slotNamed changed lineOf registryOf usedFirst wellFormedRegistry isWhole recordTurn readRecords pairStep pairsDone listOf wellFormedList keysIn listedNamed shippedKey keyOf ownIn listedIn keyNamed legalStart oversized next judge isBeginning wellFormed keep respond dropByte openRule skipRule byteRule callRule callOn written bytesOf connectionBytes connectionOf wellFormedConnection statusNumber success refuse importable performImport counted exportOf performExport perform operated noCounts increment indexOf countRefused countServed count applicationOf refusals askersSlots resultOf changedBy verdictOf refusedEarly judgement totalsOf countersOf zeroCounters maximum largestCount largestCounter stateIn memoryOf give recordedFor journalling layout refusalTests refusalOf callOutcome with historyOf exchangesFrom exchanges isBy those bind
 showing calls =
     let o = historyOf shipped (freshWith (registryOf ((0x61 ∷ []) ∷ (0x62 ∷ []) ∷ [])) zeroCounters) calls in
     let xs = exchanges calls (o .answers) in

@@ -73,8 +73,8 @@ exchangesFrom waiting [] answers = []
 exchangesFrom waiting (c ∷ calls) [] = []
 exchangesFrom waiting (c ∷ calls) (a ∷ answers) =
     let bytes = waiting (c .connection) ++ take (a .taken) (c .call .chunk) in
-    if eqb (a .given .count) 0 then exchangesFrom (with waiting (c .connection) bytes) calls answers
-    else (record { connection = c .connection; request = bytes; response = bytesOf (a .given) } ∷ exchangesFrom (with waiting (c .connection) []) calls answers)
+    if eqb (a .given .response .count) 0 then exchangesFrom (with waiting (c .connection) bytes) calls answers
+    else (record { connection = c .connection; request = bytes; response = bytesOf (a .given .response) } ∷ exchangesFrom (with waiting (c .connection) []) calls answers)
 
 unfoldable pub exchanges : List CallOn → List Answer → List Exchange
 exchanges calls answers = exchangesFrom (λ k. []) calls answers

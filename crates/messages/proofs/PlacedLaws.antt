@@ -183,28 +183,29 @@ module _ {A : Type 0} (schema : Schema) (body : List ℕ) (f : Message → A) (f
 
 -- ---- what is asked
 
-module _ (opcode : ℕ) (body : List ℕ) where
-  input-few : length (inputFields opcode) ≤ 5
+module _ (opcode : ℕ) where
+  pub input-few : length (inputFields opcode) ≤ 5
   unfolding inputFields
   input-few =
       let P : Schema → Type 0 = λ s. length s ≤ 5 in
       either P (eqb opcode 9) (λ _. omega arith) (λ _. either P (eqb opcode 6) (λ _. omega arith) (λ _. either P (eqb opcode 3) (λ _. omega arith)
       (λ _. either P (eqb opcode 7) (λ _. omega arith) (λ _. either P (eqb opcode 5) (λ _. omega arith) (λ _. omega arith)))))
 
-  input-no-lists : NoLists (inputFields opcode)
+  pub input-no-lists : NoLists (inputFields opcode)
   unfolding inputFields
   input-no-lists =
       either NoLists (eqb opcode 9) (λ _. tt) (λ _. either NoLists (eqb opcode 6) (λ _. tt) (λ _. either NoLists (eqb opcode 3) (λ _. tt)
       (λ _. either NoLists (eqb opcode 7) (λ _. tt) (λ _. either NoLists (eqb opcode 5) (λ _. tt) (λ _. tt)))))
 
+module _ (opcode : ℕ) (body : List ℕ) where
   pub asked-read : (m : Values) → bodyOf (schemaPlaced (inputFields opcode)) body ≡ Readable m
       → askingOf opcode (valuesOf body (inputFields opcode) (five m)) ≡ asked protobuf opcode body
   unfolding asked
-  asked-read m e = sym (ap (askingBy opcode) (placed (inputFields opcode) body input-few input-no-lists ∙ ap (seen body (inputFields opcode)) e))
+  asked-read m e = sym (ap (askingBy opcode) (placed (inputFields opcode) body (input-few opcode) (input-no-lists opcode) ∙ ap (seen body (inputFields opcode)) e))
 
   pub asked-broken : (at : ℕ) → bodyOf (schemaPlaced (inputFields opcode)) body ≡ Broken at → garbled at ≡ asked protobuf opcode body
   unfolding asked
-  asked-broken at e = sym (ap (askingBy opcode) (placed (inputFields opcode) body input-few input-no-lists ∙ ap (seen body (inputFields opcode)) e))
+  asked-broken at e = sym (ap (askingBy opcode) (placed (inputFields opcode) body (input-few opcode) (input-no-lists opcode) ∙ ap (seen body (inputFields opcode)) e))
 
 -- ---- an output, by its opcode
 

@@ -6,8 +6,9 @@ use mathlib.Core.List.{List}
 use Rattle.reading.specs.Calls.{handOver}
 use Rattle.reading.proofs.RunsLaws as reading
 use Rattle.stream.specs.Call.{reader}
+use Rattle.stream.specs.Handed.{Lent}
 use Rattle.stream.specs.Claims.{TakenWhole}
-use Rattle.judgement.specs.Judgement.{judgement}
+use Rattle.journal.specs.Journalling.{journalling}
 use Rattle.service.specs.Call.{Memory, layout, Call, fresh, refusalOf, callOutcome, callsOutcome}
 use Rattle.service.specs.Contract.{Ran, outcomeIn, CallContract}
 use Rattle.service.specs.Claims.{Runs, ranOutcome, handedOver, FollowsRules, CodeDemand3}
@@ -18,20 +19,20 @@ module _ (list : List ℕ) where
   pub ran : (calls : List Call) (m : Memory) (runs : List Ran) → Runs list m calls runs → callsOutcome list m calls ≡ ranOutcome m runs
   unfolding callsOutcome callOutcome
   ran calls m runs p =
-      reading.ran (reader (judgement list)) layout (refusalOf list) outcomeIn (CallContract list) (λ _. Unit {0}) (λ m call r _ e. e) (λ m call _. tt) calls m runs tt p
+      reading.ran (reader (journalling list)) layout (refusalOf list) outcomeIn (CallContract list) (λ _. Unit {0}) (λ m call r _ e. e) (λ m call _. tt) calls m runs tt p
 
-  handed : (buffers : ℕ → List ℕ) (most : ℕ) (m : Memory) (chunks : List (List ℕ)) (runs : List Ran) → Runs list m (handedOver most buffers chunks runs) runs
-      → handedOver most buffers chunks runs ≡ handOver (reader (judgement list)) layout (refusalOf list) most buffers m chunks
+  handed : (lent : ℕ → Lent) (most : ℕ) (m : Memory) (chunks : List (List ℕ)) (runs : List Ran) → Runs list m (handedOver most lent chunks runs) runs
+      → handedOver most lent chunks runs ≡ handOver (reader (journalling list)) layout (refusalOf list) most lent m chunks
   unfolding callOutcome
-  handed buffers most m chunks runs p =
-      reading.handed (reader (judgement list)) layout (refusalOf list) outcomeIn (CallContract list) (λ _. Unit {0}) (λ m call r _ e. e) (λ m call _. tt) buffers most m chunks runs tt p
+  handed lent most m chunks runs p =
+      reading.handed (reader (journalling list)) layout (refusalOf list) outcomeIn (CallContract list) (λ _. Unit {0}) (λ m call r _ e. e) (λ m call _. tt) lent most m chunks runs tt p
 
 pub code-demand3 : (list registry : List ℕ) → CodeDemand3 list registry
 code-demand3 list registry = record {
   follows = λ calls runs p. subst (FollowsRules list registry calls) (ran list calls (fresh registry) runs p) (demand3 list registry .follows calls);
-  taken = λ w good chunks buffers most runs short small room enough p.
-      let calls : List Call = handedOver most buffers chunks runs in
+  taken = λ w good chunks lent most runs short small room space enough p.
+      let calls : List Call = handedOver most lent chunks runs in
       subst (TakenWhole chunks calls) (ran list calls (fresh registry) runs p)
-      (subst (λ (x : List Call). TakenWhole chunks x (callsOutcome list (fresh registry) x)) (sym (handed list buffers most (fresh registry) chunks runs p))
-      (demand3 list registry .taken w good chunks buffers most short small room enough));
+      (subst (λ (x : List Call). TakenWhole chunks x (callsOutcome list (fresh registry) x)) (sym (handed list lent most (fresh registry) chunks runs p))
+      (demand3 list registry .taken w good chunks lent most short small room space enough));
 }

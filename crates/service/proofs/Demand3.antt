@@ -1,40 +1,39 @@
 -- Demand 3 of the definition's calls, at document 01's judgement and on memory as the code has it. The list of keys that we ship
 -- is a fixed input: the same in all calls.
-use mathlib.Core.Path.{_≡_, ap, _∙_}
+use mathlib.Core.Path.{_≡_, sym, ap, _∙_, subst}
 use mathlib.Core.Bool.{true}
 use mathlib.Core.Option.{none}
-use mathlib.Core.List.{List, [], _∷_, flatten, map-id}
+use mathlib.Core.List.{List, [], _++_, map, flatten}
 use Prim.Native.Nat.{ℕ, _+_, _≤_}
 use native.Mathlib.Omega.{arith}
 use borrow.Author.Tests.{le-ltb}
-use lib.ListN.{length}
+use lib.ListN.{length, take}
 use Rattle.wire.specs.Choice.{firstOf}
 use Rattle.wire.proofs.TestLaws.{either}
-use Rattle.reading.specs.Calls.{takenStream, handOver}
-use Rattle.reading.specs.Buffer.{bytesOf, asOne}
-use Rattle.reading.specs.Claims.{Finds}
-use Rattle.reading.proofs.CallsLaws.{said-each}
-use Rattle.reading.proofs.BufferLaws.{bytes-of, as-one, as-none}
+use Rattle.reading.specs.Call.{Effect, callRule}
+use Rattle.reading.specs.Calls.{took, callOn, takenStream, handOver}
 use Rattle.stream.specs.Frame.{oversized}
-use Rattle.stream.specs.Rules.{State, judge, rules}
+use Rattle.stream.specs.Rules.{State, Outcome, judge, rules}
 use Rattle.stream.specs.Call as stream
 use Rattle.stream.specs.Call.{reader}
+use Rattle.stream.specs.Handed.{Lent, responsesIn}
 use Rattle.stream.specs.Parts.{partsOf, responsesTo}
 use Rattle.stream.specs.Claims.{within, TakenWhole}
-use Rattle.stream.proofs.PartsLaws.{one-each}
-use Rattle.stream.proofs.ResponseLaws.{Answers, Every, Anything, NotEmpty, every-event}
+use Rattle.stream.proofs.PartsLaws.{one-each, rules-from-stream}
+use Rattle.stream.proofs.ResponseLaws.{Answers, Every, Anything, NotEmpty}
 use Rattle.stream.proofs.KeptLaws.{rules-connection, rules-kept}
-use Rattle.stream.proofs.CallsLaws.{Lawful, follows-rules}
-use Rattle.stream.proofs.DeliveryLaws.{delivered}
+use Rattle.stream.proofs.CallsLaws.{Lawful, rules-took, follows-rules}
+use Rattle.stream.proofs.HandedLaws.{call-bare, rules-bare, follows-with-journal, each-with-journal, delivered-with-journal}
 use Rattle.connection.proofs.ConnectionLaws.{load-store, stored-good}
 use Rattle.registry.specs.WellFormed.{wellFormedRegistry}
 use Rattle.shipped.specs.Shipped.{wellFormedList}
 use Rattle.judgement.specs.Counts.{Counts, requestsIn}
 use Rattle.judgement.specs.Judgement.{refusedEarly, verdictOf, judgement}
 use Rattle.judgement.proofs.ResponseLaws.{response-some}
+use Rattle.journal.specs.Journalling.{recordedFor, recordsIn, journalling, journalOf}
 use Rattle.counters.specs.Counters.{totalsOf, countersOf, zeroCounters, counterMost, largestCount, largestCounter}
 use Rattle.counters.proofs.RequestLaws.{rules-requests}
-use Rattle.service.specs.Call.{Memory, stateIn, memoryOf, withResponse, layout, Call, CallsOutcome, fresh, bufferLeast, chunkMost, refusalTests, refusalOf, callsOutcome, responsesIn}
+use Rattle.service.specs.Call.{Memory, stateIn, memoryOf, layout, Call, CallOutcome, CallsOutcome, fresh, bufferLeast, journalLeast, chunkMost, refusalTests, refusalOf, callOutcome, callsOutcome}
 use Rattle.service.specs.Claims.{FollowsRules}
 use Rattle.service.proofs.KeptLaws.{keeps}
 
@@ -47,10 +46,10 @@ lawful s w = λ i. record { connection = load-store (s .connection) w i; registr
 -- ---- what the rules keep is refused for the buffer or the chunk alone
 
 pub accepts : (list registry : List ℕ) → wellFormedRegistry registry ≡ true → wellFormedList list ≡ true → (seen : List ℕ) (call : Call)
-    → length seen ≤ counterMost → length (call .chunk) ≤ chunkMost → bufferLeast ≤ length (call .lent)
+    → length seen ≤ counterMost → length (call .chunk) ≤ chunkMost → bufferLeast ≤ length (call .lent .response) → journalLeast ≤ length (call .lent .journal)
     → refusalOf list (memoryOf (rules (judgement list) registry seen .state)) call ≡ none
 unfolding refusalOf refusalTests firstOf memoryOf countersOf
-accepts list registry w good seen call h short room =
+accepts list registry w good seen call h short room space =
     let s : State (List ℕ) Counts = rules (judgement list) registry seen .state in
     let k = rules-kept largestCount wellFormedRegistry (judgement list) (keeps list) registry w seen in
     let taken = k .taken in
@@ -59,25 +58,44 @@ accepts list registry w good seen call h short room =
     let counts = k .counts in
     let small : largestCounter (countersOf (s .totals)) ≤ counterMost = unfold largestCounter totalsOf countersOf in omega arith in
     rw (
-      le-ltb (length (call .lent)) bufferLeast room,
+      le-ltb (length (call .lent .response)) bufferLeast room,
       le-ltb chunkMost (length (call .chunk)) short,
       stored-good (s .connection) (rules-connection (judgement list) registry seen),
       k .good,
       le-ltb counterMost (largestCounter (countersOf (s .totals))) small,
       good,
+      le-ltb (length (call .lent .journal)) journalLeast space,
     )
 
--- ---- responses: what a call says that it wrote is what the rules hand out
+-- ---- one call on what the rules leave
 
--- joined,
-finds-response : (list : List ℕ) → Finds (reader (judgement list)) layout bytesOf (λ response. response)
-unfolding layout withResponse
-finds-response list = record {
-  nothing = λ buffer. bytes-of [] buffer;
-  event = λ s b response e buffer. bytes-of response buffer;
-}
+pub record CalledOn (list registry seen : List ℕ) (call : Call) (o : CallOutcome) : Type 0 where
+  pub taken : o .answer .taken ≡ callRule (reader (judgement list)) (rules (judgement list) registry seen .state) (call .chunk) .taken
+  pub memory : o .memory ≡ memoryOf (rules (judgement list) registry (seen ++ take (o .answer .taken) (call .chunk)) .state)
 
--- and one by one, for none is empty
+pub called-on : (list registry seen : List ℕ) (call : Call) → refusalOf list (memoryOf (rules (judgement list) registry seen .state)) call ≡ none
+    → CalledOn list registry seen call (callOutcome list (memoryOf (rules (judgement list) registry seen .state)) call)
+unfolding callOutcome layout journalling
+called-on list registry seen call ok =
+    let same : (s : List ℕ) → rules (journalling list) registry s .state ≡ rules (judgement list) registry s .state
+    = λ s. ap (λ (o : Outcome (List ℕ) Counts (List ℕ)). o .state) (rules-bare (recordedFor list) (judgement list) registry s) in
+    let s : State (List ℕ) Counts = rules (judgement list) registry seen .state in
+    let o : CallOutcome = callOutcome list (memoryOf s) call in
+    let t : o ≡ (let e = callRule (reader (journalling list)) s (call .chunk) in
+    record { answer = took layout (e .taken) (e .event) call; memory = memoryOf (rules (journalling list) registry (seen ++ take (e .taken) (call .chunk)) .state) })
+    = subst (λ (x : State (List ℕ) Counts). callOn (reader (journalling list)) layout (refusalOf list) (memoryOf x) call ≡ (let e = callRule (reader (journalling list)) x (call .chunk) in
+    record { answer = took layout (e .taken) (e .event) call; memory = memoryOf (rules (journalling list) registry (seen ++ take (e .taken) (call .chunk)) .state) })) (same seen)
+    (rules-took (journalling list) layout lawful (refusalOf list) registry seen call (ap (λ (x : State (List ℕ) Counts). refusalOf list (memoryOf x) call) (same seen) ∙ ok)) in
+    let n : o .answer .taken ≡ callRule (reader (journalling list)) s (call .chunk) .taken = ap (λ (x : CallOutcome). x .answer .taken) t in
+    record {
+      taken = n ∙ ap (λ (e : Effect (State (List ℕ) Counts) (List ℕ)). e .taken) (call-bare (recordedFor list) (judgement list) s (call .chunk));
+      memory =
+          ap (λ (x : CallOutcome). x .memory) t ∙ ap memoryOf (same (seen ++ take (callRule (reader (journalling list)) s (call .chunk) .taken) (call .chunk)))
+          ∙ ap (λ (k : ℕ). memoryOf (rules (judgement list) registry (seen ++ take k (call .chunk)) .state)) (sym n);
+    }
+
+-- ---- no response is empty
+
 never-empty : (list : List ℕ) → Every (judgement list) Anything NotEmpty
 unfolding judge judgement refusedEarly verdictOf
 never-empty list = record {
@@ -89,13 +107,6 @@ never-empty list = record {
       (λ _. record { response = response-some _ _ _ _ _; registry = tt });
 }
 
-finds-each : (list : List ℕ) → Finds (reader (judgement list)) layout asOne (λ response. response ∷ [])
-unfolding layout withResponse
-finds-each list = record {
-  nothing = λ buffer. as-none buffer;
-  event = λ s b response e buffer. as-one response buffer (every-event (judgement list) Anything NotEmpty (never-empty list) s tt b response e);
-}
-
 -- ---- requests
 
 -- the counters that the rules leave have as many requests as they answered
@@ -104,6 +115,13 @@ requests-stored : (list registry stream : List ℕ)
 unfolding memoryOf totalsOf countersOf
 requests-stored list registry stream = rules-requests list registry stream
 
+-- ---- records
+
+journal-is : (list registry stream : List ℕ)
+    → journalOf list registry stream ≡ flatten (map (λ h. h .recorded) (responsesTo (journalling list) registry (partsOf stream .answered)))
+unfolding journalOf recordsIn
+journal-is list registry stream = ap recordsIn (rules-from-stream (journalling list) registry stream .responses)
+
 -- ---- the claim
 
 -- from a fresh connection, zero counters and this registry, with this list
@@ -111,27 +129,28 @@ pub record Demand3 (list registry : List ℕ) : Type 0 where
   -- any list of calls, refused ones included
   pub follows : (calls : List Call) → FollowsRules list registry calls (callsOutcome list (fresh registry) calls)
   -- both well formed, and a stream of at most 2^62 bytes, cut anywhere into chunks of at most 65,536, with buffers of at
-  -- least 1,024 bytes (`buffers k` when k more calls may follow; one call for each byte and each chunk is enough)
-  pub taken : wellFormedRegistry registry ≡ true → wellFormedList list ≡ true → (chunks : List (List ℕ)) (buffers : ℕ → List ℕ) (most : ℕ)
-      → length (flatten chunks) ≤ counterMost → within chunkMost chunks ≡ true → ((k : ℕ) → bufferLeast ≤ length (buffers k))
+  -- least 1,024 bytes (`lent k` when k more calls may follow; one call for each byte and each chunk is enough)
+  pub taken : wellFormedRegistry registry ≡ true → wellFormedList list ≡ true → (chunks : List (List ℕ)) (lent : ℕ → Lent) (most : ℕ)
+      → length (flatten chunks) ≤ counterMost → within chunkMost chunks ≡ true → ((k : ℕ) → bufferLeast ≤ length (lent k .response)) → ((k : ℕ) → journalLeast ≤ length (lent k .journal))
       → length (flatten chunks) + length chunks ≤ most
-      → (let calls : List Call = handOver (reader (judgement list)) layout (refusalOf list) most buffers (fresh registry) chunks in
+      → (let calls : List Call = handOver (reader (journalling list)) layout (refusalOf list) most lent (fresh registry) chunks in
       TakenWhole chunks calls (callsOutcome list (fresh registry) calls))
 
 pub demand3 : (list registry : List ℕ) → Demand3 list registry
-unfolding callsOutcome fresh layout stateIn memoryOf stream.fresh judgement zeroCounters totalsOf
+unfolding callsOutcome journalling fresh layout stateIn memoryOf stream.fresh judgement zeroCounters totalsOf
 demand3 list registry = record {
   follows = λ calls.
       let o : CallsOutcome = callsOutcome list (fresh registry) calls in
       let stream : List ℕ = takenStream calls (o .answers) in
-      let f = follows-rules (judgement list) layout lawful (refusalOf list) registry calls in
-      let responses : List (List ℕ) = rules (judgement list) registry stream .responses in
+      let f = follows-rules (journalling list) layout lawful (refusalOf list) registry calls in
       let each : responsesIn (o .answers) ≡ responsesTo (judgement list) registry (partsOf stream .answered)
-      = f .outs asOne (λ response. response ∷ []) (finds-each list) ∙ said-each (λ response. response) responses ∙ map-id responses ∙ f .each in
+      = each-with-journal (recordedFor list) (judgement list) stateIn memoryOf (refusalOf list) registry lawful calls (never-empty list) in
+      let j = follows-with-journal (recordedFor list) (judgement list) stateIn memoryOf (refusalOf list) registry lawful calls in
       record {
         answers = f .answers;
-        responses = f .outs bytesOf (λ response. response) (finds-response list) ∙ ap flatten (map-id responses);
-        memory = f .memory;
+        responses = j .responses;
+        records = j .records ∙ sym (journal-is list registry stream);
+        memory = j .memory;
         taken = f .taken;
         accounted = f .accounted;
         parts = f .parts;
@@ -140,9 +159,9 @@ demand3 list registry = record {
         dropped = f .dropped;
         each = each;
         oneEach = ap length each ∙ one-each (judgement list) registry (partsOf stream .answered);
-        requests = ap (λ (m : Memory). requestsIn (totalsOf (m .counters) .counts)) (f .memory) ∙ requests-stored list registry stream;
+        requests = ap (λ (m : Memory). requestsIn (totalsOf (m .counters) .counts)) (j .memory) ∙ requests-stored list registry stream;
       };
-  taken = λ w good chunks buffers most short small room enough.
-      delivered (judgement list) layout lawful (refusalOf list) registry counterMost chunkMost buffers
-      (λ seen chunk k h few. accepts list registry w good seen _ h few (room k)) most chunks enough small short;
+  taken = λ w good chunks lent most short small room space enough.
+      delivered-with-journal (recordedFor list) (judgement list) stateIn memoryOf (refusalOf list) registry lawful counterMost chunkMost lent
+      (λ seen chunk k h few. accepts list registry w good seen _ h few (room k) (space k)) most chunks enough small short;
 }

@@ -15,12 +15,14 @@ use Rattle.stream.specs.Rules.{Verdict, Connection, opened, skipping, closed, S
 use Rattle.stream.specs.code.Effects.{waiting, answering, dropping}
 use Rattle.reading.specs.Call.{Effect, callRule}
 use Rattle.stream.specs.Call.{reader}
+use Rattle.stream.specs.Handed.{Handed}
 use Rattle.stream.proofs.ChunkLaws.{call-closed}
 use Rattle.connection.specs.Connection.{laidOut, connectionBytes, connectionOf}
 use Rattle.connection.proofs.ConnectionLaws.{WholeHeader}
 use Rattle.connection.proofs.StateLaws.{header-there, header-long, header-size}
 use Rattle.judgement.specs.Counts.{Counts, noCounts}
 use Rattle.judgement.specs.Judgement.{judgement, refusedEarly, verdictOf}
+use Rattle.journal.specs.Journalling.{recordedFor, journalling}
 use Rattle.judgement.specs.code.Decided.{AskerBelow}
 use Rattle.answer.specs.code.Answers.{AnsweredBy}
 use Rattle.answer.specs.declared.Answered.{Answered}
@@ -48,15 +50,15 @@ modest-finished : (n size : ℕ) (a : Answered) → n ≤ chunkMost → size < 2
 modest-finished n size a few small asker = record { taken = few; answered = small; dropped = omega arith; event = event-below (a .asker) (a .status) asker }
 
 module _ (k : Connection) (registry : List ℕ) (c : Counters) where
-  pub carried-wait : (n : ℕ) (conn : Connection) (connection before after : List ℕ) (r : Handled)
+  pub carried-wait : (n : ℕ) (conn : Connection) (connection before after journal journal′ : List ℕ) (r : Handled)
       → n ≤ chunkMost → r ≡ waited n
-      → connection ≡ connectionBytes conn → after ≡ before
-      → Carried c (waiting (stateWith k registry c) n conn) connection registry before after r
+      → connection ≡ connectionBytes conn → after ≡ before → journal′ ≡ journal
+      → Carried c (waiting (stateWith k registry c) n conn) connection registry before after journal journal′ r
   unfolding totalsOf countersOf counted countEvent
-  carried-wait n conn connection before after r few e m b = record {
+  carried-wait n conn connection before after journal journal′ r few e m b j = record {
     code-is = ap (λ (x : Handled). x .code) e;
     taken-is = ap (λ (x : Handled). x .added .taken) e;
-    response-is = (ap (λ (x : Handled). x .written) e, b);
+    written-is = (ap (λ (x : Handled). x .written) e, b, ap (λ (x : Handled). x .recorded) e, j);
     connection-is = m;
     registry-is = refl;
     counters-is =
@@ -65,15 +67,15 @@ module _ (k : Connection) (registry : List ℕ) (c : Counters) where
     modest = subst (λ (x : Handled). Modest (x .added)) (sym e) (modest-waited n few);
   }
 
-  carried-drop : (n : ℕ) (connection before after : List ℕ) (r : Handled)
+  carried-drop : (n : ℕ) (connection before after journal journal′ : List ℕ) (r : Handled)
       → n ≤ chunkMost → r ≡ droppedAll n
-      → connection ≡ connectionBytes closed → after ≡ before
-      → Carried c (dropping (stateWith k registry c) n) connection registry before after r
+      → connection ≡ connectionBytes closed → after ≡ before → journal′ ≡ journal
+      → Carried c (dropping (stateWith k registry c) n) connection registry before after journal journal′ r
   unfolding totalsOf countersOf counted countEvent
-  carried-drop n connection before after r few e m b = record {
+  carried-drop n connection before after journal journal′ r few e m b j = record {
     code-is = ap (λ (x : Handled). x .code) e;
     taken-is = ap (λ (x : Handled). x .added .taken) e;
-    response-is = (ap (λ (x : Handled). x .written) e, b);
+    written-is = (ap (λ (x : Handled). x .written) e, b, ap (λ (x : Handled). x .recorded) e, j);
     connection-is = m;
     registry-is = refl;
     counters-is =
@@ -83,23 +85,28 @@ module _ (k : Connection) (registry : List ℕ) (c : Counters) where
   }
 
   -- the response and the registry of a verdict hang on no counts
-  pub carried-answer : (v : Counts → Verdict (List ℕ) Counts (List ℕ)) (n size : ℕ) (conn : Connection) (connection kept before after : List ℕ) (a : Answered) (r : Handled)
+  pub carried-answer : (v : Counts → Verdict (List ℕ) Counts Handed) (n size : ℕ) (conn : Connection) (connection kept before after journal journal′ : List ℕ) (a : Answered) (r : Handled)
       → n ≤ chunkMost → size < 2 ^ 40
-      → AnsweredBy v kept before after a
+      → AnsweredBy v kept before after journal journal′ a
       → v noCounts .response ≡ v (totalsOf c .counts) .response
       → v noCounts .registry ≡ v (totalsOf c .counts) .registry
       → r ≡ finished n size a
       → connection ≡ connectionBytes conn
-      → Carried c (answering (stateWith k registry c) n size (v (totalsOf c .counts)) conn) connection kept before after r
+      → Carried c (answering (stateWith k registry c) n size (v (totalsOf c .counts)) conn) connection kept before after journal journal′ r
   unfolding totalsOf countersOf counted countEvent
-  carried-answer v n size conn connection kept before after a r few small by same-response same-registry e m = record {
+  carried-answer v n size conn connection kept before after journal journal′ a r few small by same-response same-registry e m = record {
     code-is = ap (λ (x : Handled). x .code) e;
     taken-is = ap (λ (x : Handled). x .added .taken) e;
-    response-is =
-        record {
-          count = ap (λ (x : Handled). x .written) e ∙ by .response .count ∙ ap length same-response;
-          bytes = by .response .bytes ∙ ap (λ (s : List ℕ). over s before) same-response;
-        };
+    written-is = (
+      record {
+        count = ap (λ (x : Handled). x .written) e ∙ by .response .count ∙ ap (λ (h : Handed). length (h .response)) same-response;
+        bytes = by .response .bytes ∙ ap (λ (h : Handed). over (h .response) before) same-response;
+      },
+      record {
+        count = ap (λ (x : Handled). x .recorded) e ∙ by .recorded .count ∙ ap (λ (h : Handed). length (h .recorded)) same-response;
+        bytes = by .recorded .bytes ∙ ap (λ (h : Handed). over (h .recorded) journal) same-response;
+      },
+    );
     connection-is = m;
     registry-is = by .kept ∙ same-registry;
     counters-is =
@@ -118,7 +125,7 @@ module _ (list registry : List ℕ) (c : Counters) (header : List ℕ) (used her
 
   pub skip-answers : toGo ≤ here
       → skipEffect list registry c header used here toGo
-      ≡ answering (stateWith closed registry c) (used + toGo) (requestLength header) (judgement list .onOversized registry (totalsOf c .counts) header) (opened [])
+      ≡ answering (stateWith closed registry c) (used + toGo) (requestLength header) (journalling list .onOversized registry (totalsOf c .counts) header) (opened [])
   unfolding skipEffect
   skip-answers h = rw (le-ltb here toGo h)
 
@@ -142,72 +149,72 @@ skip-ready connection header buffer kind number used here toGo laid h room fits 
 
 -- ---- a verdict's response and registry hang on no counts
 
-pub record Steady (v : Counts → Verdict (List ℕ) Counts (List ℕ)) : Type 0 where
+pub record Steady (v : Counts → Verdict (List ℕ) Counts Handed) : Type 0 where
   pub response : (c d : Counts) → v c .response ≡ v d .response
   pub registry : (c d : Counts) → v c .registry ≡ v d .registry
 
-pub bad-steady : (list registry : List ℕ) → Steady (λ k. judgement list .onBadStart registry k)
-unfolding judgement refusedEarly
+pub bad-steady : (list registry : List ℕ) → Steady (λ k. journalling list .onBadStart registry k)
+unfolding journalling judgement refusedEarly
 bad-steady list registry = record { response = λ c d. refl; registry = λ c d. refl }
 
-pub judge-steady : (list registry request : List ℕ) → Steady (λ k. judge (judgement list) registry k request)
-unfolding judge judgement refusedEarly verdictOf
+pub judge-steady : (list registry request : List ℕ) → Steady (λ k. judge (journalling list) registry k request)
+unfolding judge journalling recordedFor judgement refusedEarly verdictOf
 judge-steady list registry request = go (oversized request) refl
   where
-    go : (b : Bool) → oversized request ≡ b → Steady (λ k. judge (judgement list) registry k request)
+    go : (b : Bool) → oversized request ≡ b → Steady (λ k. judge (journalling list) registry k request)
     go true e = rw (e, judge) (record { response = λ c d. refl; registry = λ c d. refl })
     go false e = rw (e, judge) (record { response = λ c d. refl; registry = λ c d. refl })
 
 -- ---- a taken call, from what the rule of a call gives
 
-module _ (list connection registry : List ℕ) (c : Counters) (chunk before : List ℕ) where
+module _ (list connection registry : List ℕ) (c : Counters) (chunk before journal : List ℕ) where
   abbrev s : State (List ℕ) Counts
   s = stateWith (connectionOf connection) registry c
 
-  pub serves-wait : (n : ℕ) (conn : Connection) (left after : List ℕ) (r : Handled)
-      → callRule (reader (judgement list)) s chunk ≡ waiting s n conn
+  pub serves-wait : (n : ℕ) (conn : Connection) (left after journal′ : List ℕ) (r : Handled)
+      → callRule (reader (journalling list)) s chunk ≡ waiting s n conn
       → n ≤ chunkMost → r ≡ waited n
-      → left ≡ connectionBytes conn → after ≡ before
-      → Carried c (effectOf list (lentMemory connection registry c) chunk) left registry before after r
+      → left ≡ connectionBytes conn → after ≡ before → journal′ ≡ journal
+      → Carried c (effectOf list (lentMemory connection registry c) chunk) left registry before after journal journal′ r
   unfolding stateIn
-  serves-wait n conn left after r e few w m b =
-      subst (λ (x : Effect (State (List ℕ) Counts) (List ℕ)). Carried c x left registry before after r) (sym e)
-      (carried-wait (connectionOf connection) registry c n conn left before after r few w m b)
+  serves-wait n conn left after journal′ r e few w m b j =
+      subst (λ (x : Effect (State (List ℕ) Counts) Handed). Carried c x left registry before after journal journal′ r) (sym e)
+      (carried-wait (connectionOf connection) registry c n conn left before after journal journal′ r few w m b j)
 
-  pub serves-answer : (v : Counts → Verdict (List ℕ) Counts (List ℕ)) (n size : ℕ) (conn : Connection) (left kept after : List ℕ) (a : Answered) (r : Handled)
+  pub serves-answer : (v : Counts → Verdict (List ℕ) Counts Handed) (n size : ℕ) (conn : Connection) (left kept after journal′ : List ℕ) (a : Answered) (r : Handled)
       → Steady v
-      → callRule (reader (judgement list)) s chunk ≡ answering s n size (v (totalsOf c .counts)) conn
-      → AnsweredBy v kept before after a
+      → callRule (reader (journalling list)) s chunk ≡ answering s n size (v (totalsOf c .counts)) conn
+      → AnsweredBy v kept before after journal journal′ a
       → n ≤ chunkMost → size < 2 ^ 40 → r ≡ finished n size a
       → left ≡ connectionBytes conn
-      → Carried c (effectOf list (lentMemory connection registry c) chunk) left kept before after r
+      → Carried c (effectOf list (lentMemory connection registry c) chunk) left kept before after journal journal′ r
   unfolding stateIn
-  serves-answer v n size conn left kept after a r steady e by few small w m =
-      subst (λ (x : Effect (State (List ℕ) Counts) (List ℕ)). Carried c x left kept before after r) (sym e)
-      (carried-answer (connectionOf connection) registry c v n size conn left kept before after a r few small by (steady .response _ _) (steady .registry _ _) w m)
+  serves-answer v n size conn left kept after journal′ a r steady e by few small w m =
+      subst (λ (x : Effect (State (List ℕ) Counts) Handed). Carried c x left kept before after journal journal′ r) (sym e)
+      (carried-answer (connectionOf connection) registry c v n size conn left kept before after journal journal′ a r few small by (steady .response _ _) (steady .registry _ _) w m)
 
-  pub serves-drop : (left after : List ℕ) (r : Handled)
+  pub serves-drop : (left after journal′ : List ℕ) (r : Handled)
       → connectionOf connection ≡ closed
       → length chunk ≤ chunkMost → r ≡ droppedAll (length chunk)
-      → left ≡ connectionBytes closed → after ≡ before
-      → Carried c (effectOf list (lentMemory connection registry c) chunk) left registry before after r
+      → left ≡ connectionBytes closed → after ≡ before → journal′ ≡ journal
+      → Carried c (effectOf list (lentMemory connection registry c) chunk) left registry before after journal journal′ r
   unfolding stateIn
-  serves-drop left after r e few w m b =
-      subst (λ (x : Effect (State (List ℕ) Counts) (List ℕ)). Carried c x left registry before after r) (sym (call-closed (judgement list) s chunk e))
-      (carried-drop (connectionOf connection) registry c (length chunk) left before after r few w m b)
+  serves-drop left after journal′ r e few w m b j =
+      subst (λ (x : Effect (State (List ℕ) Counts) Handed). Carried c x left registry before after journal journal′ r) (sym (call-closed (journalling list) s chunk e))
+      (carried-drop (connectionOf connection) registry c (length chunk) left before after journal journal′ r few w m b j)
 
   -- a request to skip, of which `here` bytes are at hand: waiting or answering, as the rule of a call says
-  pub serves-skip : (header : List ℕ) (used here toGo : ℕ) (left after : List ℕ) (r : Handled)
-      → (here < toGo → callRule (reader (judgement list)) s chunk ≡ waiting s (used + here) (skipping header (toGo - here)))
-      → (toGo ≤ here → callRule (reader (judgement list)) s chunk ≡ answering s (used + toGo) (requestLength header) (judgement list .onOversized registry (totalsOf c .counts) header) (opened []))
-      → Carried c (skipEffect list registry c header used here toGo) left registry before after r
-      → Carried c (effectOf list (lentMemory connection registry c) chunk) left registry before after r
+  pub serves-skip : (header : List ℕ) (used here toGo : ℕ) (left after journal′ : List ℕ) (r : Handled)
+      → (here < toGo → callRule (reader (journalling list)) s chunk ≡ waiting s (used + here) (skipping header (toGo - here)))
+      → (toGo ≤ here → callRule (reader (journalling list)) s chunk ≡ answering s (used + toGo) (requestLength header) (journalling list .onOversized registry (totalsOf c .counts) header) (opened []))
+      → Carried c (skipEffect list registry c header used here toGo) left registry before after journal journal′ r
+      → Carried c (effectOf list (lentMemory connection registry c) chunk) left registry before after journal journal′ r
   unfolding stateIn
-  serves-skip header used here toGo left after r waits answers done = go (ltb here toGo) refl
+  serves-skip header used here toGo left after journal′ r waits answers done = go (ltb here toGo) refl
     where
-      on : skipEffect list registry c header used here toGo ≡ callRule (reader (judgement list)) s chunk → Carried c (callRule (reader (judgement list)) s chunk) left registry before after r
-      on e = subst (λ (x : Effect (State (List ℕ) Counts) (List ℕ)). Carried c x left registry before after r) e done
+      on : skipEffect list registry c header used here toGo ≡ callRule (reader (journalling list)) s chunk → Carried c (callRule (reader (journalling list)) s chunk) left registry before after journal journal′ r
+      on e = subst (λ (x : Effect (State (List ℕ) Counts) Handed). Carried c x left registry before after journal journal′ r) e done
 
-      go : (b : Bool) → ltb here toGo ≡ b → Carried c (callRule (reader (judgement list)) s chunk) left registry before after r
+      go : (b : Bool) → ltb here toGo ≡ b → Carried c (callRule (reader (journalling list)) s chunk) left registry before after journal journal′ r
       go true t = let less = ltb-true here toGo t in on (skip-waits list registry c header used here toGo less ∙ sym (waits less))
       go false t = let more = ltb-false here toGo t in on (skip-answers list registry c header used here toGo more ∙ sym (answers more))

@@ -8,20 +8,20 @@ use lib.ListN.{length}
 use lib.Dec.{ltb}
 use Rattle.wire.specs.Choice.{firstOf}
 pub use Rattle.wire.specs.Response.{bufferLeast}
-use Rattle.reading.specs.Calls.{Call as CallWith, Answer as AnswerWith, Layout, CallOutcome as CallOutcomeWith, CallsOutcome as CallsOutcomeWith, callOn, callsOn, joinedOut}
-use Rattle.reading.specs.Buffer.{Written, written, bytesOf, asOne}
+use Rattle.reading.specs.Calls.{Call as CallWith, Answer as AnswerWith, Layout, CallOutcome as CallOutcomeWith, CallsOutcome as CallsOutcomeWith, callOn, callsOn}
 use Rattle.stream.specs.Rules.{State, opened}
 use Rattle.stream.specs.Call.{reader}
+use Rattle.stream.specs.Handed.{Handed, Lent, Given, give}
 use Rattle.connection.specs.Connection.{connectionBytes, connectionOf, wellFormedConnection}
 use Rattle.registry.specs.WellFormed.{wellFormedRegistry}
 use Rattle.shipped.specs.Shipped.{wellFormedList}
 use Rattle.judgement.specs.Counts.{Counts}
-use Rattle.judgement.specs.Judgement.{judgement}
+use Rattle.journal.specs.Journalling.{journalling}
 use Rattle.counters.specs.Counters.{totalsOf, countersOf, zeroCounters, counterMost, largestCounter}
 use Rattle.counters.specs.declared.Counters.{Counters}
 use Rattle.service.specs.Refusals.{refusalNumber}
 use Rattle.service.specs.declared.Refusal.{Refusal}
-use Rattle.service.specs.declared.Refusal.the-variants.{ResponseBufferTooSmall, ChunkTooLong, ConnectionIllFormed, RegistryIllFormed, CounterTooHigh, ListIllFormed}
+use Rattle.service.specs.declared.Refusal.the-variants.{ResponseBufferTooSmall, ChunkTooLong, ConnectionIllFormed, RegistryIllFormed, CounterTooHigh, ListIllFormed, JournalBufferTooSmall}
 
 -- ---- what a call is lent
 
@@ -37,26 +37,22 @@ stateIn m = record { connection = connectionOf (m .connection); registry = m .re
 unfoldable pub memoryOf : State (List ℕ) Counts → Memory
 memoryOf s = record { connection = connectionBytes (s .connection); registry = s .registry; counters = countersOf (s .totals) }
 
--- and a buffer, which it gives back with the response in it, if there is one
-unfoldable pub withResponse : Option (List ℕ) → (buffer : List ℕ) → Written
-withResponse none buffer = written [] buffer
-withResponse (some response) buffer = written response buffer
-
-unfoldable pub layout : Layout Memory (State (List ℕ) Counts) (List ℕ) (List ℕ) Written
-layout = record { load = stateIn; store = memoryOf; give = withResponse }
+-- and two buffers, for a response and for a record of the journal
+unfoldable pub layout : Layout Memory (State (List ℕ) Counts) Handed Lent Given
+layout = record { load = stateIn; store = memoryOf; give = give }
 
 -- the call, what it says (a refusal by its number), and what calls leave
 abbrev pub Call : Type 0
-Call = CallWith (List ℕ)
+Call = CallWith Lent
 
 abbrev pub Answer : Type 0
-Answer = AnswerWith ℕ Written
+Answer = AnswerWith ℕ Given
 
 abbrev pub CallOutcome : Type 0
-CallOutcome = CallOutcomeWith Memory ℕ Written
+CallOutcome = CallOutcomeWith Memory ℕ Given
 
 abbrev pub CallsOutcome : Type 0
-CallsOutcome = CallsOutcomeWith Memory ℕ Written
+CallsOutcome = CallsOutcomeWith Memory ℕ Given
 
 -- a fresh connection and zero counters
 unfoldable pub fresh : (registry : List ℕ) → Memory
@@ -67,31 +63,29 @@ fresh registry = record { connection = connectionBytes (opened []); registry = r
 abbrev pub chunkMost : ℕ
 chunkMost = 65536
 
+-- a journal buffer has room for any record
+abbrev pub journalLeast : ℕ
+journalLeast = 1024
+
 unfoldable pub refusalTests : (list : List ℕ) → Memory → Call → List (Bool × Refusal)
 refusalTests list m call =
-    (ltb (length (call .lent)) bufferLeast, ResponseBufferTooSmall)
+    (ltb (length (call .lent .response)) bufferLeast, ResponseBufferTooSmall)
     ∷ (ltb chunkMost (length (call .chunk)), ChunkTooLong)
     ∷ (not (wellFormedConnection (m .connection)), ConnectionIllFormed)
     ∷ (not (wellFormedRegistry (m .registry)), RegistryIllFormed)
     ∷ (ltb counterMost (largestCounter (m .counters)), CounterTooHigh)
     ∷ (not (wellFormedList list), ListIllFormed)
+    ∷ (ltb (length (call .lent .journal)) journalLeast, JournalBufferTooSmall)
     ∷ []
 
--- C1 to C6, first that applies, by its number
+-- C1 to C7, first that applies, by its number
 unfoldable pub refusalOf : (list : List ℕ) → Memory → Call → Option ℕ
 refusalOf list m call = Option·map refusalNumber (firstOf (refusalTests list m call))
 
--- ---- the call, and a list of calls; all are lent the same list of keys that we ship, read-only
+-- ---- the call, by the judgement with its records, and a list of calls; all are lent the same list of keys that we ship, read-only
 
 unfoldable pub callOutcome : (list : List ℕ) → Memory → Call → CallOutcome
-callOutcome list m call = callOn (reader (judgement list)) layout (refusalOf list) m call
+callOutcome list m call = callOn (reader (journalling list)) layout (refusalOf list) m call
 
 unfoldable pub callsOutcome : (list : List ℕ) → Memory → List Call → CallsOutcome
-callsOutcome list m calls = callsOn (reader (judgement list)) layout (refusalOf list) m calls
-
--- the joined responses, and the responses one by one
-abbrev pub joinedResponses : List Answer → List ℕ
-joinedResponses answers = joinedOut bytesOf answers
-
-abbrev pub responsesIn : List Answer → List (List ℕ)
-responsesIn answers = joinedOut asOne answers
+callsOutcome list m calls = callsOn (reader (journalling list)) layout (refusalOf list) m calls

@@ -11,14 +11,17 @@ use Rattle.reading.specs.Claims as reading
 use Rattle.stream.specs.Rules.{heldBytes, rules}
 use Rattle.stream.specs.Call.{byRules}
 use Rattle.stream.specs.Parts.{joined, partsOf, responsesTo}
+use Rattle.stream.specs.Handed.{Lent, joinedResponses, responsesIn, joinedRecords}
 use Rattle.stream.specs.Claims.{within, TakenWhole}
 use Rattle.connection.specs.Connection.{connectionOf}
 use Rattle.registry.specs.WellFormed.{wellFormedRegistry}
 use Rattle.shipped.specs.Shipped.{wellFormedList}
 use Rattle.judgement.specs.Counts.{requestsIn}
 use Rattle.judgement.specs.Judgement.{longestResponse, judgement}
+use Rattle.journal.specs.Journalling.{journalling, journalOf}
+use Rattle.journal.specs.Record.{recordMost}
 use Rattle.counters.specs.Counters.{totalsOf, counterMost}
-use Rattle.service.specs.Call.{Memory, memoryOf, layout, Call, Answer, CallsOutcome, fresh, bufferLeast, chunkMost, refusalOf, joinedResponses, responsesIn}
+use Rattle.service.specs.Call.{Memory, memoryOf, layout, Call, Answer, CallsOutcome, fresh, bufferLeast, journalLeast, chunkMost, refusalOf}
 use Rattle.service.specs.Contract.{Ran, refusalIn, outcomeIn, CallContract}
 
 -- ---- DEMAND 1: any call
@@ -27,8 +30,10 @@ use Rattle.service.specs.Contract.{Ran, refusalIn, outcomeIn, CallContra
 pub record Still (m : Memory) (call : Call) (r : Ran) : Type 0 where
   pub taken : r .taken ≡ 0
   pub written : r .written ≡ 0
+  pub recorded : r .recorded ≡ 0
   pub memory : r .memory ≡ m
-  pub response : r .response ≡ call .lent
+  pub response : r .response ≡ call .lent .response
+  pub journal : r .journal ≡ call .lent .journal
 
 pub record EachCall (list : List ℕ) (m : Memory) (call : Call) (r : Ran) : Type 0 where
   -- it says the first of the listed cases that applies, if one does,
@@ -36,9 +41,11 @@ pub record EachCall (list : List ℕ) (m : Memory) (call : Call) (r : Ran) : Typ
   -- and then alters nothing, as it does with an empty chunk
   pub refused-still : (code : ℕ) → refusalOf list m call ≡ some code → Still m call r
   pub empty-still : call .chunk ≡ [] → Still m call r
-  -- at most 629 bytes are written, and the buffer keeps its length
+  -- at most 629 bytes are written and 645 recorded, and the buffers keep their lengths
   pub short : r .written ≤ longestResponse
-  pub kept-length : length (r .response) ≡ length (call .lent)
+  pub short-record : r .recorded ≤ recordMost
+  pub kept-response : length (r .response) ≡ length (call .lent .response)
+  pub kept-journal : length (r .journal) ≡ length (call .lent .journal)
 
 abbrev pub Demand1 : Type 0
 Demand1 = (list : List ℕ) (m : Memory) (call : Call) (r : Ran) → CallContract list m call r → EachCall list m call r
@@ -59,17 +66,19 @@ abbrev pub ranOutcome : Memory → List Ran → CallsOutcome
 ranOutcome m runs = record { answers = answersIn runs; memory = leftAfter m runs }
 
 -- the calls of a caller that hands over what is left of a chunk again, as the code says how many bytes it took: at most `most`;
--- `buffers k` is lent when k more may follow
-abbrev pub handedOver : (most : ℕ) (buffers : ℕ → List ℕ) (chunks : List (List ℕ)) → List Ran → List Call
-handedOver most buffers chunks runs = reading.handedOver outcomeIn most buffers chunks runs
+-- `lent k` is lent when k more may follow
+abbrev pub handedOver : (most : ℕ) (lent : ℕ → Lent) (chunks : List (List ℕ)) → List Ran → List Call
+handedOver most lent chunks runs = reading.handedOver outcomeIn most lent chunks runs
 
 -- what a list of calls did, against the rules on the joined stream of taken bytes, uncut
 pub record FollowsRules (list registry : List ℕ) (calls : List Call) (o : CallsOutcome) : Type 0 where
   -- each call answers as the rules say: refused with its code, or so many bytes taken and that response written
-  pub answers : o .answers ≡ answersBy (byRules (judgement list) registry) layout (refusalOf list) [] calls
+  pub answers : o .answers ≡ answersBy (byRules (journalling list) registry) layout (refusalOf list) [] calls
   -- the joined responses are theirs
   pub responses : joinedResponses (o .answers) ≡ flatten (rules (judgement list) registry (takenStream calls (o .answers)) .responses)
-  -- and so are connection, registry and counters
+  -- the joined records are those of its served imports and destroys, one for each, in their order
+  pub records : joinedRecords (o .answers) ≡ journalOf list registry (takenStream calls (o .answers))
+  -- connection, registry and counters are theirs too
   pub memory : o .memory ≡ memoryOf (rules (judgement list) registry (takenStream calls (o .answers)) .state)
   -- bytes taken are the stream's length: bytes of answered requests, of the unfinished one, and dropped after closing
   pub taken : o .memory .counters .taken ≡ length (takenStream calls (o .answers))
@@ -92,8 +101,8 @@ pub record CodeDemand3 (list registry : List ℕ) : Type 0 where
   pub follows : (calls : List Call) (runs : List Ran) → Runs list (fresh registry) calls runs → FollowsRules list registry calls (ranOutcome (fresh registry) runs)
   -- both well formed, and a stream of at most 2^62 bytes, cut anywhere into chunks of at most 65,536, with buffers of at
   -- least 1,024 bytes; one call for each byte and each chunk is enough
-  pub taken : wellFormedRegistry registry ≡ true → wellFormedList list ≡ true → (chunks : List (List ℕ)) (buffers : ℕ → List ℕ) (most : ℕ) (runs : List Ran)
-      → length (flatten chunks) ≤ counterMost → within chunkMost chunks ≡ true → ((k : ℕ) → bufferLeast ≤ length (buffers k))
+  pub taken : wellFormedRegistry registry ≡ true → wellFormedList list ≡ true → (chunks : List (List ℕ)) (lent : ℕ → Lent) (most : ℕ) (runs : List Ran)
+      → length (flatten chunks) ≤ counterMost → within chunkMost chunks ≡ true → ((k : ℕ) → bufferLeast ≤ length (lent k .response)) → ((k : ℕ) → journalLeast ≤ length (lent k .journal))
       → length (flatten chunks) + length chunks ≤ most
-      → (let calls : List Call = handedOver most buffers chunks runs in
+      → (let calls : List Call = handedOver most lent chunks runs in
       Runs list (fresh registry) calls runs → TakenWhole chunks calls (ranOutcome (fresh registry) runs))

@@ -14,8 +14,8 @@ use Rattle.service.specs.declared.Code.the-variants.{Taken, Refused}
 abbrev pub lentMemory : (connection registry : List ℕ) → Counters → Memory
 lentMemory connection registry counters = record { connection = connection; registry = registry; counters = counters }
 
-abbrev pub callWith : (chunk buffer : List ℕ) → Call
-callWith chunk buffer = record { chunk = chunk; lent = buffer }
+abbrev pub callWith : (chunk response journal : List ℕ) → Call
+callWith chunk response journal = record { chunk = chunk; lent = record { response = response; journal = journal } }
 
 -- what the code says, as a number: 0 if the call is taken, else the refusal's
 unfoldable pub codeNumber : Code → ℕ
@@ -29,17 +29,24 @@ refusalIn (suc n) = some (suc n)
 
 -- all that a call says, in numbers, and leaves
 pub record Ran : Type 0 where
-  pub code : ℕ  -- 0 if it is taken, else the number of C1 to C6
+  pub code : ℕ  -- 0 if it is taken, else the number of C1 to C7
   pub taken : ℕ
   pub written : ℕ
+  pub recorded : ℕ
   pub memory : Memory
-  pub response : List ℕ  -- the buffer as it is left
+  pub response : List ℕ  -- the buffers as they are left
+  pub journal : List ℕ
 
-abbrev pub ranWith : (code taken written : ℕ) → Memory → (response : List ℕ) → Ran
-ranWith code taken written memory response = record { code = code; taken = taken; written = written; memory = memory; response = response }
+abbrev pub ranWith : (code taken written recorded : ℕ) → Memory → (response journal : List ℕ) → Ran
+ranWith code taken written recorded memory response journal =
+    record { code = code; taken = taken; written = written; recorded = recorded; memory = memory; response = response; journal = journal }
 
 abbrev pub answerIn : Ran → Answer
-answerIn r = record { refusal = refusalIn (r .code); taken = r .taken; given = record { count = r .written; buffer = r .response } }
+answerIn r = record {
+  refusal = refusalIn (r .code);
+  taken = r .taken;
+  given = record { response = record { count = r .written; buffer = r .response }; journal = record { count = r .recorded; buffer = r .journal } };
+}
 
 abbrev pub outcomeIn : Ran → CallOutcome
 outcomeIn r = record { answer = answerIn r; memory = r .memory }

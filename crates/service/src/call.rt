@@ -28,6 +28,7 @@ fn refuse(code: Code) -> Handled
     Handled {
         code,
         written: 0,
+        recorded: 0,
         added,
     }
 }
@@ -40,14 +41,23 @@ fn handle(
     list: &[u8],
     counters: Counters,
     response: &mut [u8],
+    journal: &mut [u8],
 ) -> Handled
-    ensures { λ r. ⌜ CallContract (now (list .entry)) (lentMemory (now (connection .entry)) (now (registry .entry)) counters) (callWith (now (chunk .entry)) (now (response .entry))) (ranWith (codeNumber (r .code)) (r .added .taken) (r .written) (lentMemory (now (connection .exit)) (now (registry .exit)) (counted counters (r .added))) (now (response .exit))) × Fits counters (r .added) ⌝ }
+    ensures { λ r. ⌜ CallContract (now (list .entry)) (lentMemory (now (connection .entry)) (now (registry .entry)) counters) (callWith (now (chunk .entry)) (now (response .entry)) (now (journal .entry))) (ranWith (codeNumber (r .code)) (r .added .taken) (r .written) (r .recorded) (lentMemory (now (connection .exit)) (now (registry .exit)) (counted counters (r .added))) (now (response .exit)) (now (journal .exit))) × Fits counters (r .added) ⌝ }
 {
-    let code = judge_call(chunk, connection, registry, list, counters, response);
+    let code = judge_call(
+        chunk,
+        connection,
+        registry,
+        list,
+        counters,
+        response,
+        journal,
+    );
     let Code::Taken = code else {
         return refuse(code);
     };
-    serve(connection, registry, list, response, chunk)
+    serve(connection, registry, list, response, journal, chunk)
 }
 
 fn added_of(h: Handled) -> Increments
@@ -66,6 +76,7 @@ fn answer_of(h: Handled) -> CallAnswer
         code,
         taken: added.taken,
         written: h.written,
+        recorded: h.recorded,
     }
 }
 
@@ -78,6 +89,7 @@ fn outcome_of(h: Handled, counters: Counters) -> Outcome
         code,
         taken: added.taken,
         written: h.written,
+        recorded: h.recorded,
         counters,
     }
 }
@@ -90,10 +102,19 @@ pub fn call_by_value(
     list: &[u8],
     counters: Counters,
     response: &mut [u8],
+    journal: &mut [u8],
 ) -> Outcome
-    ensures { λ r. ⌜ CallContract (now (list .entry)) (lentMemory (now (connection .entry)) (now (registry .entry)) counters) (callWith (now (chunk .entry)) (now (response .entry))) (ranWith (codeNumber (r .code)) (r .taken) (r .written) (lentMemory (now (connection .exit)) (now (registry .exit)) (r .counters)) (now (response .exit))) ⌝ }
+    ensures { λ r. ⌜ CallContract (now (list .entry)) (lentMemory (now (connection .entry)) (now (registry .entry)) counters) (callWith (now (chunk .entry)) (now (response .entry)) (now (journal .entry))) (ranWith (codeNumber (r .code)) (r .taken) (r .written) (r .recorded) (lentMemory (now (connection .exit)) (now (registry .exit)) (r .counters)) (now (response .exit)) (now (journal .exit))) ⌝ }
 {
-    let h = handle(chunk, connection, registry, list, counters, response);
+    let h = handle(
+        chunk,
+        connection,
+        registry,
+        list,
+        counters,
+        response,
+        journal,
+    );
     let after = with_increments(counters, added_of(h));
     outcome_of(h, after)
 }
@@ -113,10 +134,19 @@ pub fn call(
     list: &[u8],
     counters: &mut Counters,
     response: &mut [u8],
+    journal: &mut [u8],
 ) -> CallAnswer
-    ensures { λ r. ⌜ CallContract (now (list .entry)) (lentMemory (now (connection .entry)) (now (registry .entry)) (now (counters .entry))) (callWith (now (chunk .entry)) (now (response .entry))) (ranWith (codeNumber (r .code)) (r .taken) (r .written) (lentMemory (now (connection .exit)) (now (registry .exit)) (now (counters .exit))) (now (response .exit))) ⌝ }
+    ensures { λ r. ⌜ CallContract (now (list .entry)) (lentMemory (now (connection .entry)) (now (registry .entry)) (now (counters .entry))) (callWith (now (chunk .entry)) (now (response .entry)) (now (journal .entry))) (ranWith (codeNumber (r .code)) (r .taken) (r .written) (r .recorded) (lentMemory (now (connection .exit)) (now (registry .exit)) (now (counters .exit))) (now (response .exit)) (now (journal .exit))) ⌝ }
 {
-    let h = handle(chunk, connection, registry, list, *counters, response);
+    let h = handle(
+        chunk,
+        connection,
+        registry,
+        list,
+        *counters,
+        response,
+        journal,
+    );
     count(counters, added_of(h));
     answer_of(h)
 }

@@ -14,6 +14,7 @@ pub enum Refusal {
     RegistryIllFormed,
     CounterTooHigh,
     ListIllFormed,
+    JournalBufferTooSmall,
 }
 
 // What a call says of itself: that it is taken, or why it is not.
@@ -26,6 +27,7 @@ pub enum Code {
 pub struct Handled {
     pub code: Code,
     pub written: usize,
+    pub recorded: usize,
     pub added: Increments,
 }
 
@@ -34,6 +36,7 @@ pub struct Outcome {
     pub code: Code,
     pub taken: usize,
     pub written: usize,
+    pub recorded: usize,
     pub counters: Counters,
 }
 
@@ -42,4 +45,5 @@ pub struct CallAnswer {
     pub code: Code,
     pub taken: usize,
     pub written: usize,
+    pub recorded: usize,
 }

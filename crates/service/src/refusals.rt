@@ -12,6 +12,8 @@ ghost use Rattle.service.specs.code.Called.{codeFor};
 // The shortest response buffer, and the longest chunk.
 pub const BUFFER_LEAST: usize = 1024;
 
+pub const JOURNAL_LEAST: usize = 1024;
+
 pub const CHUNK_MOST: usize = 65536;
 
 // Which of C1 to C6 a call falls under, if any: the first that applies.
@@ -22,8 +24,9 @@ pub fn judge_call(
     list: &[u8],
     counters: Counters,
     response: &[u8],
+    journal: &[u8],
 ) -> Code
-    ensures { λ r. ⌜ r ≡ codeFor (firstOf (refusalTests (now (list .entry)) (lentMemory (now (connection .entry)) (now (registry .entry)) counters) (callWith (now (chunk .entry)) (now (response .entry))))) ⌝ }
+    ensures { λ r. ⌜ r ≡ codeFor (firstOf (refusalTests (now (list .entry)) (lentMemory (now (connection .entry)) (now (registry .entry)) counters) (callWith (now (chunk .entry)) (now (response .entry)) (now (journal .entry))))) ⌝ }
 {
     if response.len() < BUFFER_LEAST {
         return Code::Refused(Refusal::ResponseBufferTooSmall);
@@ -42,6 +45,9 @@ pub fn judge_call(
     }
     if !shipped::check::is_well_formed(list) {
         return Code::Refused(Refusal::ListIllFormed);
+    }
+    if journal.len() < JOURNAL_LEAST {
+        return Code::Refused(Refusal::JournalBufferTooSmall);
     }
     Code::Taken
 }

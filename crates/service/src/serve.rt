@@ -42,6 +42,7 @@ fn wait(n: usize) -> Handled
     Handled {
         code: Code::Taken,
         written: 0,
+        recorded: 0,
         added,
     }
 }
@@ -61,6 +62,7 @@ fn finish(n: usize, size: u64, a: Answered) -> Handled
     Handled {
         code: Code::Taken,
         written: a.written,
+        recorded: a.recorded,
         added,
     }
 }
@@ -68,7 +70,7 @@ fn finish(n: usize, size: u64, a: Answered) -> Handled
 // An oversized request, its header held: `to_go` bytes are missing, and `here` are at hand behind the `used` first of the chunk.
 fn skip(connection: &mut [u8], out: &mut [u8], used: usize, here: usize, to_go: u64) -> Handled
     requires { ⌜ SkipReady (now connection) (now out) used here «to_go» ⌝ }
-    ensures { λ r. ⌜ ((list registry : List ℕ) (c : Counters) → Carried c (skipEffect list registry c (headerAt (now (connection .entry))) used here «to_go») (now (connection .exit)) registry (now (out .entry)) (now (out .exit)) r) ⌝ }
+    ensures { λ r. ⌜ ((list registry journal : List ℕ) (c : Counters) → Carried c (skipEffect list registry c (headerAt (now (connection .entry))) used here «to_go») (now (connection .exit)) registry (now (out .entry)) (now (out .exit)) journal journal r) ⌝ }
 {
     if (here as u64) < to_go {
         set_skipping(connection, to_go - here as u64);
@@ -86,10 +88,11 @@ fn serve_fresh(
     registry: &mut [u8],
     list: &[u8],
     out: &mut [u8],
+    journal: &mut [u8],
     chunk: &[u8],
 ) -> Handled
-    requires { ⌜ Ready (now connection) (now registry) (now list) (now chunk) (now out) × (connectionOf (now connection) ≡ opened []) ⌝ }
-    ensures { λ r. ⌜ ((c : Counters) → Carried c (effectOf (now (list .entry)) (lentMemory (now (connection .entry)) (now (registry .entry)) c) (now (chunk .entry))) (now (connection .exit)) (now (registry .exit)) (now (out .entry)) (now (out .exit)) r) ⌝ }
+    requires { ⌜ Ready (now connection) (now registry) (now list) (now chunk) (now out) (now journal) × (connectionOf (now connection) ≡ opened []) ⌝ }
+    ensures { λ r. ⌜ ((c : Counters) → Carried c (effectOf (now (list .entry)) (lentMemory (now (connection .entry)) (now (registry .entry)) c) (now (chunk .entry))) (now (connection .exit)) (now (registry .exit)) (now (out .entry)) (now (out .exit)) (now (journal .entry)) (now (journal .exit)) r) ⌝ }
 {
     match read_frame(chunk) {
         Frame::Unfinished => {
@@ -107,7 +110,7 @@ fn serve_fresh(
             wait(chunk.len())
         }
         Frame::Whole(n) => {
-            let a = answer_whole(out, &chunk[..n], registry, list);
+            let a = answer_whole(out, journal, &chunk[..n], registry, list);
             finish(n, n as u64, a)
         }
     }
@@ -119,11 +122,12 @@ fn serve_held(
     registry: &mut [u8],
     list: &[u8],
     out: &mut [u8],
+    journal: &mut [u8],
     chunk: &[u8],
     held: usize,
 ) -> Handled
-    requires { ⌜ Ready (now connection) (now registry) (now list) (now chunk) (now out) × (stateOf (connectionOf (now connection)) ≡ State.Open held) ⌝ }
-    ensures { λ r. ⌜ ((c : Counters) → Carried c (effectOf (now (list .entry)) (lentMemory (now (connection .entry)) (now (registry .entry)) c) (now (chunk .entry))) (now (connection .exit)) (now (registry .exit)) (now (out .entry)) (now (out .exit)) r) ⌝ }
+    requires { ⌜ Ready (now connection) (now registry) (now list) (now chunk) (now out) (now journal) × (stateOf (connectionOf (now connection)) ≡ State.Open held) ⌝ }
+    ensures { λ r. ⌜ ((c : Counters) → Carried c (effectOf (now (list .entry)) (lentMemory (now (connection .entry)) (now (registry .entry)) c) (now (chunk .entry))) (now (connection .exit)) (now (registry .exit)) (now (out .entry)) (now (out .exit)) (now (journal .entry)) (now (journal .exit)) r) ⌝ }
 {
     let g = gather(connection, held, chunk);
     let used = g.used;
@@ -140,7 +144,7 @@ fn serve_held(
         }
         Frame::Whole(n) => {
             let end = BYTES_AT + n;
-            let a = answer_whole(out, &connection[BYTES_AT..end], registry, list);
+            let a = answer_whole(out, journal, &connection[BYTES_AT..end], registry, list);
             reset(connection);
             finish(used, n as u64, a)
         }
@@ -160,27 +164,29 @@ fn drop_all(n: usize) -> Handled
     Handled {
         code: Code::Taken,
         written: 0,
+        recorded: 0,
         added,
     }
 }
 
-// A call that none of C1 to C4 and C6 refuses. C5 is left to the caller, who counts: no counter is looked at here.
+// A call that none of C1 to C4, C6 and C7 refuses. C5 is left to the caller, who counts: no counter is looked at here.
 pub fn serve(
     connection: &mut [u8],
     registry: &mut [u8],
     list: &[u8],
     out: &mut [u8],
+    journal: &mut [u8],
     chunk: &[u8],
 ) -> Handled
-    requires { ⌜ Ready (now connection) (now registry) (now list) (now chunk) (now out) ⌝ }
-    ensures { λ r. ⌜ ((c : Counters) → Carried c (effectOf (now (list .entry)) (lentMemory (now (connection .entry)) (now (registry .entry)) c) (now (chunk .entry))) (now (connection .exit)) (now (registry .exit)) (now (out .entry)) (now (out .exit)) r) ⌝ }
+    requires { ⌜ Ready (now connection) (now registry) (now list) (now chunk) (now out) (now journal) ⌝ }
+    ensures { λ r. ⌜ ((c : Counters) → Carried c (effectOf (now (list .entry)) (lentMemory (now (connection .entry)) (now (registry .entry)) c) (now (chunk .entry))) (now (connection .exit)) (now (registry .exit)) (now (out .entry)) (now (out .exit)) (now (journal .entry)) (now (journal .exit)) r) ⌝ }
 {
     match read_state(connection) {
         State::Open(held) => {
             if held == 0 {
-                return serve_fresh(connection, registry, list, out, chunk);
+                return serve_fresh(connection, registry, list, out, journal, chunk);
             }
-            serve_held(connection, registry, list, out, chunk, held)
+            serve_held(connection, registry, list, out, journal, chunk, held)
         }
         State::Skipping(to_go) => skip(connection, out, 0, chunk.len(), to_go),
         State::Closed => drop_all(chunk.len()),

@@ -8,22 +8,22 @@ use borrow.Author.Tests.{eq-eqb}
 use lib.ListN.{length, take, drop, length-append, length-take, length-drop}
 use lib.Seq.{take-add, take-all}
 use Rattle.reading.specs.Call.{callRule}
-use Rattle.reading.specs.Calls.{took}
 use Rattle.reading.proofs.CallLaws.{call-facts}
 use Rattle.reading.proofs.DeliveryLaws.{call-takes}
 use Rattle.stream.specs.Rules as rulesOf
 use Rattle.stream.specs.Rules.{rules}
 use Rattle.stream.specs.Call as stream
 use Rattle.stream.specs.Call.{reader}
-use Rattle.stream.proofs.CallsLaws.{rules-took, fresh-memory}
+use Rattle.stream.proofs.RulesLaws.{rules-fresh}
 use Rattle.connection.specs.Connection.{connectionSize, connectionBytes, Opening, openConnection}
 use Rattle.registry.specs.WellFormed.{wellFormedRegistry}
 use Rattle.shipped.specs.Shipped.{wellFormedList}
+use Rattle.judgement.specs.Counts.{Counts}
 use Rattle.judgement.specs.Judgement.{judgement}
 use Rattle.counters.specs.Counters.{zeroCounters, counterMost}
-use Rattle.service.specs.Call.{Memory, memoryOf, layout, Call, CallOutcome, fresh, bufferLeast, chunkMost, refusalOf, callOutcome}
+use Rattle.service.specs.Call.{Memory, memoryOf, journalLeast, Call, CallOutcome, fresh, bufferLeast, chunkMost, callOutcome}
 use Rattle.service.specs.Contract.{lentMemory, callWith}
-use Rattle.service.proofs.Demand3.{lawful, accepts}
+use Rattle.service.proofs.Demand3.{accepts, CalledOn, called-on}
 use Rattle.counters.specs.declared.Counters.{Counters}
 use Rattle.connection.specs.declared.change.Opened.{Opened}
 use Rattle.starting.specs.code.Stream.{ReadWithin, KeptWithin, leftBy, Follows, Takes, After}
@@ -56,27 +56,24 @@ takes-some list registry seen [] h = absurd (omega arith)
 takes-some list registry seen (b ∷ chunk) h = call-takes (reader (judgement list)) (rules (judgement list) registry seen .state) b chunk refl
 
 module _ (list registry seen : List ℕ) (good : wellFormedRegistry registry ≡ true) (listed : wellFormedList list ≡ true)
-    (short : length seen ≤ counterMost) (chunk buffer : List ℕ) (some : 1 ≤ length chunk) (few : length chunk ≤ chunkMost) (room : bufferLeast ≤ length buffer) where
+    (short : length seen ≤ counterMost) (chunk buffer journal : List ℕ) (some : 1 ≤ length chunk) (few : length chunk ≤ chunkMost) (room : bufferLeast ≤ length buffer)
+    (space : journalLeast ≤ length journal) where
   abbrev n : ℕ
   n = callRule (reader (judgement list)) (rules (judgement list) registry seen .state) chunk .taken
 
   abbrev call : Call
-  call = callWith chunk buffer
+  call = callWith chunk buffer journal
 
-  call-leaves : callOutcome list (leftBy list registry seen) call
-      ≡ record { answer = took layout n (callRule (reader (judgement list)) (rules (judgement list) registry seen .state) chunk .event) call; memory = leftBy list registry (seen ++ take n chunk) }
-  unfolding callOutcome layout
-  call-leaves = rules-took (judgement list) layout lawful (refusalOf list) registry seen call (accepts list registry good listed seen call short few room)
+  call-leaves : CalledOn list registry seen call (callOutcome list (leftBy list registry seen) call)
+  call-leaves = called-on list registry seen call (accepts list registry good listed seen call short few room space)
 
   call-hands : (o : CallOutcome) → o ≡ callOutcome list (leftBy list registry seen) call → Handed list registry seen chunk (o .answer .taken) (o .memory)
   call-hands o e =
-      let all = e ∙ call-leaves in
-      let taken : o .answer .taken ≡ n
-      = ap (λ (x : CallOutcome). x .answer .taken) all in
+      let c : CalledOn list registry seen call o = subst (CalledOn list registry seen call) (sym e) call-leaves in
       record {
-        some = omega (arith, taken, takes-some list registry seen chunk some);
-        fits = omega (arith, taken, call-facts (reader (judgement list)) (rules (judgement list) registry seen .state) chunk .fits);
-        memory = ap (λ (x : CallOutcome). x .memory) all ∙ ap (λ (k : ℕ). leftBy list registry (seen ++ take k chunk)) (sym taken);
+        some = omega (arith, c .taken, takes-some list registry seen chunk some);
+        fits = omega (arith, c .taken, call-facts (reader (judgement list)) (rules (judgement list) registry seen .state) chunk .fits);
+        memory = c .memory;
       }
 
 -- ---- what is left of a chunk handed over again
@@ -89,9 +86,9 @@ pub takes-all : (list chunk : List ℕ) (at : ℕ) (before after : Memory) → l
     → Takes list (take at chunk) before after → Takes list chunk before after
 takes-all list chunk at before after h t = subst (λ (x : List ℕ). Takes list x before after) (take-all at chunk h) t
 
-module _ (list chunk : List ℕ) (at : ℕ) (before after : Memory) (buffer : List ℕ) (o : CallOutcome)
-    (few : length chunk ≤ chunkMost) (more : at < length chunk) (room : bufferLeast ≤ length buffer)
-    (taken : Takes list (take at chunk) before after) (called : o ≡ callOutcome list after (callWith (drop at chunk) buffer)) where
+module _ (list chunk : List ℕ) (at : ℕ) (before after : Memory) (buffer journal : List ℕ) (o : CallOutcome)
+    (few : length chunk ≤ chunkMost) (more : at < length chunk) (room : bufferLeast ≤ length buffer) (space : journalLeast ≤ length journal)
+    (taken : Takes list (take at chunk) before after) (called : o ≡ callOutcome list after (callWith (drop at chunk) buffer journal)) where
   handed : (registry stream : List ℕ) → wellFormedRegistry registry ≡ true → wellFormedList list ≡ true → length stream + at ≤ counterMost
       → before ≡ leftBy list registry stream → Handed list registry (stream ++ take at chunk) (drop at chunk) (o .answer .taken) (o .memory)
   unfolding Takes
@@ -99,8 +96,8 @@ module _ (list chunk : List ℕ) (at : ℕ) (before after : Memory) (buffer : Li
       let t = length-take at chunk in
       let d = length-drop at chunk in
       let a = length-append stream (take at chunk) in
-      call-hands list registry (stream ++ take at chunk) good listed (omega arith) (drop at chunk) buffer (omega arith) (omega arith) room o
-      (called ∙ ap (λ (m : Memory). callOutcome list m (callWith (drop at chunk) buffer)) (taken registry stream good listed (omega arith) e))
+      call-hands list registry (stream ++ take at chunk) good listed (omega arith) (drop at chunk) buffer journal (omega arith) (omega arith) room space o
+      (called ∙ ap (λ (m : Memory). callOutcome list m (callWith (drop at chunk) buffer journal)) (taken registry stream good listed (omega arith) e))
 
   pub takes-more : Takes list (take (at + o .answer .taken) chunk) before (o .memory)
   unfolding Takes
@@ -124,14 +121,14 @@ module _ (list chunk : List ℕ) (at : ℕ) (before after : Memory) (buffer : Li
 pub starts : (list registry before connection : List ℕ) (opened : Opened) (counters : Counters) → length before ≡ connectionSize
     → record { answer = opened; memory = connection } ≡ openConnection before → counters ≡ zeroCounters
     → After list registry 0 (lentMemory connection registry counters)
-unfolding openConnection layout memoryOf stream.fresh judgement fresh zeroCounters
+unfolding openConnection memoryOf stream.fresh judgement fresh zeroCounters
 starts list registry before connection opened counters size e zero =
     let made : openConnection before .memory ≡ connectionBytes (rulesOf.opened []) = rw (eq-eqb (length before) connectionSize size) in
     let memory : connection ≡ connectionBytes (rulesOf.opened []) = ap (λ (o : Opening). o .memory) e ∙ made in
     record {
       stream = [];
       short = omega arith;
-      memory = (λ i. lentMemory (memory i) registry (zero i)) ∙ sym (fresh-memory (judgement list) layout lawful (refusalOf list) registry);
+      memory = (λ i. lentMemory (memory i) registry (zero i)) ∙ sym (ap (λ (o : rulesOf.Outcome (List ℕ) Counts (List ℕ)). memoryOf (o .state)) (rules-fresh (judgement list) registry));
     }
 
 module _ (list registry : List ℕ) (good : wellFormedRegistry registry ≡ true) (listed : wellFormedList list ≡ true) (most : ℕ) (m : Memory)

@@ -7,7 +7,7 @@ ghost use mathlib.Core.Path.{_≡_};
 ghost use Prim.Native.Nat.{_≤_};
 ghost use lib.ListN.{length};
 ghost use Rattle.counters.specs.Counters.{zeroCounters};
-ghost use Rattle.service.specs.Call.{bufferLeast, chunkMost};
+ghost use Rattle.service.specs.Call.{bufferLeast, journalLeast, chunkMost};
 ghost use Rattle.service.specs.Contract.{lentMemory};
 ghost use Rattle.starting.specs.code.Stream.{Follows, Takes, takenWith};
 
@@ -35,14 +35,23 @@ pub fn feed(
     list: &[u8],
     counters: Counters,
     response: &mut [u8],
+    journal: &mut [u8],
 ) -> Counters
-    requires { ⌜ (length (now chunk) ≤ chunkMost) × (bufferLeast ≤ length (now response)) × Follows (now list) (length (now chunk)) (lentMemory (now connection) (now registry) counters) ⌝ }
+    requires { ⌜ (length (now chunk) ≤ chunkMost) × (bufferLeast ≤ length (now response)) × (journalLeast ≤ length (now journal)) × Follows (now list) (length (now chunk)) (lentMemory (now connection) (now registry) counters) ⌝ }
     ensures { λ r. ⌜ Takes (now (list .entry)) (now (chunk .entry)) (lentMemory (now (connection .entry)) (now (registry .entry)) counters) (lentMemory (now (connection .exit)) (now (registry .exit)) r) ⌝ }
 {
     let mut after = counters;
     let mut at = 0;
     while at < chunk.len() {
-        let o = call_by_value(&chunk[at..], connection, registry, list, after, response);
+        let o = call_by_value(
+            &chunk[at..],
+            connection,
+            registry,
+            list,
+            after,
+            response,
+            journal,
+        );
         at += o.taken;
         after = counters_of(o);
     }

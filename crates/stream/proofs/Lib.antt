@@ -8,5 +8,6 @@ pub mod KeptLaws
 pub mod CallsLaws
 pub mod ResponseLaws
 pub mod DeliveryLaws
+pub mod HandedLaws
 pub mod ChunkLaws
 pub mod GatheredLaws

@@ -1,5 +1,5 @@
 -- `abi::razidkot_call` meets its contract: a walk of its MIR by hand, since the borrow checker covers no `&mut` of a struct.
--- All six references are handed on to `service::call::call`, each at its own lifetime, share and name, so they are given
+-- All seven references are handed on to `service::call::call`, each at its own lifetime, share and name, so they are given
 -- up for good (`gave-slice`, `gave-ref`); `number` makes the numbers of what it answers.
 use mathlib.Core.Path.{_≡_, refl}
 use Prim.Native.Nat.{ℕ}
@@ -66,12 +66,12 @@ abbrev Bytes : Type 0
 Bytes = RefT (List ℕ)
 
 abbrev stayed : Stays (f.ended .signature .params) (f.ended .kept)
-stayed = (stay-dropped (shrSliceOf (0 ∷ []) tt (plain (λ _. u8))) yes, (gave-slice (1 ∷ []) tt (plain (λ _. u8)), (gave-slice (2 ∷ []) tt (plain (λ _. u8)), (stay-dropped (shrSliceOf (3 ∷ []) tt (plain (λ _. u8))) yes, (gave-ref (4 ∷ []) tt (plain (λ _. T.the-row)), (gave-slice (5 ∷ []) tt (plain (λ _. u8)), tt))))))
+stayed = (stay-dropped (shrSliceOf (0 ∷ []) tt (plain (λ _. u8))) yes, (gave-slice (1 ∷ []) tt (plain (λ _. u8)), (gave-slice (2 ∷ []) tt (plain (λ _. u8)), (stay-dropped (shrSliceOf (3 ∷ []) tt (plain (λ _. u8))) yes, (gave-ref (4 ∷ []) tt (plain (λ _. T.the-row)), (gave-slice (5 ∷ []) tt (plain (λ _. u8)), (gave-slice (6 ∷ []) tt (plain (λ _. u8)), tt)))))))
 
 -- what is ensured, from what `call` and `number` ensure
-said : (s : Answer) (a : CallAnswer) (t : Counters) (c d e l : List ℕ) (m : CallMemory) (k : LentCall) → CallContract l m k (ranBy a (lentMemory c d t) e)
-    → s ≡ numbered a → CallContract l m k (ranWith (s .code) (s .taken) (s .written) (lentMemory c d t) e)
-said s a t c d e l m k p q = rw q p
+said : (s : Answer) (a : CallAnswer) (t : Counters) (c d e j l : List ℕ) (m : CallMemory) (k : LentCall) → CallContract l m k (ranBy a (lentMemory c d t) e j)
+    → s ≡ numbered a → CallContract l m k (ranWith (s .code) (s .taken) (s .written) (s .recorded) (lentMemory c d t) e j)
+said s a t c d e j l m k p q = rw q p
 
 module _ {M : Type 1} (𝓤 : URA M) (H : Heap 𝓤) (A : Atoms 𝓤) (at-mem : Memory → SProp 𝓤) (run : Routine → Fun 𝓤) where
   -- the contracts that the proof cites
@@ -86,29 +86,29 @@ module _ {M : Type 1} (𝓤 : URA M) (H : Heap 𝓤) (A : Atoms 𝓤) (at-mem : 
   number-said a s = exE 𝓤 _ (λ ws. snd∗ 𝓤 (sem 𝓤 H A (lasts number.ended tt (a, tt) ws)) (fact 𝓤 (s ≡ numbered a)))
 
 module _ {M : Type 1} (𝓤 : URA M) (H : Heap 𝓤) (A : Atoms 𝓤) (W : Given 𝓤 H A) (at-mem : Memory → SProp 𝓤) (run : Routine → Fun 𝓤)
-    (κ₀ κ₁ κ₂ κ₃ κ₄ κ₅ : Lft) (q₀ q₁ q₂ q₃ q₄ q₅ : Share) (chunk connection registry list : Bytes) (b o : ℕ) (γ : GName) (h : Counters)
-    (response : Bytes) where
+    (κ₀ κ₁ κ₂ κ₃ κ₄ κ₅ κ₆ : Lft) (q₀ q₁ q₂ q₃ q₄ q₅ q₆ : Share) (chunk connection registry list : Bytes) (b o : ℕ) (γ : GName) (h : Counters)
+    (response journal : Bytes) where
   -- the machine value of a slice
   abbrev sv : Bytes → Val
   sv s = sliceVal (s .ptr) (length (s .now))
 
   abbrev Arg : Type 0
-  Arg = Bytes × (Bytes × (Bytes × (Bytes × (RefT Counters × (Bytes × Unit {0})))))
+  Arg = Bytes × (Bytes × (Bytes × (Bytes × (RefT Counters × (Bytes × (Bytes × Unit {0}))))))
 
   abbrev x : Arg
-  x = (chunk, (connection, (registry, (list, (record { ptr = (b, o); name = γ; now = h }, (response, tt))))))
+  x = (chunk, (connection, (registry, (list, (record { ptr = (b, o); name = γ; now = h }, (response, (journal, tt)))))))
 
   abbrev Vals : Type 0
-  Vals = List Val × (List Val × (List Val × (List Val × (List Val × (List Val × Unit {0})))))
+  Vals = List Val × (List Val × (List Val × (List Val × (List Val × (List Val × (List Val × Unit {0}))))))
 
   abbrev at : Vals
-  at = (sv chunk ∷ [], (sv connection ∷ [], (sv registry ∷ [], (sv list ∷ [], (vptr b o ∷ [], (sv response ∷ [], tt))))))
+  at = (sv chunk ∷ [], (sv connection ∷ [], (sv registry ∷ [], (sv list ∷ [], (vptr b o ∷ [], (sv response ∷ [], (sv journal ∷ [], tt)))))))
 
-  abbrev κs : Lfts 6
-  κs = (κ₀, (κ₁, (κ₂, (κ₃, (κ₄, (κ₅, tt))))))
+  abbrev κs : Lfts 7
+  κs = (κ₀, (κ₁, (κ₂, (κ₃, (κ₄, (κ₅, (κ₆, tt)))))))
 
-  abbrev qs : Shares 6
-  qs = (q₀, (q₁, (q₂, (q₃, (q₄, (q₅, tt))))))
+  abbrev qs : Shares 7
+  qs = (q₀, (q₁, (q₂, (q₃, (q₄, (q₅, (q₆, tt)))))))
 
   -- what the contract binds
   abbrev bound : walkOf 𝓤 H A f.ended stayed (f.clauses 𝓤 H A at-mem run) .Ghost
@@ -119,11 +119,11 @@ module _ {M : Type 1} (𝓤 : URA M) (H : Heap 𝓤) (A : Atoms 𝓤) (W : Given
 
   -- the tokens, and what the parameters own: `call` takes them all as they came
   abbrev tokens : Item 𝓤
-  tokens = ‵ (flft κ₀ q₀) ⊛ ‵ (flft κ₁ q₁) ⊛ ‵ (flft κ₂ q₂) ⊛ ‵ (flft κ₃ q₃) ⊛ ‵ (flft κ₄ q₄) ⊛ ‵ (flft κ₅ q₅) ⊛ ‵ ftrue
+  tokens = ‵ (flft κ₀ q₀) ⊛ ‵ (flft κ₁ q₁) ⊛ ‵ (flft κ₂ q₂) ⊛ ‵ (flft κ₃ q₃) ⊛ ‵ (flft κ₄ q₄) ⊛ ‵ (flft κ₅ q₅) ⊛ ‵ (flft κ₆ q₆) ⊛ ‵ ftrue
 
   abbrev passed : Item 𝓤
   passed = ‵ (owns (ShrSlice (named 0) κ₀ u8 ∷ MutSlice (named 1) κ₁ u8 ∷ MutSlice (named 2) κ₂ u8 ∷ ShrSlice (named 3) κ₃ u8 ∷ MutRef (named 4) κ₄ T.the-row
-      ∷ MutSlice (named 5) κ₅ u8 ∷ []) x at)
+      ∷ MutSlice (named 5) κ₅ u8 ∷ MutSlice (named 6) κ₆ u8 ∷ []) x at)
 
   abbrev to-call : Call 𝓤 H A at-mem run .Ghost
   to-call = bound
@@ -138,108 +138,109 @@ module _ {M : Type 1} (𝓤 : URA M) (H : Heap 𝓤) (A : Atoms 𝓤) (W : Given
   goes-number a w = qed W (‵ (N.the-row .own a (w ∷ [])) ∷ []) ∵ nothing ! $ move ! (1 ∷ 0 ∷ []) $ join ! $ nothing ! $ join ! $ frame ! $ done !
 
   -- what `call` ensures, at the last values
-  abbrev Ensured : CallAnswer → List ℕ → List ℕ → Counters → List ℕ → Type 0
-  Ensured a c d t e = CallContract (list .now) (lentMemory (connection .now) (registry .now) h) (callWith (chunk .now) (response .now)) (ranBy a (lentMemory c d t) e)
+  abbrev Ensured : CallAnswer → List ℕ → List ℕ → Counters → List ℕ → List ℕ → Type 0
+  Ensured a c d t e j = CallContract (list .now) (lentMemory (connection .now) (registry .now) h) (callWith (chunk .now) (response .now) (journal .now)) (ranBy a (lentMemory c d t) e j)
 
-  abbrev at-exit : Answer → List ℕ → List ℕ → Counters → List ℕ → Val → List (Item 𝓤)
-  at-exit s c d t e z = ‵ (R.the-row .own s (z ∷ [])) ∷ tokens ∷ ‵ (finally u8 (response .name) e) ∷ ‵ (fres γ (T.the-row .coded .code t))
+  abbrev at-exit : Answer → List ℕ → List ℕ → Counters → List ℕ → List ℕ → Val → List (Item 𝓤)
+  at-exit s c d t e j z = ‵ (R.the-row .own s (z ∷ [])) ∷ tokens ∷ ‵ (finally u8 (journal .name) j) ∷ ‵ (finally u8 (response .name) e) ∷ ‵ (fres γ (T.the-row .coded .code t))
       ∷ ‵ (finally u8 (registry .name) d) ∷ ‵ (finally u8 (connection .name) c) ∷ []
 
-  exits : (s : Answer) (a : CallAnswer) (c d : List ℕ) (t : Counters) (e : List ℕ) (z : Val) → Ensured a c d t e → s ≡ numbered a
-      → length c ≡ length (connection .now) → length d ≡ length (registry .now) → length e ≡ length (response .now)
-      → ent 𝓤 (⋆ 𝓤 H A (at-exit s c d t e z)) (Post z)
-  exits s a c d t e z p q lc ld le =
-      qed W (at-exit s c d t e z) ∵
-      suffices ! _ (ends-at 𝓤 H A f.ended stayed (f.clauses 𝓤 H A at-mem run) W bound z s (tt, (c, (d, (tt, (t, (e, tt))))))
-      (tt, (lc, (ld, (tt, (tt, (le, tt))))))) $
-      says ! (said s a t c d e _ _ _ p q) $ move ! (1 ∷ []) $ frame ! $
+  exits : (s : Answer) (a : CallAnswer) (c d : List ℕ) (t : Counters) (e j : List ℕ) (z : Val) → Ensured a c d t e j → s ≡ numbered a
+      → length c ≡ length (connection .now) → length d ≡ length (registry .now) → length e ≡ length (response .now) → length j ≡ length (journal .now)
+      → ent 𝓤 (⋆ 𝓤 H A (at-exit s c d t e j z)) (Post z)
+  exits s a c d t e j z p q lc ld le lj =
+      qed W (at-exit s c d t e j z) ∵
+      suffices ! _ (ends-at 𝓤 H A f.ended stayed (f.clauses 𝓤 H A at-mem run) W bound z s (tt, (c, (d, (tt, (t, (e, (j, tt)))))))
+      (tt, (lc, (ld, (tt, (tt, (le, (lj, tt)))))))) $
+      says ! (said s a t c d e j _ _ _ p q) $ move ! (1 ∷ []) $ frame ! $
       -- what is had of the parameters, and the result
-      nothing ! $ move ! (2 ∷ 0 ∷ []) $ fjoin ! $ move ! (2 ∷ 0 ∷ []) $ fjoin ! $ nothing ! $ fjoin ! $ move ! (2 ∷ 0 ∷ []) $ fjoin ! $
+      nothing ! $ move ! (2 ∷ 0 ∷ []) $ fjoin ! $ move ! (2 ∷ 0 ∷ []) $ fjoin ! $ move ! (2 ∷ 0 ∷ []) $ fjoin ! $ nothing ! $ fjoin ! $ move ! (2 ∷ 0 ∷ []) $ fjoin ! $
       move ! (2 ∷ 0 ∷ []) $ fjoin ! $ nothing ! $ fjoin ! $ done !
 
   module _ (C : Calls 𝓤 H) (Λ : Loops 𝓤 H) (fm : FmC 𝓤 H (W .laws) C) (known : Triple 𝓤 (C #call) (Call 𝓤 H A at-mem run)) (known-n : Triple 𝓤
       (C #number) (Number 𝓤 H A at-mem run)) where
     walk : Is (ShrSlice (named 0) κ₀ u8) chunk (sv chunk ∷ []) → Is (MutSlice (named 1) κ₁ u8) connection (sv connection ∷ [])
         → Is (MutSlice (named 2) κ₂ u8) registry (sv registry ∷ []) → Is (ShrSlice (named 3) κ₃ u8) list (sv list ∷ [])
-        → Is (MutSlice (named 5) κ₅ u8) response (sv response ∷ [])
-        → ent 𝓤 (onEntry 𝓤 H A f.signature κs qs x at) (WpFn 𝓤 H C Λ code.function (sv chunk ∷ sv connection ∷ sv registry ∷ sv list ∷ vptr b o ∷ sv response
+        → Is (MutSlice (named 5) κ₅ u8) response (sv response ∷ []) → Is (MutSlice (named 6) κ₆ u8) journal (sv journal ∷ [])
+        → ent 𝓤 (onEntry 𝓤 H A f.signature κs qs x at) (WpFn 𝓤 H C Λ code.function (sv chunk ∷ sv connection ∷ sv registry ∷ sv list ∷ vptr b o ∷ sv response ∷ sv journal
         ∷ []) Post)
-    walk is-chunk is-connection is-registry is-list is-response =
+    walk is-chunk is-connection is-registry is-list is-response is-journal =
         qed W (tokens ∷ passed ∷ []) ∵
-        enter ! C Λ code.function (sv chunk ∷ sv connection ∷ sv registry ∷ sv list ∷ vptr b o ∷ sv response ∷ []) _ $
+        enter ! C Λ code.function (sv chunk ∷ sv connection ∷ sv registry ∷ sv list ∷ vptr b o ∷ sv response ∷ sv journal ∷ []) _ $
         alloc1 ! (λ l₀. alloc1 ! (λ l₁. alloc1 ! (λ l₂. alloc1 ! (λ l₃. alloc1 ! (λ l₄. alloc1 ! (λ l₅. alloc1 ! (λ l₆. alloc1 ! (λ l₇. alloc1 !
-        (λ l₈. alloc1 ! (λ l₉. alloc1 ! (λ l₁₀. alloc1 ! (λ l₁₁. alloc1 ! (λ l₁₂. alloc1 ! (λ l₁₃. alloc1 ! (λ l₁₄. alloc0 ! $ params1 ! $
-        pass1 ! (init ! 26 refl (shr-slice-lawful 𝓤 H A W (named 0) κ₀ u8 .typed chunk _ is-chunk .0)) $
-        pass1 ! (init ! 24 refl (mut-slice-lawful 𝓤 H A W (named 1) κ₁ u8 .typed connection _ is-connection .0)) $
-        pass1 ! (init ! 22 refl (mut-slice-lawful 𝓤 H A W (named 2) κ₂ u8 .typed registry _ is-registry .0)) $
-        pass1 ! (init ! 20 refl (shr-slice-lawful 𝓤 H A W (named 3) κ₃ u8 .typed list _ is-list .0)) $
-        pass1 ! (init ! 18 refl (tt, tt)) $
-        pass1 ! (init ! 16 refl (mut-slice-lawful 𝓤 H A W (named 5) κ₅ u8 .typed response _ is-response .0)) $ pass0 ! $
-        -- [_14; …; _13; …; …; _0; …; the tokens; what the parameters own]
-        assigns ! (addr ! (from ! (fld ! refl (hop ! (look-in ! 24 (sub ! 0 refl (whole !))) (stop !))))) (from ! (stop !)) (init ! 12 refl
+        (λ l₈. alloc1 ! (λ l₉. alloc1 ! (λ l₁₀. alloc1 ! (λ l₁₁. alloc1 ! (λ l₁₂. alloc1 ! (λ l₁₃. alloc1 ! (λ l₁₄. alloc1 ! (λ l₁₅. alloc1 ! (λ l₁₆. alloc1 ! (λ l₁₇. alloc0 ! $ params1 ! $
+        pass1 ! (init ! 32 refl (shr-slice-lawful 𝓤 H A W (named 0) κ₀ u8 .typed chunk _ is-chunk .0)) $
+        pass1 ! (init ! 30 refl (mut-slice-lawful 𝓤 H A W (named 1) κ₁ u8 .typed connection _ is-connection .0)) $
+        pass1 ! (init ! 28 refl (mut-slice-lawful 𝓤 H A W (named 2) κ₂ u8 .typed registry _ is-registry .0)) $
+        pass1 ! (init ! 26 refl (shr-slice-lawful 𝓤 H A W (named 3) κ₃ u8 .typed list _ is-list .0)) $
+        pass1 ! (init ! 24 refl (tt, tt)) $
+        pass1 ! (init ! 22 refl (mut-slice-lawful 𝓤 H A W (named 5) κ₅ u8 .typed response _ is-response .0)) $
+        pass1 ! (init ! 20 refl (mut-slice-lawful 𝓤 H A W (named 6) κ₆ u8 .typed journal _ is-journal .0)) $ pass0 ! $
+        -- [_17; …; _16; …; …; _0; …; the tokens; what the parameters own]
+        assigns ! (addr ! (from ! (fld ! refl (hop ! (look-in ! 30 (sub ! 0 refl (whole !))) (stop !))))) (from ! (stop !)) (init ! 16 refl
         (tt, tt)) $
-        assigns ! (agg ! (and-then ! (load ! (from ! (stop !)) (look ! 12 refl)) (and-then ! (load ! (from ! (fld ! refl (stop !))) (look-in ! 24
+        assigns ! (agg ! (and-then ! (load ! (from ! (stop !)) (look ! 16 refl)) (and-then ! (load ! (from ! (fld ! refl (stop !))) (look-in ! 30
         (sub ! 1 refl (whole !)))) (no-more !)))) (from ! (stop !))
-        (init ! 10 refl (mut-slice-lawful 𝓤 H A W erased κ₁ u8 .typed connection _ is-connection .0)) $
-        assigns ! (addr ! (from ! (fld ! refl (hop ! (look-in ! 22 (sub ! 0 refl (whole !))) (stop !))))) (from ! (stop !)) (init ! 8 refl (tt, tt)) $
-        assigns ! (agg ! (and-then ! (load ! (from ! (stop !)) (look ! 8 refl)) (and-then ! (load ! (from ! (fld ! refl (stop !))) (look-in ! 22
+        (init ! 14 refl (mut-slice-lawful 𝓤 H A W erased κ₁ u8 .typed connection _ is-connection .0)) $
+        assigns ! (addr ! (from ! (fld ! refl (hop ! (look-in ! 28 (sub ! 0 refl (whole !))) (stop !))))) (from ! (stop !)) (init ! 12 refl (tt, tt)) $
+        assigns ! (agg ! (and-then ! (load ! (from ! (stop !)) (look ! 12 refl)) (and-then ! (load ! (from ! (fld ! refl (stop !))) (look-in ! 28
         (sub ! 1 refl (whole !)))) (no-more !)))) (from ! (stop !))
-        (init ! 6 refl (mut-slice-lawful 𝓤 H A W erased κ₂ u8 .typed registry _ is-registry .0)) $
-        assigns ! (addr ! (from ! (hop ! (look ! 18 refl) (stop !)))) (from ! (stop !)) (init ! 4 refl (tt, tt)) $
-        assigns ! (addr ! (from ! (fld ! refl (hop ! (look-in ! 16 (sub ! 0 refl (whole !))) (stop !))))) (from ! (stop !)) (init ! 2 refl (tt, tt)) $
-        assigns ! (agg ! (and-then ! (load ! (from ! (stop !)) (look ! 2 refl)) (and-then ! (load ! (from ! (fld ! refl (stop !))) (look-in ! 16
+        (init ! 10 refl (mut-slice-lawful 𝓤 H A W erased κ₂ u8 .typed registry _ is-registry .0)) $
+        assigns ! (addr ! (from ! (hop ! (look ! 24 refl) (stop !)))) (from ! (stop !)) (init ! 8 refl (tt, tt)) $
+        assigns ! (addr ! (from ! (fld ! refl (hop ! (look-in ! 22 (sub ! 0 refl (whole !))) (stop !))))) (from ! (stop !)) (init ! 6 refl (tt, tt)) $
+        assigns ! (agg ! (and-then ! (load ! (from ! (stop !)) (look ! 6 refl)) (and-then ! (load ! (from ! (fld ! refl (stop !))) (look-in ! 22
         (sub ! 1 refl (whole !)))) (no-more !)))) (from ! (stop !))
-        (init ! 0 refl (mut-slice-lawful 𝓤 H A W erased κ₅ u8 .typed response _ is-response .0)) $
-        move ! (30 ∷ 31 ∷ []) $ use2 W (raw (Call 𝓤 H A at-mem run .pre to-call)) goes-call $
-        calls-at ! fm (Call 𝓤 H A at-mem run) known to-call (and-then ! (load ! (from ! (stop !)) (look ! 27 refl)) (and-then ! (load ! (from !
-        (stop !)) (look ! 11 refl)) (and-then ! (load ! (from ! (stop !)) (look ! 7 refl)) (and-then ! (load ! (from ! (stop !)) (look ! 21 refl))
-        (and-then ! (load ! (from ! (stop !)) (look ! 5 refl)) (and-then ! (load ! (from ! (stop !)) (look ! 1 refl)) (no-more !))))))) (λ w.
+        (init ! 4 refl (mut-slice-lawful 𝓤 H A W erased κ₅ u8 .typed response _ is-response .0)) $
+        assigns ! (addr ! (from ! (fld ! refl (hop ! (look-in ! 20 (sub ! 0 refl (whole !))) (stop !))))) (from ! (stop !)) (init ! 2 refl (tt, tt)) $
+        assigns ! (agg ! (and-then ! (load ! (from ! (stop !)) (look ! 2 refl)) (and-then ! (load ! (from ! (fld ! refl (stop !))) (look-in ! 20
+        (sub ! 1 refl (whole !)))) (no-more !)))) (from ! (stop !))
+        (init ! 0 refl (mut-slice-lawful 𝓤 H A W erased κ₆ u8 .typed journal _ is-journal .0)) $
+        move ! (36 ∷ 37 ∷ []) $ use2 W (raw (Call 𝓤 H A at-mem run .pre to-call)) goes-call $
+        calls-at ! fm (Call 𝓤 H A at-mem run) known to-call (and-then ! (load ! (from ! (stop !)) (look ! 33 refl)) (and-then ! (load ! (from !
+        (stop !)) (look ! 15 refl)) (and-then ! (load ! (from ! (stop !)) (look ! 11 refl)) (and-then ! (load ! (from ! (stop !)) (look ! 27 refl))
+        (and-then ! (load ! (from ! (stop !)) (look ! 9 refl)) (and-then ! (load ! (from ! (stop !)) (look ! 5 refl)) (and-then ! (load ! (from ! (stop !)) (look ! 1 refl)) (no-more !)))))))) (λ w.
         use1 W (later (some (λ (a : CallAnswer). (tokens ⊛ ‵ (N.the-row .own a (w
         ∷ []))) ⊛ raw (ensured 𝓤 H A g.ended (g.clauses 𝓤 H A at-mem run) κs x tt a)))) (id⊢ 𝓤 _) $ await ! tt $ pick ! (λ a.
-        split ! $ move ! (1 ∷ []) $ use1 W (some (λ (zs : Unit {0} × (List ℕ × (List ℕ × (Unit {0} × (Counters × (List ℕ × Unit {0})))))). ‵
-        (lasts g.ended κs x zs) ⊛ raw (fact 𝓤 (Ensured a (zs .1 .0) (zs .1 .1 .0) (zs .1 .1 .1 .1 .0) (zs .1 .1 .1 .1 .1 .0))))) (id⊢ 𝓤 _) $ pick ! (λ zs.
-        split ! $ move ! (1 ∷ []) $ heard ! (Ensured a (zs .1 .0) (zs .1 .1 .0) (zs .1 .1 .1 .1 .0) (zs .1 .1 .1 .1 .1 .0)) (λ p.
+        split ! $ move ! (1 ∷ []) $ use1 W (some (λ (zs : Unit {0} × (List ℕ × (List ℕ × (Unit {0} × (Counters × (List ℕ × (List ℕ × Unit {0}))))))). ‵
+        (lasts g.ended κs x zs) ⊛ raw (fact 𝓤 (Ensured a (zs .1 .0) (zs .1 .1 .0) (zs .1 .1 .1 .1 .0) (zs .1 .1 .1 .1 .1 .0) (zs .1 .1 .1 .1 .1 .1 .0))))) (id⊢ 𝓤 _) $ pick ! (λ zs.
+        split ! $ move ! (1 ∷ []) $ heard ! (Ensured a (zs .1 .0) (zs .1 .1 .0) (zs .1 .1 .1 .1 .0) (zs .1 .1 .1 .1 .1 .0) (zs .1 .1 .1 .1 .1 .1 .0)) (λ p.
         -- the last values
         fsplit ! $ drop ! $ fsplit ! $ fsplit ! $ move ! (1 ∷ []) $ feqL ! (λ lc. move ! (1 ∷ []) $ fsplit ! $ fsplit ! $ move ! (1 ∷ []) $
         feqL ! (λ ld. move ! (1 ∷ []) $ fsplit ! $ drop ! $ fsplit ! $
-        move ! (1 ∷ []) $ fsplit ! $ fsplit ! $ move ! (1 ∷ []) $ feqL ! (λ le. move ! (1 ∷ []) $ drop ! $ move ! (4 ∷ []) $ split ! $
+        move ! (1 ∷ []) $ fsplit ! $ fsplit ! $ move ! (1 ∷ []) $ feqL ! (λ le. move ! (1 ∷ []) $
+        fsplit ! $ fsplit ! $ move ! (1 ∷ []) $ feqL ! (λ lj. move ! (1 ∷ []) $ drop ! $ move ! (5 ∷ []) $ split ! $
         move ! (1 ∷ []) $
-        -- [the call's answer; the tokens; response's last list; the last counters; registry's; connection's; _14; …; …]
+        -- [the call's answer; the tokens; journal's last list; response's; the last counters; registry's; connection's; _17; …; …]
         peeks ! N.the-row (Is N.the-row) (shows 𝓤 H A N.the-row) a (w ∷ []) (λ is.
-        land ! (from ! (stop !)) (init ! 20 refl (LL.lawful N.the-type N′.the-laws 𝓤 H A W .typed a _ is .0)) $
+        land ! (from ! (stop !)) (init ! 25 refl (LL.lawful N.the-type N′.the-laws 𝓤 H A W .typed a _ is .0)) $
         use1 W (raw (Number 𝓤 H A at-mem run .pre (to-number a w))) (goes-number a w) $
-        calls-at ! fm (Number 𝓤 H A at-mem run) known-n (to-number a w) (and-then ! (load ! (from ! (stop !)) (look ! 20 refl)) (no-more !)) (λ z.
+        calls-at ! fm (Number 𝓤 H A at-mem run) known-n (to-number a w) (and-then ! (load ! (from ! (stop !)) (look ! 25 refl)) (no-more !)) (λ z.
         use1 W (later (some (λ (s : Answer). (‵ ftrue ⊛ ‵ (R.the-row .own s (z
         ∷ []))) ⊛ raw (ensured 𝓤 H A number.ended (number.clauses 𝓤 H A at-mem run) tt (a, tt) tt s)))) (id⊢ 𝓤 _) $ await ! tt $ pick ! (λ s.
         split ! $ move ! (1 ∷ []) $ use1 W (raw (fact 𝓤 (s ≡ numbered a))) (number-said 𝓤 H A at-mem run a s) $
         heard ! (s ≡ numbered a) (λ q. split ! $ drop ! $
         peeks ! R.the-row (Is R.the-row) (shows 𝓤 H A R.the-row) s (z ∷ []) (λ is₁.
-        land ! (from ! (stop !)) (init ! 34 refl (LL.lawful R.the-type R′.the-laws 𝓤 H A W .typed s _ is₁ .0)) $
-        returns ! (look ! 34 refl) $
-        forget ! 6 refl $ forget ! 8 refl $ forget ! 10 refl $ forget ! 12 refl $ forget ! 14 refl $ forget ! 16 refl $ forget ! 18 refl $
-        forget ! 20 refl $ forget ! 22 refl $ forget ! 24 refl $ forget ! 26 refl $ forget ! 28 refl $ forget ! 30 refl $ forget ! 32 refl $ forget ! 34 refl $
-        move ! (34 ∷ 35 ∷ []) $ free1 ! $ move ! (32 ∷ 33 ∷ []) $ free1 ! $ move ! (30 ∷ 31 ∷ []) $ free1 ! $ move ! (28 ∷ 29 ∷ []) $ free1 ! $ move ! (26 ∷ 27 ∷ []) $ free1 ! $
-        move ! (24 ∷ 25 ∷ []) $ free1 ! $ move ! (22 ∷ 23 ∷ []) $ free1 ! $ move ! (20 ∷ 21 ∷ []) $ free1 ! $ move ! (18 ∷ 19 ∷ []) $ free1 ! $
-        move ! (16 ∷ 17 ∷ []) $ free1 ! $ move ! (14 ∷ 15 ∷ []) $ free1 ! $ move ! (12 ∷ 13 ∷ []) $ free1 ! $ move ! (10 ∷ 11 ∷ []) $ free1 ! $
-        move ! (8 ∷ 9 ∷ []) $ free1 ! $ move ! (6 ∷ 7 ∷ []) $ free1 ! $ free0 ! $
-        keep ! (0 ∷ 1 ∷ 2 ∷ 3 ∷ 4 ∷ 5 ∷ []) $ by ! (exits s a (zs .1 .0) (zs .1 .1 .0) (zs .1 .1 .1 .1 .0)
-        (zs .1 .1 .1 .1 .1 .0) z p q lc ld le))))))))))))))))))))))))))))
+        land ! (from ! (stop !)) (init ! 41 refl (LL.lawful R.the-type R′.the-laws 𝓤 H A W .typed s _ is₁ .0)) $
+        returns ! (look ! 41 refl) $ forget ! 7 refl $ forget ! 9 refl $ forget ! 11 refl $ forget ! 13 refl $ forget ! 15 refl $ forget ! 17 refl $ forget ! 19 refl $ forget ! 21 refl $ forget ! 23 refl $ forget ! 25 refl $ forget ! 27 refl $ forget ! 29 refl $ forget ! 31 refl $ forget ! 33 refl $ forget ! 35 refl $ forget ! 37 refl $ forget ! 39 refl $ forget ! 41 refl $
+        move ! (41 ∷ 42 ∷ []) $ free1 ! $ move ! (39 ∷ 40 ∷ []) $ free1 ! $ move ! (37 ∷ 38 ∷ []) $ free1 ! $ move ! (35 ∷ 36 ∷ []) $ free1 ! $ move ! (33 ∷ 34 ∷ []) $ free1 ! $ move ! (31 ∷ 32 ∷ []) $ free1 ! $ move ! (29 ∷ 30 ∷ []) $ free1 ! $ move ! (27 ∷ 28 ∷ []) $ free1 ! $ move ! (25 ∷ 26 ∷ []) $ free1 ! $ move ! (23 ∷ 24 ∷ []) $ free1 ! $ move ! (21 ∷ 22 ∷ []) $ free1 ! $ move ! (19 ∷ 20 ∷ []) $ free1 ! $ move ! (17 ∷ 18 ∷ []) $ free1 ! $ move ! (15 ∷ 16 ∷ []) $ free1 ! $ move ! (13 ∷ 14 ∷ []) $ free1 ! $ move ! (11 ∷ 12 ∷ []) $ free1 ! $ move ! (9 ∷ 10 ∷ []) $ free1 ! $ move ! (7 ∷ 8 ∷ []) $ free1 ! $ free0 ! $
+        keep ! (0 ∷ 1 ∷ 2 ∷ 3 ∷ 4 ∷ 5 ∷ 6 ∷ []) $ by ! (exits s a (zs .1 .0) (zs .1 .1 .0) (zs .1 .1 .1 .1 .0)
+        (zs .1 .1 .1 .1 .1 .0) (zs .1 .1 .1 .1 .1 .1 .0) z p q lc ld le lj))))))))))))))))))))))))))))))))
 
 module _ {M : Type 1} (𝓤 : URA M) (H : Heap 𝓤) (A : Atoms 𝓤) (W : Given 𝓤 H A) (at-mem : Memory → SProp 𝓤) (run : Routine → Fun 𝓤) where
   walks : (C : Calls 𝓤 H) (Λ : Loops 𝓤 H) → FmC 𝓤 H (W .laws) C → Triple 𝓤 (C #call) (Call 𝓤 H A at-mem run)
       → Triple 𝓤 (C #number) (Number 𝓤 H A at-mem run)
       → Walks 𝓤 H A f.ended stayed (WpFn 𝓤 H C Λ code.function) (f.clauses 𝓤 H A at-mem run)
   walks C Λ fm known known-n = walked 𝓤 H A f.ended stayed (f.clauses 𝓤 H A at-mem run) (WpFn 𝓤 H C Λ code.function) (λ κs.
-      (slice-vals, (slice-vals, (slice-vals, (slice-vals, (ptr-vals, (slice-vals, tt)))))))
-      (λ κs. (shr-slice-tells (named 0) (κs .0) u8, (mut-slice-tells (named 1) (κs .1 .0) u8, (mut-slice-tells (named 2) (κs .1 .1 .0) u8, (shr-slice-tells (named 3) (κs .1 .1 .1 .0) u8, (mut-tells (named 4) (κs .1 .1 .1 .1 .0) T.the-row, (mut-slice-tells (named 5) (κs .1 .1 .1 .1 .1 .0) u8, tt)))))))
+      (slice-vals, (slice-vals, (slice-vals, (slice-vals, (ptr-vals, (slice-vals, (slice-vals, tt))))))))
+      (λ κs. (shr-slice-tells (named 0) (κs .0) u8, (mut-slice-tells (named 1) (κs .1 .0) u8, (mut-slice-tells (named 2) (κs .1 .1 .0) u8, (shr-slice-tells (named 3) (κs .1 .1 .1 .0) u8, (mut-tells (named 4) (κs .1 .1 .1 .1 .0) T.the-row, (mut-slice-tells (named 5) (κs .1 .1 .1 .1 .1 .0) u8, (mut-slice-tells (named 6) (κs .1 .1 .1 .1 .1 .1 .0) u8, tt))))))))
       (λ κs qs bounds a _ are. via 𝓤 _ (fst∗ 𝓤 _ (emp 𝓤)) (walk 𝓤 H A W at-mem run (κs .0) (κs .1 .0) (κs .1 .1 .0) (κs .1 .1 .1 .0)
-      (κs .1 .1 .1 .1 .0) (κs .1 .1 .1 .1 .1 .0) (qs .0) (qs .1 .0) (qs .1 .1 .0) (qs .1 .1 .1 .0) (qs .1 .1 .1 .1 .0) (qs .1 .1 .1 .1 .1 .0)
+      (κs .1 .1 .1 .1 .0) (κs .1 .1 .1 .1 .1 .0) (κs .1 .1 .1 .1 .1 .1 .0) (qs .0) (qs .1 .0) (qs .1 .1 .0) (qs .1 .1 .1 .0) (qs .1 .1 .1 .1 .0) (qs .1 .1 .1 .1 .1 .0) (qs .1 .1 .1 .1 .1 .1 .0)
       (a .0) (a .1 .0) (a .1 .1 .0) (a .1 .1 .1 .0) (a .1 .1 .1 .1 .0 .ptr .0) (a .1 .1 .1 .1 .0 .ptr .1) (a .1 .1 .1 .1 .0 .name)
-      (a .1 .1 .1 .1 .0 .now) (a .1 .1 .1 .1 .1 .0) C Λ fm known known-n (are .0) (are .1 .0) (are .1 .1 .0) (are .1 .1 .1 .0)
-      (are .1 .1 .1 .1 .1 .0)))
+      (a .1 .1 .1 .1 .0 .now) (a .1 .1 .1 .1 .1 .0) (a .1 .1 .1 .1 .1 .1 .0) C Λ fm known known-n (are .0) (are .1 .0) (are .1 .1 .0) (are .1 .1 .1 .0)
+      (are .1 .1 .1 .1 .1 .0) (are .1 .1 .1 .1 .1 .1 .0)))
 
-  goes : AllGo 𝓤 H A W 6 (f.signature .params) (f.ended .kept) stayed
-  goes = (goes-dropped 𝓤 H A W 6 (shrSliceOf (0 ∷ []) tt (plain (λ _. u8))) yes (λ κs x f. refl), (goes-gave-slice 𝓤 H A W 6 1 tt (plain (λ _. u8)), (goes-gave-slice 𝓤 H A W 6 2 tt (plain (λ _. u8)), (goes-dropped 𝓤 H A W 6 (shrSliceOf (3 ∷ []) tt (plain (λ _. u8))) yes (λ κs x f. refl), (goes-gave-ref 𝓤 H A W 6 4 tt (plain (λ _. T.the-row)), (goes-gave-slice 𝓤 H A W 6 5 tt (plain (λ _. u8)), tt))))))
+  goes : AllGo 𝓤 H A W 7 (f.signature .params) (f.ended .kept) stayed
+  goes = (goes-dropped 𝓤 H A W 7 (shrSliceOf (0 ∷ []) tt (plain (λ _. u8))) yes (λ κs x f. refl), (goes-gave-slice 𝓤 H A W 7 1 tt (plain (λ _. u8)), (goes-gave-slice 𝓤 H A W 7 2 tt (plain (λ _. u8)), (goes-dropped 𝓤 H A W 7 (shrSliceOf (3 ∷ []) tt (plain (λ _. u8))) yes (λ κs x f. refl), (goes-gave-ref 𝓤 H A W 7 4 tt (plain (λ _. T.the-row)), (goes-gave-slice 𝓤 H A W 7 5 tt (plain (λ _. u8)), (goes-gave-slice 𝓤 H A W 7 6 tt (plain (λ _. u8)), tt)))))))
 
 meets : {M : Type 1} (𝓤 : URA M) (H : Heap 𝓤) (A : Atoms 𝓤) → Given 𝓤 H A → (at-mem : Memory → SProp 𝓤) (run : Routine → Fun 𝓤) (𝓣 : Tables 𝓤 H)
     → Triple 𝓤 (𝓣 .C #call) (Call 𝓤 H A at-mem run) → Triple 𝓤 (𝓣 .C #number) (Number 𝓤 H A at-mem run)

@@ -11,6 +11,7 @@ use Rattle.wire.specs.declared.header.Header.{Header}
 use Rattle.messages.specs.Protobuf.{protobuf}
 use Rattle.messages.specs.Operations.{outputBytes}
 use Rattle.stream.specs.Rules.{Verdict}
+use Rattle.stream.specs.Handed.{Handed}
 use Rattle.registry.specs.Registry.{slotsOf}
 use Rattle.registry.specs.declared.Line.{Line}
 use Rattle.shipped.specs.Shipped.{keysIn}
@@ -24,18 +25,19 @@ use Rattle.judgement.specs.declared.Asker.{Asker}
 use Rattle.judgement.specs.declared.Asker.the-variants.{Nobody}
 use Rattle.answer.specs.declared.Answered.{Answered}
 
--- the verdict `v` was carried out: its response stands at the front of the buffer `before`, which is now `after`, the registry
--- is its own, and `r` counts as it does, whatever the counts are
-pub record AnsweredBy (v : Counts → Verdict (List ℕ) Counts (List ℕ)) (registry before after : List ℕ) (r : Answered) : Type 0 where
-  pub response : Wrote (v noCounts .response) before after (r .written)
+-- the verdict `v` was carried out: its response stands at the front of the buffer `before`, which is now `after`, its record at
+-- the front of `journal`, which is now `journal′`, the registry is its own, and `r` counts as it does, whatever the counts are
+pub record AnsweredBy (v : Counts → Verdict (List ℕ) Counts Handed) (registry before after journal journal′ : List ℕ) (r : Answered) : Type 0 where
+  pub response : Wrote (v noCounts .response .response) before after (r .written)
+  pub recorded : Wrote (v noCounts .response .recorded) journal journal′ (r .recorded)
   pub kept : registry ≡ v noCounts .registry
   pub counts : (c : Counts) → count c (askersLine (r .asker)) (r .status) ≡ v c .counts
   pub asker : AskerBelow (r .asker)
 
--- a request was refused with this status: it is nobody's, and counts by its status alone
+-- a request was refused with this status: it is nobody's, counts by its status alone, and has no record
 abbrev pub RefusedWith : (provider session opcode : ℕ) → Status → (before after : List ℕ) → Answered → Type 0
 RefusedWith provider session opcode status before after r =
-    (r .status ≡ status) × (r .asker ≡ Nobody) × Wrote (responseBytes provider session opcode (statusNumber status) []) before after (r .written)
+    (r .status ≡ status) × (r .asker ≡ Nobody) × Wrote (responseBytes provider session opcode (statusNumber status) []) before after (r .written) × (r .recorded ≡ 0)
 
 -- ---- a request whose header has passed
 

@@ -19,16 +19,16 @@ codeFor (some refusal) = Refused refusal
 
 -- what a call that is handled says
 abbrev pub answerOf : Handled → CallAnswer
-answerOf h = record { code = h .code; taken = h .added .taken; written = h .written }
+answerOf h = record { code = h .code; taken = h .added .taken; written = h .written; recorded = h .recorded }
 
 -- what was said and left, as the contract has it
-abbrev pub ranBy : CallAnswer → Memory → (response : List ℕ) → Ran
-ranBy a memory response = ranWith (codeNumber (a .code)) (a .taken) (a .written) memory response
+abbrev pub ranBy : CallAnswer → Memory → (response journal : List ℕ) → Ran
+ranBy a memory response journal = ranWith (codeNumber (a .code)) (a .taken) (a .written) (a .recorded) memory response journal
 
 -- a call that is refused takes, writes and counts nothing
 abbrev pub refusedWith : Code → Handled
-refusedWith code = record { code = code; written = 0; added = record { taken = 0; answered = 0; dropped = 0; event = NoRequest } }
+refusedWith code = record { code = code; written = 0; recorded = 0; added = record { taken = 0; answered = 0; dropped = 0; event = NoRequest } }
 
 -- an outcome is an answer and the counters
 abbrev pub outcomeOf : CallAnswer → Counters → Outcome
-outcomeOf a counters = record { code = a .code; taken = a .taken; written = a .written; counters = counters }
+outcomeOf a counters = record { code = a .code; taken = a .taken; written = a .written; recorded = a .recorded; counters = counters }

@@ -18,10 +18,15 @@ perform-operation-requires c κs = search needs
 write-response-requires : tie.Need-write-response-requires
 write-response-requires c κs = search needs
 
+write-record-requires : tie.Need-write-record-requires
+write-record-requires c κs =
+    let s = c .before .before .before .before .before .before .before .before .before .before .before .before .before .before in
+    (s .pre .0, s .pre .1, c .before .before .before .before .before .before .before .perform-operation .ensures .edit, s .pre .4)
+
 make-edit-requires : tie.Need-make-edit-requires
 make-edit-requires c κs =
-    let s = c .before .before .before .before .before .before .before .before .before .before .before .before in
-    (good-of (s .args .registry .now) (s .pre .0) .size, s .pre .1, c .before .before .before .before .before .before .perform-operation .ensures .edit)
+    let s = c .before .before .before .before .before .before .before .before .before .before .before .before .before .before .before .before .before .before in
+    (good-of (s .args .registry .now) (s .pre .0) .size, s .pre .1, c .before .before .before .before .before .before .before .before .before .before .before .perform-operation .ensures .edit)
 
 same-length : tie.Need-same-length
 same-length c = search needs
@@ -29,14 +34,18 @@ same-length c = search needs
 same-length-2 : tie.Need-same-length-2
 same-length-2 c = search needs
 
+same-length-3 : tie.Need-same-length-3
+same-length-3 c = search needs
+
 returns : tie.Need-returns
 unfolding resultIn
 returns c =
-    let w = c .before .before .before .before .before .before in
+    let r = c .before .before .before .before .before .before in
+    let w = r .before .before .before .before .before in
     let d = w .before .before .before .perform-operation in
-    let s = w .before .before .before .before .before .before .before .before .before in
-    let written = decided-answered {x = result s} (s .args .h) (Named (s .args .line)) (d .ensures) (w .write-response .ensures) in
-    (written, rw (← d .ensures .result) (c .before .before .make-edit .ensures))
+    let s = w .before .before .before .before .before .before .before .before .before .before in
+    let written = decided-answered {x = result s} (s .args .h) (Named (s .args .line)) (d .ensures) (w .write-response .ensures) (r .write-record .result) in
+    (written, rw (← d .ensures .result) (c .before .before .make-edit .ensures), rw (← d .ensures .result) (r .write-record .ensures))
 
 pub answer-named-spec : {M : Type 1} → statement M
 answer-named-spec =
@@ -44,7 +53,9 @@ answer-named-spec =
     (tie.spec
     perform-operation-requires
     write-response-requires
+    write-record-requires
     make-edit-requires
     same-length
     same-length-2
+    same-length-3
     returns)

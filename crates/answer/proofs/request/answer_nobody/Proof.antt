@@ -1,4 +1,5 @@
 -- `answer::request::answer_nobody` meets its contract.
+use mathlib.Core.Path.{refl}
 use mathlib.Core.List.{[]}
 use native.Mathlib.Omega.{arith}
 use borrow.Author.Tests.{eq-eqb, ne-eqb}
@@ -24,7 +25,7 @@ returns : tie.Need-returns
 unfolding resultForNobody refuse
 returns c =
     let e = c .before .before .refuse .ensures in
-    rw (eq-eqb _ _ (c .before .before .before .before .if1 .taken)) (record { status = e .0; asker = e .1; response = rw nothing-bytes (e .2) })
+    rw (eq-eqb _ _ (c .before .before .before .before .if1 .taken)) (record { status = e .0; asker = e .1; response = rw nothing-bytes (e .2) }, e .3)
 
 perform-operation-requires : tie.Need-perform-operation-requires
 perform-operation-requires c κs = search needs
@@ -45,7 +46,7 @@ returns-2 c =
     let core = core-opcode (a .h) (s .pre .0) (omega (arith, provider-small (a .h) (s .pre .0), l .if1 .left)) in
     let keys = keysIn (a .list .now) in
     rw (ne-eqb _ _ (l .if1 .left), core-alone (a .h .opcode) (a .body .now) [] (slotsOf (a .registry .now) (record { 0 = 0 })) keys keys core)
-    (decided-answered (a .h) Nobody (p .perform-operation .ensures) (c .before .before .write-response .ensures))
+    (decided-answered (a .h) Nobody (p .perform-operation .ensures) (c .before .before .write-response .ensures) 0, refl)
 
 pub answer-nobody-spec : {M : Type 1} → statement M
 answer-nobody-spec =

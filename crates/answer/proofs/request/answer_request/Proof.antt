@@ -10,20 +10,22 @@ use Rattle.wire.specs.code.Header.{headerOf}
 use Rattle.stream.proofs.FrameLaws.{legal-size}
 use Rattle.registry.proofs.WellFormedLaws.{good-of}
 use Rattle.judgement.specs.Status.{statusNumber}
-use Rattle.judgement.specs.Judgement.{changedBy}
+use Rattle.judgement.specs.Judgement.{askersSlots, changedBy}
 use Rattle.judgement.specs.code.Decided.{askersLine}
 use Rattle.judgement.specs.declared.Asker.the-variants.{Nobody, Named}
 use Rattle.judgement.specs.declared.Auth.the-variants.{Accepted}
 use Rattle.judgement.proofs.JudgementLaws.{asks}
 use Rattle.judgement.proofs.OrderLaws.{passed-none, refused-some}
+use Rattle.journal.specs.Journalling.{recordFor}
+use Rattle.journal.specs.code.Written.{actOfAsker}
 use Rattle.answer.specs.code.Answers.{PassedHeader}
-use Rattle.answer.proofs.AnswerLaws.{header-status, authFound, header-refused, auth-refused, by-nobody, by-application, body-there, auth-there, answered-refused, answered}
+use Rattle.answer.proofs.AnswerLaws.{header-status, authFound, header-refused, auth-refused, by-nobody, by-application, body-there, auth-there, no-record, answered-refused, answered}
 use Rattle.answer.proofs.request.answer_request.Statement.{statement}
 use Rattle.answer.proofs.request.answer_request.Tie as tie
 
 read-header-requires : tie.Need-read-header-requires
 read-header-requires c κs =
-    let s = c .before .before .before .before in
+    let s = c .before .before .before .before .before in
     omega (arith, s .pre .1, legal-size (s .args .request .now) (s .pre .0))
 
 check-header-requires : tie.Need-check-header-requires
@@ -44,9 +46,9 @@ returns c =
     let t = r .before .before .before in
     let k = t .before .before in
     let e = k .before .read-header .ensures in
-    let a = k .before .before .before .before .before .before .args in
+    let a = k .before .before .before .before .before .before .before .args in
     let f = rw e at (refused-some _ _ (sym (k .check-header .ensures) ∙ t .status .given .1)) in
-    answered-refused (a .list .now) (a .registry .now) (a .request .now) _ (header-refused (a .list .now) (a .registry .now) (a .request .now) _ f) (header-status (headerOf (a .request .now)) _ f)
+    answered-refused (a .list .now) (a .registry .now) (a .request .now) (a .journal .now) _ (header-refused (a .list .now) (a .registry .now) (a .request .now) _ f) (header-status (headerOf (a .request .now)) _ f)
     (rw e at (r .refuse .ensures))
 
 enum-told : tie.Need-enum-told
@@ -66,9 +68,9 @@ add-end c = search needs
 
 -- the header and the body lie within the request
 inside : (c : tie.After-read-header)
-    → 6 + c .read-header .result .size + c .read-header .result .«content_length» ≤ length (c .before .before .before .before .before .args .request .now)
+    → 6 + c .read-header .result .size + c .read-header .result .«content_length» ≤ length (c .before .before .before .before .before .before .args .request .now)
 unfolding headerOf
-inside c = rw (c .read-header .ensures) (omega (arith, c .before .before .before .before .before .pre .1))
+inside c = rw (c .read-header .ensures) (omega (arith, c .before .before .before .before .before .before .pre .1))
 
 sub-authenticate : tie.Need-sub-authenticate
 sub-authenticate c = inside (c .before .before .before .before .before .before)
@@ -81,17 +83,20 @@ part-authenticate-end c = search needs
 
 authenticate-requires : tie.Need-authenticate-requires
 authenticate-requires c κs =
-    let s = c .before .before .before .before .before .before .before .before .before .before .before .before in
+    let s = c .before .before .before .before .before .before .before .before .before .before .before .before .before in
     good-of (s .args .registry .now) (s .pre .3) .size
 
 abbrev start : tie.After-authenticate → tie.Start
-start c = c .before .before .before .before .before .before .before .before .before .before .before .before .before
+start c = c .before .before .before .before .before .before .before .before .before .before .before .before .before .before
 
 abbrev request : tie.After-authenticate → List ℕ
 request c = start c .args .request .now
 
 abbrev list : tie.After-authenticate → List ℕ
 list c = start c .args .list .now
+
+abbrev journal : tie.After-authenticate → List ℕ
+journal c = start c .args .journal .now
 
 abbrev registry : tie.After-authenticate → List ℕ
 registry c = start c .args .registry .now
@@ -144,7 +149,7 @@ part-answer-named-start : tie.Need-part-answer-named-start
 part-answer-named-start c = search needs
 
 part-answer-named-end : tie.Need-part-answer-named-end
-part-answer-named-end c = inside (c .before .before .before .before .before .before .before .before .before .before .before .before .before .before .before)
+part-answer-named-end c = inside (c .before .before .before .before .before .before .before .before .before .before .before .before .before .before .before .before)
 
 -- the application that the auth bytes name
 named : (c : tie.After-known-told3)
@@ -153,10 +158,10 @@ named c = c .before .before .before .before .asker .given .1 ∙ ap Accepted (c 
 
 answer-named-requires : tie.Need-answer-named-requires
 answer-named-requires c κs =
-    let t = c .before .before .before in
+    let t = c .before .before .before .before in
     let a = t .before .before .before .before .before .before in
     let b = by-application (list a) (registry a) (request a) (passed a) _ (sym (found a) ∙ named t) in
-    (start a .pre .3, asks (registry a) (requestOf (request a)) _ (b .0) .there, start a .pre .4, start a .pre .5)
+    (start a .pre .3, asks (registry a) (requestOf (request a)) _ (b .0) .there, start a .pre .4, start a .pre .5, start a .pre .6)
 
 same-length-2 : tie.Need-same-length-2
 same-length-2 c = search needs
@@ -170,7 +175,7 @@ returns-2 c =
     let r = c .before .before in
     let t = r .before .before in
     let a = t .before .before in
-    answered-refused (list a) (registry a) (request a) _ (auth-refused (list a) (registry a) (request a) (passed a) (sym (found a) ∙ t .enum-told2 .given .1)) (omega arith)
+    answered-refused (list a) (registry a) (request a) (journal a) _ (auth-refused (list a) (registry a) (request a) (passed a) (sym (found a) ∙ t .enum-told2 .given .1)) (omega arith)
     (rw (header a) at (r .refuse2 .ensures))
 
 same-length-4 : tie.Need-same-length-4
@@ -180,14 +185,15 @@ same-length-5 : tie.Need-same-length-5
 same-length-5 c = search needs
 
 returns-3 : tie.Need-returns-3
-unfolding headerOf askersLine changedBy
+unfolding headerOf askersLine askersSlots changedBy actOfAsker recordFor
 returns-3 c =
     let n = c .before .before in
     let t = n .before .before .before .before in
     let a = t .before .before .before .before .before in
     let e = sym (found a) ∙ t .before .before .before .asker .given .1 ∙ ap Accepted (t .enum-told3 .given .1) in
-    answered (list a) (registry a) (request a) _ Nobody _ (by-nobody (list a) (registry a) (request a) (passed a) e) tt refl
-    (rw (body-there (request a) _ _ refl refl) at (rw (header a) at (n .answer-nobody .ensures)))
+    let w = rw (body-there (request a) _ _ refl refl) at (rw (header a) at (n .answer-nobody .ensures)) in
+    answered (list a) (registry a) (request a) _ (journal a) (journal a) Nobody _ (by-nobody (list a) (registry a) (request a) (passed a) e) tt refl
+    (no-record (journal a) _ (w .1)) (w .0)
 
 same-length-6 : tie.Need-same-length-6
 same-length-6 c = search needs
@@ -195,15 +201,18 @@ same-length-6 c = search needs
 same-length-7 : tie.Need-same-length-7
 same-length-7 c = search needs
 
+same-length-8 : tie.Need-same-length-8
+same-length-8 c = search needs
+
 returns-4 : tie.Need-returns-4
-unfolding headerOf askersLine changedBy
+unfolding headerOf askersLine askersSlots changedBy actOfAsker recordFor
 returns-4 c =
-    let n = c .before .before .before .before in
-    let t = n .before .before .before .before in
+    let n = c .before .before .before .before .before .before in
+    let t = n .before .before .before .before .before in
     let a = t .before .before .before .before .before .before in
     let b = by-application (list a) (registry a) (request a) (passed a) _ (sym (found a) ∙ named t) in
     let w = rw (body-there (request a) _ _ refl refl) at (rw (header a) at (n .answer-named .ensures)) in
-    answered (list a) (registry a) (request a) _ (Named _) _ b (asks (registry a) (requestOf (request a)) _ (b .0) .there) (w .1) (w .0)
+    answered (list a) (registry a) (request a) _ (journal a) _ (Named _) _ b (asks (registry a) (requestOf (request a)) _ (b .0) .there) (w .1) (w .2) (w .0)
 
 pub answer-request-spec : {M : Type 1} → statement M
 answer-request-spec =
@@ -245,4 +254,5 @@ answer-request-spec =
     returns-3
     same-length-6
     same-length-7
+    same-length-8
     returns-4)

@@ -31,7 +31,7 @@ same-length c = search needs
 returns : tie.Need-returns
 returns c =
     let a = c .before .before in
-    λ list registry. rw (a .before .before .before .header-length .ensures) at (a .answer-oversized .ensures list registry)
+    λ list registry journal. rw (a .before .before .before .header-length .ensures) at (a .answer-oversized .ensures list registry journal)
 
 pub answer-skipped-spec : {M : Type 1} → statement M
 answer-skipped-spec =

@@ -15,12 +15,12 @@ use Rattle.bill.proofs.feed.take_stream.Statement.{statement}
 use Rattle.bill.proofs.feed.take_stream.Tie as tie
 
 abbrev Inv-loop : tie.InvT-loop
-Inv-loop fd connection₀ registry₀ list chunk₀ response₀ counters₀ turns₀ connection registry chunk response counters turns =
+Inv-loop fd connection₀ registry₀ list chunk₀ response₀ journal₀ counters₀ turns₀ connection registry chunk response journal counters turns =
     After list registry₀ ((turnsMost - turns) * chunkMost) (lentMemory connection registry counters) × (turns ≤ turnsMost)
-    × (length connection ≡ length connection₀) × (length registry ≡ length registry₀) × (length chunk ≡ chunkMost) × (length response ≡ 4096)
+    × (length connection ≡ length connection₀) × (length registry ≡ length registry₀) × (length chunk ≡ chunkMost) × (length response ≡ 4096) × (length journal ≡ 4096)
 
 abbrev μ-loop : tie.MeasureT-loop
-μ-loop fd connection₀ registry₀ list chunk₀ response₀ counters₀ turns₀ connection registry chunk response counters turns = turns
+μ-loop fd connection₀ registry₀ list chunk₀ response₀ journal₀ counters₀ turns₀ connection registry chunk response journal counters turns = turns
 
 open-connection-requires : tie.Need-open-connection-requires Inv-loop μ-loop
 open-connection-requires c κs = search needs
@@ -31,19 +31,23 @@ large-buffer-requires c κs = search needs
 buffer-requires : tie.Need-buffer-requires Inv-loop μ-loop
 buffer-requires c κs = search needs
 
+buffer-requires-2 : tie.Need-buffer-requires-2 Inv-loop μ-loop
+buffer-requires-2 c κs = search needs
+
 zero-counters-requires : tie.Need-zero-counters-requires Inv-loop μ-loop
 zero-counters-requires c κs = search needs
 
 loop-holds : tie.Need-loop-holds Inv-loop μ-loop
 loop-holds c =
-    let opened = c .before .before .before .before .before in
+    let opened = c .before .before .before .before .before .before in
     let start = opened .before .before .before .before .before in (
       starts (start .args .list .now) (start .args .registry .now) (start .args .connection .now) _ _ _ (start .pre .0) (opened .open-connection .ensures) (c .zero-counters .ensures),
       omega arith,
       refl,
       refl,
-      sym (c .before .before .large-buffer .ensures),
-      sym (c .before .buffer .ensures),
+      sym (c .before .before .before .large-buffer .ensures),
+      sym (c .before .before .buffer .ensures),
+      sym (c .before .buffer2 .ensures),
     )
 
 slice-aggregate-read-some : tie.Need-slice-aggregate-read-some Inv-loop μ-loop
@@ -67,7 +71,7 @@ same-length-2 c = search needs
 returns : tie.Need-returns Inv-loop μ-loop
 returns c =
     let l = c .before .before .before .before .before .before .loop in
-    let (size, good, listed) = c .before .before .before .before .before .before .before .before .before .before .before .before .before .before .before .before .before .pre in
+    let (size, good, listed) = c .before .before .before .before .before .before .before .before .before .before .before .before .before .before .before .before .before .before .pre in
     after-most _ _ good listed _ _ (l .inv .0) counterMost (omega arith)
 
 -- what was read is the front of the buffer
@@ -92,12 +96,15 @@ slice-aggregate-feed c = sym (read (c .before) .2)
 slice-aggregate-feed-2 : tie.Need-slice-aggregate-feed-2 Inv-loop μ-loop
 slice-aggregate-feed-2 c = search needs
 
+slice-aggregate-feed-3 : tie.Need-slice-aggregate-feed-3 Inv-loop μ-loop
+slice-aggregate-feed-3 c = search needs
+
 feed-requires : tie.Need-feed-requires Inv-loop μ-loop
 feed-requires c κs =
-    let (few, long, size) = read (c .before .before .before .before) in
-    let l = c .before .before .before .before .before .before .before .before .before .before .before .loop in
-    let start = c .before .before .before .before .before .before .before .before .before .before .before .before .before .before .before .before .before .before .before .before .before .before in
-    (omega (arith, few, size), omega (arith, l .inv .5), follows _ _ (start .pre .1) (start .pre .2) _ _ (l .inv .0) _ (omega (arith, few, size, l .inv .1)))
+    let (few, long, size) = read (c .before .before .before .before .before) in
+    let l = c .before .before .before .before .before .before .before .before .before .before .before .before .loop in
+    let start = c .before .before .before .before .before .before .before .before .before .before .before .before .before .before .before .before .before .before .before .before .before .before .before .before in
+    (omega (arith, few, size), omega (arith, l .inv .5), omega (arith, l .inv .6), follows _ _ (start .pre .1) (start .pre .2) _ _ (l .inv .0) _ (omega (arith, few, size, l .inv .1)))
 
 sub-turns : tie.Need-sub-turns Inv-loop μ-loop
 sub-turns c = omega arith
@@ -107,18 +114,19 @@ loop-less c = omega arith
 
 loop-again : tie.Need-loop-again Inv-loop μ-loop
 loop-again c =
-    let t = c .before .before .before .before .before in
-    let (few, long, size) = read (t .before .before .before .before .before) in
-    let l = t .before .before .before .before .before .before .before .before .before .before .before .before .loop in
-    let (long3, good, listed) = t .before .before .before .before .before .before .before .before .before .before .before .before .before .before .before .before .before .before .before .before .before .before .before .pre in
-    let (kept, turns, same, same2, long2, room) = l .inv in
-    let more = t .before .before .before .before .before .before .before .before .before .before .before .loop-test .taken in (
+    let t = c .before .before .before .before .before .before in
+    let (few, long, size) = read (t .before .before .before .before .before .before) in
+    let l = t .before .before .before .before .before .before .before .before .before .before .before .before .before .loop in
+    let (long3, good, listed) = t .before .before .before .before .before .before .before .before .before .before .before .before .before .before .before .before .before .before .before .before .before .before .before .before .before .pre in
+    let (kept, turns, same, same2, long2, room, space) = l .inv in
+    let more = t .before .before .before .before .before .before .before .before .before .before .before .before .loop-test .taken in (
       after-most _ _ good listed _ _ (after-more _ _ good listed _ _ kept _ _ (omega (arith, few, size, turns, more)) (t .feed .ensures)) _ (omega (arith, few, size, turns, more)),
       omega arith,
       t .feed .kept .1 .0 ∙ same,
       t .feed .kept .1 .1 .0 ∙ same2,
       long,
       t .feed .kept .1 .1 .1 .1 .1 .0 ∙ room,
+      t .feed .kept .1 .1 .1 .1 .1 .1 .0 ∙ space,
     )
 
 same-length-3 : tie.Need-same-length-3 Inv-loop μ-loop
@@ -130,7 +138,7 @@ same-length-4 c = search needs
 returns-2 : tie.Need-returns-2 Inv-loop μ-loop
 returns-2 c =
     let l = c .before .loop in
-    let (size, good, listed) = c .before .before .before .before .before .before .before .before .before .before .before .before .pre in
+    let (size, good, listed) = c .before .before .before .before .before .before .before .before .before .before .before .before .before .pre in
     after-most _ _ good listed _ _ (l .inv .0) counterMost (omega arith)
 
 pub take-stream-spec : {M : Type 1} → statement M
@@ -142,6 +150,7 @@ take-stream-spec =
     open-connection-requires
     large-buffer-requires
     buffer-requires
+    buffer-requires-2
     zero-counters-requires
     loop-holds
     slice-aggregate-read-some
@@ -154,6 +163,7 @@ take-stream-spec =
     array-share-prefix-chunk
     slice-aggregate-feed
     slice-aggregate-feed-2
+    slice-aggregate-feed-3
     feed-requires
     sub-turns
     loop-less

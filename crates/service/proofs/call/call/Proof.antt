@@ -82,12 +82,12 @@ abbrev Bytes : Type 0
 Bytes = RefT (List ℕ)
 
 abbrev stayed : Stays (f.ended .signature .params) (f.ended .kept)
-stayed = (stay-dropped (shrSliceOf (0 ∷ []) tt (plain (λ _. u8))) yes, (gave-slice (1 ∷ []) tt (plain (λ _. u8)), (gave-slice (2 ∷ []) tt (plain (λ _. u8)), (stay-dropped (shrSliceOf (3 ∷ []) tt (plain (λ _. u8))) yes, (gave-ref (4 ∷ []) tt (plain (λ _. T.the-row)), (gave-slice (5 ∷ []) tt (plain (λ _. u8)), tt))))))
+stayed = (stay-dropped (shrSliceOf (0 ∷ []) tt (plain (λ _. u8))) yes, (gave-slice (1 ∷ []) tt (plain (λ _. u8)), (gave-slice (2 ∷ []) tt (plain (λ _. u8)), (stay-dropped (shrSliceOf (3 ∷ []) tt (plain (λ _. u8))) yes, (gave-ref (4 ∷ []) tt (plain (λ _. T.the-row)), (gave-slice (5 ∷ []) tt (plain (λ _. u8)), (gave-slice (6 ∷ []) tt (plain (λ _. u8)), tt)))))))
 
 -- what is ensured, from what `handle`, `added_of`, `count` and `answer_of` ensure
-said : (s a : CallAnswer) (t u : Counters) (c d e l : List ℕ) (m : CallMemory) (k : Call) → CallContract l m k (ranBy a (lentMemory c d u) e) → t ≡ u → s ≡ a
-    → CallContract l m k (ranBy s (lentMemory c d t) e)
-said s a t u c d e l m k p q v = rw (q, v) p
+said : (s a : CallAnswer) (t u : Counters) (c d e j l : List ℕ) (m : CallMemory) (k : Call) → CallContract l m k (ranBy a (lentMemory c d u) e j) → t ≡ u → s ≡ a
+    → CallContract l m k (ranBy s (lentMemory c d t) e j)
+said s a t u c d e j l m k p q v = rw (q, v) p
 
 module _ {M : Type 1} (𝓤 : URA M) (H : Heap 𝓤) (A : Atoms 𝓤) (at-mem : Memory → SProp 𝓤) (run : Routine → Fun 𝓤) where
   -- the contracts that the proof cites
@@ -112,8 +112,8 @@ module _ {M : Type 1} (𝓤 : URA M) (H : Heap 𝓤) (A : Atoms 𝓤) (at-mem : 
   answer-said h s = exE 𝓤 _ (λ ws. snd∗ 𝓤 (sem 𝓤 H A (lasts answer-of.ended tt (h, tt) ws)) (fact 𝓤 (s ≡ answerOf h)))
 
 module _ {M : Type 1} (𝓤 : URA M) (H : Heap 𝓤) (A : Atoms 𝓤) (W : Given 𝓤 H A) (at-mem : Memory → SProp 𝓤) (run : Routine → Fun 𝓤)
-    (κ₀ κ₁ κ₂ κ₃ κ₄ κ₅ : Lft) (q₀ q₁ q₂ q₃ q₄ q₅ : Share) (chunk connection registry list : Bytes) (b o : ℕ) (γ : GName) (cs : Counters)
-    (response : Bytes) where
+    (κ₀ κ₁ κ₂ κ₃ κ₄ κ₅ κ₆ : Lft) (q₀ q₁ q₂ q₃ q₄ q₅ q₆ : Share) (chunk connection registry list : Bytes) (b o : ℕ) (γ : GName) (cs : Counters)
+    (response journal : Bytes) where
   -- the machine value of a slice, and of the counters
   abbrev sv : Bytes → Val
   sv s = sliceVal (s .ptr) (length (s .now))
@@ -125,29 +125,29 @@ module _ {M : Type 1} (𝓤 : URA M) (H : Heap 𝓤) (A : Atoms 𝓤) (W : Given
   counters = record { ptr = (b, o); name = γ; now = cs }
 
   abbrev Arg : Type 0
-  Arg = Bytes × (Bytes × (Bytes × (Bytes × (RefT Counters × (Bytes × Unit {0})))))
+  Arg = Bytes × (Bytes × (Bytes × (Bytes × (RefT Counters × (Bytes × (Bytes × Unit {0}))))))
 
   abbrev x : Arg
-  x = (chunk, (connection, (registry, (list, (counters, (response, tt))))))
+  x = (chunk, (connection, (registry, (list, (counters, (response, (journal, tt)))))))
 
   abbrev Vals : Type 0
-  Vals = List Val × (List Val × (List Val × (List Val × (List Val × (List Val × Unit {0})))))
+  Vals = List Val × (List Val × (List Val × (List Val × (List Val × (List Val × (List Val × Unit {0}))))))
 
   abbrev at : Vals
-  at = (sv chunk ∷ [], (sv connection ∷ [], (sv registry ∷ [], (sv list ∷ [], (vptr b o ∷ [], (sv response ∷ [], tt))))))
+  at = (sv chunk ∷ [], (sv connection ∷ [], (sv registry ∷ [], (sv list ∷ [], (vptr b o ∷ [], (sv response ∷ [], (sv journal ∷ [], tt)))))))
 
-  abbrev κs : Lfts 6
-  κs = (κ₀, (κ₁, (κ₂, (κ₃, (κ₄, (κ₅, tt))))))
+  abbrev κs : Lfts 7
+  κs = (κ₀, (κ₁, (κ₂, (κ₃, (κ₄, (κ₅, (κ₆, tt)))))))
 
-  abbrev qs : Shares 6
-  qs = (q₀, (q₁, (q₂, (q₃, (q₄, (q₅, tt))))))
+  abbrev qs : Shares 7
+  qs = (q₀, (q₁, (q₂, (q₃, (q₄, (q₅, (q₆, tt)))))))
 
   -- those of the slices alone
-  abbrev κs₅ : Lfts 5
-  κs₅ = (κ₀, (κ₁, (κ₂, (κ₃, (κ₅, tt)))))
+  abbrev κs₆ : Lfts 6
+  κs₆ = (κ₀, (κ₁, (κ₂, (κ₃, (κ₅, (κ₆, tt))))))
 
-  abbrev qs₅ : Shares 5
-  qs₅ = (q₀, (q₁, (q₂, (q₃, (q₅, tt)))))
+  abbrev qs₆ : Shares 6
+  qs₆ = (q₀, (q₁, (q₂, (q₃, (q₅, (q₆, tt))))))
 
   -- what the contract binds
   abbrev bound : walkOf 𝓤 H A f.ended stayed (f.clauses 𝓤 H A at-mem run) .Ghost
@@ -158,22 +158,22 @@ module _ {M : Type 1} (𝓤 : URA M) (H : Heap 𝓤) (A : Atoms 𝓤) (W : Given
 
   -- the tokens of `handle`, and what its parameters own
   abbrev tokens : Item 𝓤
-  tokens = ‵ (flft κ₀ q₀) ⊛ ‵ (flft κ₁ q₁) ⊛ ‵ (flft κ₂ q₂) ⊛ ‵ (flft κ₃ q₃) ⊛ ‵ (flft κ₅ q₅) ⊛ ‵ ftrue
+  tokens = ‵ (flft κ₀ q₀) ⊛ ‵ (flft κ₁ q₁) ⊛ ‵ (flft κ₂ q₂) ⊛ ‵ (flft κ₃ q₃) ⊛ ‵ (flft κ₅ q₅) ⊛ ‵ (flft κ₆ q₆) ⊛ ‵ ftrue
 
   abbrev HandleArg : Type 0
-  HandleArg = Bytes × (Bytes × (Bytes × (Bytes × (Counters × (Bytes × Unit {0})))))
+  HandleArg = Bytes × (Bytes × (Bytes × (Bytes × (Counters × (Bytes × (Bytes × Unit {0}))))))
 
   abbrev y : HandleArg
-  y = (chunk, (connection, (registry, (list, (cs, (response, tt))))))
+  y = (chunk, (connection, (registry, (list, (cs, (response, (journal, tt)))))))
 
   abbrev y-vals : Vals
-  y-vals = (sv chunk ∷ [], (sv connection ∷ [], (sv registry ∷ [], (sv list ∷ [], (v ∷ [], (sv response ∷ [], tt))))))
+  y-vals = (sv chunk ∷ [], (sv connection ∷ [], (sv registry ∷ [], (sv list ∷ [], (v ∷ [], (sv response ∷ [], (sv journal ∷ [], tt)))))))
 
   abbrev passed : Fml
-  passed = owns (ShrSlice (named 0) κ₀ u8 ∷ MutSlice (named 1) κ₁ u8 ∷ MutSlice (named 2) κ₂ u8 ∷ ShrSlice (named 3) κ₃ u8 ∷ T.the-row ∷ MutSlice (named 4) κ₅ u8 ∷ []) y y-vals
+  passed = owns (ShrSlice (named 0) κ₀ u8 ∷ MutSlice (named 1) κ₁ u8 ∷ MutSlice (named 2) κ₂ u8 ∷ ShrSlice (named 3) κ₃ u8 ∷ T.the-row ∷ MutSlice (named 4) κ₅ u8 ∷ MutSlice (named 5) κ₆ u8 ∷ []) y y-vals
 
   abbrev to-handle : Handle 𝓤 H A at-mem run .Ghost
-  to-handle = ((κs₅, qs₅, tt, y, y-vals), tt)
+  to-handle = ((κs₆, qs₆, tt, y, y-vals), tt)
 
   goes-handle : ent 𝓤 (⋆ 𝓤 H A (tokens ∷ ‵ passed ∷ [])) (Handle 𝓤 H A at-mem run .pre to-handle)
   goes-handle = qed W (tokens ∷ ‵ passed ∷ []) ∵ join ! $ frame ! $ done !
@@ -204,115 +204,122 @@ module _ {M : Type 1} (𝓤 : URA M) (H : Heap 𝓤) (A : Atoms 𝓤) (W : Given
   goes-answer h w = qed W (‵ (D.the-row .own h (w ∷ [])) ∷ []) ∵ nothing ! $ move ! (1 ∷ 0 ∷ []) $ join ! $ nothing ! $ join ! $ frame ! $ done !
 
   -- what `handle` ensures, at the last lists
-  abbrev Ensured : Handled → List ℕ → List ℕ → List ℕ → Type 0
-  Ensured h c d e = CallContract (list .now) (lentMemory (connection .now) (registry .now) cs) (callWith (chunk .now) (response .now))
-      (ranBy (answerOf h) (lentMemory c d (counted cs (h .added))) e) × Fits cs (h .added)
+  abbrev Ensured : Handled → List ℕ → List ℕ → List ℕ → List ℕ → Type 0
+  Ensured h c d e j = CallContract (list .now) (lentMemory (connection .now) (registry .now) cs) (callWith (chunk .now) (response .now) (journal .now))
+      (ranBy (answerOf h) (lentMemory c d (counted cs (h .added))) e j) × Fits cs (h .added)
 
-  abbrev at-exit : CallAnswer → Counters → List ℕ → List ℕ → List ℕ → Val → List (Item 𝓤)
-  at-exit s t c d e z = ‵ (N.the-row .own s (z ∷ [])) ∷ token ∷ ‵ (fres γ (T.the-row .coded .code t)) ∷ tokens ∷ ‵ (finally u8 (response .name) e)
+  abbrev at-exit : CallAnswer → Counters → List ℕ → List ℕ → List ℕ → List ℕ → Val → List (Item 𝓤)
+  at-exit s t c d e j z = ‵ (N.the-row .own s (z ∷ [])) ∷ token ∷ ‵ (fres γ (T.the-row .coded .code t)) ∷ tokens ∷ ‵ (finally u8 (journal .name) j) ∷ ‵ (finally u8 (response .name) e)
       ∷ ‵ (finally u8 (registry .name) d) ∷ ‵ (finally u8 (connection .name) c) ∷ []
 
-  exits : (s : CallAnswer) (t : Counters) (h : Handled) (c d e : List ℕ) (z : Val) → Ensured h c d e → t ≡ counted cs (h .added) → s ≡ answerOf h
-      → length c ≡ length (connection .now) → length d ≡ length (registry .now) → length e ≡ length (response .now)
-      → ent 𝓤 (⋆ 𝓤 H A (at-exit s t c d e z)) (Post z)
-  exits s t h c d e z p q u lc ld le =
-      qed W (at-exit s t c d e z) ∵
-      suffices ! _ (ends-at 𝓤 H A f.ended stayed (f.clauses 𝓤 H A at-mem run) W bound z s (tt, (c, (d, (tt, (t, (e, tt))))))
-      (tt, (lc, (ld, (tt, (tt, (le, tt))))))) $
-      says ! (said s (answerOf h) t (counted cs (h .added)) c d e _ _ _ (p .0) q u) $
-      -- the six tokens
+  exits : (s : CallAnswer) (t : Counters) (h : Handled) (c d e j : List ℕ) (z : Val) → Ensured h c d e j → t ≡ counted cs (h .added) → s ≡ answerOf h
+      → length c ≡ length (connection .now) → length d ≡ length (registry .now) → length e ≡ length (response .now) → length j ≡ length (journal .now)
+      → ent 𝓤 (⋆ 𝓤 H A (at-exit s t c d e j z)) (Post z)
+  exits s t h c d e j z p q u lc ld le lj =
+      qed W (at-exit s t c d e j z) ∵
+      suffices ! _ (ends-at 𝓤 H A f.ended stayed (f.clauses 𝓤 H A at-mem run) W bound z s (tt, (c, (d, (tt, (t, (e, (j, tt)))))))
+      (tt, (lc, (ld, (tt, (tt, (le, (lj, tt)))))))) $
+      says ! (said s (answerOf h) t (counted cs (h .added)) c d e j _ _ _ (p .0) q u) $
+      -- the seven tokens
       move ! (3 ∷ []) $ split ! $ move ! (1 ∷ []) $ split ! $ move ! (1 ∷ []) $ split ! $ move ! (1 ∷ []) $ split ! $ move ! (6 ∷ []) $ split ! $
       move ! (0 ∷ 3 ∷ []) $ join ! $ move ! (2 ∷ 0 ∷ []) $ join ! $ move ! (2 ∷ 0 ∷ []) $ join ! $ move ! (2 ∷ 0 ∷ []) $ join ! $
       move ! (2 ∷ 0 ∷ []) $ join ! $ frame ! $
       -- what is had of the parameters, and the result
-      move ! (3 ∷ 0 ∷ []) $ fjoin ! $ move ! (2 ∷ 0 ∷ []) $ fjoin ! $ nothing ! $ fjoin ! $ move ! (2 ∷ 0 ∷ []) $ fjoin ! $ move ! (2 ∷ 0 ∷ []) $ fjoin ! $
+      move ! (3 ∷ 0 ∷ []) $ fjoin ! $ move ! (3 ∷ 0 ∷ []) $ fjoin ! $ move ! (2 ∷ 0 ∷ []) $ fjoin ! $ nothing ! $ fjoin ! $ move ! (2 ∷ 0 ∷ []) $ fjoin ! $ move ! (2 ∷ 0 ∷ []) $ fjoin ! $
       nothing ! $ fjoin ! $ done !
 
   module _ (C : Calls 𝓤 H) (Λ : Loops 𝓤 H) (fm : FmC 𝓤 H (W .laws) C) (known : Triple 𝓤 (C #handle) (Handle 𝓤 H A at-mem run))
       (known-d : Triple 𝓤 (C #added-of) (AddedOf 𝓤 H A at-mem run)) (known-c : Triple 𝓤 (C #count) (Count 𝓤 H A at-mem run)) (known-a : Triple 𝓤 (C #answer-of) (AnswerOf 𝓤 H A at-mem run)) where
     walk : Is (ShrSlice (named 0) κ₀ u8) chunk (sv chunk ∷ []) → Is (MutSlice (named 1) κ₁ u8) connection (sv connection ∷ [])
         → Is (MutSlice (named 2) κ₂ u8) registry (sv registry ∷ []) → Is (ShrSlice (named 3) κ₃ u8) list (sv list ∷ [])
-        → Is (MutSlice (named 5) κ₅ u8) response (sv response ∷ [])
-        → ent 𝓤 (onEntry 𝓤 H A f.signature κs qs x at) (WpFn 𝓤 H C Λ code.function (sv chunk ∷ sv connection ∷ sv registry ∷ sv list ∷ vptr b o ∷ sv response
+        → Is (MutSlice (named 5) κ₅ u8) response (sv response ∷ []) → Is (MutSlice (named 6) κ₆ u8) journal (sv journal ∷ [])
+        → ent 𝓤 (onEntry 𝓤 H A f.signature κs qs x at) (WpFn 𝓤 H C Λ code.function (sv chunk ∷ sv connection ∷ sv registry ∷ sv list ∷ vptr b o ∷ sv response ∷ sv journal
         ∷ []) Post)
-    walk is-chunk is-connection is-registry is-list is-response =
-        qed W ((‵ (flft κ₀ q₀) ⊛ ‵ (flft κ₁ q₁) ⊛ ‵ (flft κ₂ q₂) ⊛ ‵ (flft κ₃ q₃) ⊛ ‵ (flft κ₄ q₄) ⊛ ‵ (flft κ₅ q₅) ⊛ ‵ ftrue) ∷ ‵ (owns (ShrSlice (named 0) κ₀ u8
-        ∷ MutSlice (named 1) κ₁ u8 ∷ MutSlice (named 2) κ₂ u8 ∷ ShrSlice (named 3) κ₃ u8 ∷ MutRef (named 4) κ₄ T.the-row ∷ MutSlice (named 5) κ₅ u8 ∷ []) x at) ∷ []) ∵
-        enter ! C Λ code.function (sv chunk ∷ sv connection ∷ sv registry ∷ sv list ∷ vptr b o ∷ sv response ∷ []) _ $
+    walk is-chunk is-connection is-registry is-list is-response is-journal =
+        qed W ((‵ (flft κ₀ q₀) ⊛ ‵ (flft κ₁ q₁) ⊛ ‵ (flft κ₂ q₂) ⊛ ‵ (flft κ₃ q₃) ⊛ ‵ (flft κ₄ q₄) ⊛ ‵ (flft κ₅ q₅) ⊛ ‵ (flft κ₆ q₆) ⊛ ‵ ftrue) ∷ ‵ (owns (ShrSlice (named 0) κ₀ u8
+        ∷ MutSlice (named 1) κ₁ u8 ∷ MutSlice (named 2) κ₂ u8 ∷ ShrSlice (named 3) κ₃ u8 ∷ MutRef (named 4) κ₄ T.the-row ∷ MutSlice (named 5) κ₅ u8 ∷ MutSlice (named 6) κ₆ u8 ∷ []) x at) ∷ []) ∵
+        enter ! C Λ code.function (sv chunk ∷ sv connection ∷ sv registry ∷ sv list ∷ vptr b o ∷ sv response ∷ sv journal ∷ []) _ $
         alloc1 ! (λ l₀. alloc1 ! (λ l₁. alloc1 ! (λ l₂. alloc1 ! (λ l₃. alloc1 ! (λ l₄. alloc1 ! (λ l₅. alloc1 ! (λ l₆. alloc1 ! (λ l₇. alloc1 !
-        (λ l₈. alloc1 ! (λ l₉. alloc1 ! (λ l₁₀. alloc1 ! (λ l₁₁. alloc1 ! (λ l₁₂. alloc1 ! (λ l₁₃. alloc1 ! (λ l₁₄. alloc1 ! (λ l₁₅. alloc1 ! (λ l₁₆. alloc1 ! (λ l₁₇. alloc0 ! $
+        (λ l₈. alloc1 ! (λ l₉. alloc1 ! (λ l₁₀. alloc1 ! (λ l₁₁. alloc1 ! (λ l₁₂. alloc1 ! (λ l₁₃. alloc1 ! (λ l₁₄. alloc1 ! (λ l₁₅. alloc1 ! (λ l₁₆. alloc1 ! (λ l₁₇. alloc1 ! (λ l₁₈. alloc1 ! (λ l₁₉. alloc1 ! (λ l₂₀. alloc0 ! $
         params1 ! $
-        pass1 ! (init ! 32 refl (shr-slice-lawful 𝓤 H A W (named 0) κ₀ u8 .typed chunk _ is-chunk .0)) $
-        pass1 ! (init ! 30 refl (mut-slice-lawful 𝓤 H A W (named 1) κ₁ u8 .typed connection _ is-connection .0)) $
-        pass1 ! (init ! 28 refl (mut-slice-lawful 𝓤 H A W (named 2) κ₂ u8 .typed registry _ is-registry .0)) $
-        pass1 ! (init ! 26 refl (shr-slice-lawful 𝓤 H A W (named 3) κ₃ u8 .typed list _ is-list .0)) $
-        pass1 ! (init ! 24 refl (tt, tt)) $ pass1 ! (init ! 22 refl (mut-slice-lawful 𝓤 H A W (named 5) κ₅ u8 .typed response _ is-response .0)) $
+        pass1 ! (init ! 38 refl (shr-slice-lawful 𝓤 H A W (named 0) κ₀ u8 .typed chunk _ is-chunk .0)) $
+        pass1 ! (init ! 36 refl (mut-slice-lawful 𝓤 H A W (named 1) κ₁ u8 .typed connection _ is-connection .0)) $
+        pass1 ! (init ! 34 refl (mut-slice-lawful 𝓤 H A W (named 2) κ₂ u8 .typed registry _ is-registry .0)) $
+        pass1 ! (init ! 32 refl (shr-slice-lawful 𝓤 H A W (named 3) κ₃ u8 .typed list _ is-list .0)) $
+        pass1 ! (init ! 30 refl (tt, tt)) $ pass1 ! (init ! 28 refl (mut-slice-lawful 𝓤 H A W (named 5) κ₅ u8 .typed response _ is-response .0)) $
+        pass1 ! (init ! 26 refl (mut-slice-lawful 𝓤 H A W (named 6) κ₆ u8 .typed journal _ is-journal .0)) $
         pass0 ! $
         -- what the parameters own is taken apart, and the tokens
-        move ! (37 ∷ []) $ fsplit ! $ move ! (1 ∷ []) $ fsplit ! $ move ! (1 ∷ []) $ fsplit ! $ move ! (1 ∷ []) $ fsplit ! $ move ! (1 ∷ []) $
-        fsplit ! $ move ! (1 ∷ []) $ fsplit ! $ move ! (2 ∷ []) $ fsplit3 ! $ drop ! $
-        move ! (44 ∷ []) $ split ! $ move ! (1 ∷ []) $ split ! $ move ! (1 ∷ []) $ split ! $ move ! (1 ∷ []) $ split ! $ move ! (1 ∷ []) $ split ! $
-        move ! (1 ∷ []) $ split ! $ move ! (7 ∷ 8 ∷ 2 ∷ []) $ opens ! tt T.the-row {h = cs} b o (λ vs. spelt ! T.the-row (Is T.the-row) (shows 𝓤 H A T.the-row)
+        move ! (43 ∷ []) $ fsplit ! $ move ! (1 ∷ []) $ fsplit ! $ move ! (1 ∷ []) $ fsplit ! $ move ! (1 ∷ []) $ fsplit ! $ move ! (1 ∷ []) $
+        fsplit ! $ move ! (1 ∷ []) $ fsplit ! $ move ! (1 ∷ []) $ fsplit ! $ move ! (3 ∷ []) $ fsplit3 ! $ drop ! $
+        move ! (51 ∷ []) $ split ! $ move ! (1 ∷ []) $ split ! $ move ! (1 ∷ []) $ split ! $ move ! (1 ∷ []) $ split ! $ move ! (1 ∷ []) $ split ! $ move ! (1 ∷ []) $ split ! $
+        move ! (1 ∷ []) $ split ! $ move ! (8 ∷ 9 ∷ 3 ∷ []) $ opens ! tt T.the-row {h = cs} b o (λ vs. spelt ! T.the-row (Is T.the-row) (shows 𝓤 H A T.the-row)
         (LL.vals T.the-type T′.the-laws) (LL.tells T.the-type T′.the-laws) fullShare cs vs b o $
         move ! (1 ∷ []) $ peeks ! T.the-row (Is T.the-row) (shows 𝓤 H A T.the-row) cs (v ∷ []) (λ was. move ! (1 ∷ 0 ∷ []) $
-        -- [the counters' cell; what they own; the open borrow; obs; auth; token 5; true; token 3; token 2; token 1; token 0; response; true; list; registry; connection; chunk; _17; …; _16; …; …]
-        assigns ! (addr ! (from ! (fld ! refl (hop ! (look-in ! 47 (sub ! 0 refl (whole !))) (stop !))))) (from ! (stop !)) (init ! 35 refl
+        -- [the counters' cell; what they own; the open borrow; obs; auth; token 6; true; token 5; token 3; token 2; token 1; token 0; journal; true; response; list; registry; connection; chunk; _20; …; _19; …; …]
+        assigns ! (addr ! (from ! (fld ! refl (hop ! (look-in ! 55 (sub ! 0 refl (whole !))) (stop !))))) (from ! (stop !)) (init ! 41 refl
         (tt, tt)) $
-        assigns ! (agg ! (and-then ! (load ! (from ! (stop !)) (look ! 35 refl)) (and-then ! (load ! (from ! (fld ! refl (stop !))) (look-in ! 47
-        (sub ! 1 refl (whole !)))) (no-more !)))) (from ! (stop !)) (init ! 33 refl
+        assigns ! (agg ! (and-then ! (load ! (from ! (stop !)) (look ! 41 refl)) (and-then ! (load ! (from ! (fld ! refl (stop !))) (look-in ! 55
+        (sub ! 1 refl (whole !)))) (no-more !)))) (from ! (stop !)) (init ! 39 refl
         (mut-slice-lawful 𝓤 H A W erased κ₁ u8 .typed connection _ is-connection .0)) $
-        assigns ! (addr ! (from ! (fld ! refl (hop ! (look-in ! 45 (sub ! 0 refl (whole !))) (stop !))))) (from ! (stop !)) (init ! 31 refl
+        assigns ! (addr ! (from ! (fld ! refl (hop ! (look-in ! 53 (sub ! 0 refl (whole !))) (stop !))))) (from ! (stop !)) (init ! 37 refl
         (tt, tt)) $
-        assigns ! (agg ! (and-then ! (load ! (from ! (stop !)) (look ! 31 refl)) (and-then ! (load ! (from ! (fld ! refl (stop !))) (look-in ! 45
-        (sub ! 1 refl (whole !)))) (no-more !)))) (from ! (stop !)) (init ! 29 refl
+        assigns ! (agg ! (and-then ! (load ! (from ! (stop !)) (look ! 37 refl)) (and-then ! (load ! (from ! (fld ! refl (stop !))) (look-in ! 53
+        (sub ! 1 refl (whole !)))) (no-more !)))) (from ! (stop !)) (init ! 35 refl
         (mut-slice-lawful 𝓤 H A W erased κ₂ u8 .typed registry _ is-registry .0)) $
-        assigns ! (of-opd ! (load ! (from ! (hop ! (look ! 41 refl) (stop !))) (look-raw ! 0 refl))) (from ! (stop !)) (init ! 27 refl
+        assigns ! (of-opd ! (load ! (from ! (hop ! (look ! 49 refl) (stop !))) (look-raw ! 0 refl))) (from ! (stop !)) (init ! 33 refl
         (LL.lawful T.the-type T′.the-laws 𝓤 H A W .typed cs _ was .0)) $
-        assigns ! (addr ! (from ! (fld ! refl (hop ! (look-in ! 39 (sub ! 0 refl (whole !))) (stop !))))) (from ! (stop !)) (init ! 25 refl
+        assigns ! (addr ! (from ! (fld ! refl (hop ! (look-in ! 47 (sub ! 0 refl (whole !))) (stop !))))) (from ! (stop !)) (init ! 31 refl
         (tt, tt)) $
-        assigns ! (agg ! (and-then ! (load ! (from ! (stop !)) (look ! 25 refl)) (and-then ! (load ! (from ! (fld ! refl (stop !))) (look-in ! 39
-        (sub ! 1 refl (whole !)))) (no-more !)))) (from ! (stop !)) (init ! 23 refl
+        assigns ! (agg ! (and-then ! (load ! (from ! (stop !)) (look ! 31 refl)) (and-then ! (load ! (from ! (fld ! refl (stop !))) (look-in ! 47
+        (sub ! 1 refl (whole !)))) (no-more !)))) (from ! (stop !)) (init ! 29 refl
         (mut-slice-lawful 𝓤 H A W erased κ₅ u8 .typed response _ is-response .0)) $
+        assigns ! (addr ! (from ! (fld ! refl (hop ! (look-in ! 45 (sub ! 0 refl (whole !))) (stop !))))) (from ! (stop !)) (init ! 27 refl
+        (tt, tt)) $
+        assigns ! (agg ! (and-then ! (load ! (from ! (stop !)) (look ! 27 refl)) (and-then ! (load ! (from ! (fld ! refl (stop !))) (look-in ! 45
+        (sub ! 1 refl (whole !)))) (no-more !)))) (from ! (stop !)) (init ! 25 refl
+        (mut-slice-lawful 𝓤 H A W erased κ₆ u8 .typed journal _ is-journal .0)) $
         closes ! tt T.the-row cs (v ∷ []) b o $ owned ! T.the-row (Is T.the-row) (LL.makes T.the-type T′.the-plain 𝓤 H A) cs _ was $
-        -- [what the copy owns; obs; the borrow; token 4; token 5; true; token 3; token 2; token 1; token 0; response; true; list; registry; connection; chunk; _17; …]
+        -- [what the copy owns; obs; the borrow; token 4; token 6; true; token 5; token 3; token 2; token 1; token 0; journal; true; response; list; registry; connection; chunk; _20; …]
         move ! (4 ∷ 5 ∷ []) $ join ! $ move ! (5 ∷ 0 ∷ []) $ join ! $ move ! (5 ∷ 0 ∷ []) $ join ! $ move ! (5 ∷ 0 ∷ []) $ join ! $
-        move ! (5 ∷ 0 ∷ []) $ join ! $ move ! (5 ∷ 6 ∷ []) $ fjoin ! $ move ! (2 ∷ 0 ∷ []) $ fjoin ! $ move ! (5 ∷ 0 ∷ []) $ fjoin ! $
+        move ! (5 ∷ 0 ∷ []) $ join ! $ move ! (5 ∷ 0 ∷ []) $ join ! $ move ! (5 ∷ 6 ∷ []) $ fjoin ! $ move ! (6 ∷ 0 ∷ []) $ fjoin ! $ move ! (2 ∷ 0 ∷ []) $ fjoin ! $ move ! (5 ∷ 0 ∷ []) $ fjoin ! $
         move ! (5 ∷ 0 ∷ []) $ fjoin ! $ move ! (5 ∷ 0 ∷ []) $ fjoin ! $ move ! (5 ∷ 0 ∷ []) $ fjoin ! $ move ! (1 ∷ 0 ∷ []) $
         use2 W (raw (Handle 𝓤 H A at-mem run .pre to-handle)) goes-handle $
-        -- [what `handle` asks; obs; the borrow; token 4; _17; …]
-        calls-at ! fm (Handle 𝓤 H A at-mem run) known to-handle (and-then ! (load ! (from ! (stop !)) (look ! 36 refl)) (and-then ! (load !
-        (from ! (stop !)) (look ! 20 refl)) (and-then ! (load ! (from ! (stop !)) (look ! 16 refl)) (and-then ! (load ! (from ! (stop !))
-        (look ! 30 refl)) (and-then ! (load ! (from ! (stop !)) (look ! 14 refl)) (and-then ! (load ! (from ! (stop !)) (look ! 10 refl)) (no-more !))))))) (λ w.
+        -- [what `handle` asks; obs; the borrow; token 4; _20; …]
+        calls-at ! fm (Handle 𝓤 H A at-mem run) known to-handle (and-then ! (load ! (from ! (stop !)) (look ! 42 refl)) (and-then ! (load !
+        (from ! (stop !)) (look ! 24 refl)) (and-then ! (load ! (from ! (stop !)) (look ! 20 refl)) (and-then ! (load ! (from ! (stop !))
+        (look ! 36 refl)) (and-then ! (load ! (from ! (stop !)) (look ! 18 refl)) (and-then ! (load ! (from ! (stop !)) (look ! 14 refl)) (and-then ! (load ! (from ! (stop !)) (look ! 10 refl)) (no-more !)))))))) (λ w.
         use1 W (later (some (λ (h : Handled). (tokens ⊛ ‵ (D.the-row .own h (w
-        ∷ []))) ⊛ raw (ensured 𝓤 H A g.ended (g.clauses 𝓤 H A at-mem run) κs₅ y tt h)))) (id⊢ 𝓤 _) $ await ! tt $ pick ! (λ h.
-        split ! $ move ! (1 ∷ []) $ use1 W (some (λ (zs : Unit {0} × (List ℕ × (List ℕ × (Unit {0} × (Unit {0} × (List ℕ × Unit {0})))))). ‵
-        (lasts g.ended κs₅ y zs) ⊛ raw (fact 𝓤 (Ensured h (zs .1 .0) (zs .1 .1 .0) (zs .1 .1 .1 .1 .1 .0))))) (id⊢ 𝓤 _) $ pick ! (λ zs.
-        split ! $ move ! (1 ∷ []) $ heard ! (Ensured h (zs .1 .0) (zs .1 .1 .0) (zs .1 .1 .1 .1 .1 .0)) (λ e.
+        ∷ []))) ⊛ raw (ensured 𝓤 H A g.ended (g.clauses 𝓤 H A at-mem run) κs₆ y tt h)))) (id⊢ 𝓤 _) $ await ! tt $ pick ! (λ h.
+        split ! $ move ! (1 ∷ []) $ use1 W (some (λ (zs : Unit {0} × (List ℕ × (List ℕ × (Unit {0} × (Unit {0} × (List ℕ × (List ℕ × Unit {0}))))))). ‵
+        (lasts g.ended κs₆ y zs) ⊛ raw (fact 𝓤 (Ensured h (zs .1 .0) (zs .1 .1 .0) (zs .1 .1 .1 .1 .1 .0) (zs .1 .1 .1 .1 .1 .1 .0))))) (id⊢ 𝓤 _) $ pick ! (λ zs.
+        split ! $ move ! (1 ∷ []) $ heard ! (Ensured h (zs .1 .0) (zs .1 .1 .0) (zs .1 .1 .1 .1 .1 .0) (zs .1 .1 .1 .1 .1 .1 .0)) (λ e.
         -- the last lists
         fsplit ! $ drop ! $ fsplit ! $ fsplit ! $ move ! (1 ∷ []) $ feqL ! (λ lc. move ! (1 ∷ []) $ fsplit ! $ fsplit ! $ move ! (1 ∷ []) $
-        feqL ! (λ ld. move ! (1 ∷ []) $ fsplit ! $ drop ! $ fsplit ! $ drop ! $ fsplit ! $ fsplit ! $ move ! (1 ∷ []) $ feqL ! (λ le. move ! (1 ∷ []) $ drop ! $
-        move ! (3 ∷ []) $ split ! $ move ! (1 ∷ []) $
-        -- [what is handled; the tokens of `handle`; response's last list; registry's; connection's; obs; the borrow; token 4; _17; …]
+        feqL ! (λ ld. move ! (1 ∷ []) $ fsplit ! $ drop ! $ fsplit ! $ drop ! $ fsplit ! $ fsplit ! $ move ! (1 ∷ []) $ feqL ! (λ le. move ! (1 ∷ []) $
+        fsplit ! $ fsplit ! $ move ! (1 ∷ []) $ feqL ! (λ lj. move ! (1 ∷ []) $ drop ! $
+        move ! (4 ∷ []) $ split ! $ move ! (1 ∷ []) $
+        -- [what is handled; the tokens of `handle`; journal's last list; response's; registry's; connection's; obs; the borrow; token 4; _20; …]
         peeks ! D.the-row (Is D.the-row) (shows 𝓤 H A D.the-row) h (w ∷ []) (λ is.
-        land ! (from ! (stop !)) (init ! 28 refl (LL.lawful D.the-type D′.the-laws 𝓤 H A W .typed h _ is .0)) $
-        assigns ! (addr ! (from ! (hop ! (look ! 32 refl) (stop !)))) (from ! (stop !)) (init ! 10 refl (tt, tt)) $
+        land ! (from ! (stop !)) (init ! 33 refl (LL.lawful D.the-type D′.the-laws 𝓤 H A W .typed h _ is .0)) $
+        assigns ! (addr ! (from ! (hop ! (look ! 39 refl) (stop !)))) (from ! (stop !)) (init ! 11 refl (tt, tt)) $
         -- what `added_of` asks
         use1 W (raw (AddedOf 𝓤 H A at-mem run .pre (to-added h w))) (goes-added h w) $
-        calls-at ! fm (AddedOf 𝓤 H A at-mem run) known-d (to-added h w) (and-then ! (load ! (from ! (stop !)) (look ! 28 refl)) (no-more !)) (λ y₀.
+        calls-at ! fm (AddedOf 𝓤 H A at-mem run) known-d (to-added h w) (and-then ! (load ! (from ! (stop !)) (look ! 33 refl)) (no-more !)) (λ y₀.
         use1 W (later (some (λ (x₀ : Increments). (‵ ftrue ⊛ ‵ (I.the-row .own x₀ (y₀
         ∷ []))) ⊛ raw (ensured 𝓤 H A added-of.ended (added-of.clauses 𝓤 H A at-mem run) tt (h, tt) tt x₀)))) (id⊢ 𝓤 _) $ await ! tt $ pick ! (λ x₀.
         split ! $ move ! (1 ∷ []) $ use1 W (raw (fact 𝓤 (x₀ ≡ h .added))) (added-said 𝓤 H A at-mem run h x₀) $
         heard ! (x₀ ≡ h .added) (λ e₀. split ! $ drop ! $
-        -- [what is added; the tokens of `handle`; response's last list; registry's; connection's; obs; the borrow; token 4; _17; …]
+        -- [what is added; the tokens of `handle`; journal's last list; response's; registry's; connection's; obs; the borrow; token 4; _20; …]
         peeks ! I.the-row (Is I.the-row) (shows 𝓤 H A I.the-row) x₀ (y₀ ∷ []) (λ is₀.
-        land ! (from ! (stop !)) (init ! 8 refl (LL.lawful I.the-type I′.the-laws 𝓤 H A W .typed x₀ _ is₀ .0)) $
+        land ! (from ! (stop !)) (init ! 9 refl (LL.lawful I.the-type I′.the-laws 𝓤 H A W .typed x₀ _ is₀ .0)) $
         -- what `count` asks
-        nothing ! $ move ! (1 ∷ 0 ∷ []) $ fjoin ! $ move ! (5 ∷ 6 ∷ 0 ∷ []) $ feqI ! (List Val) (vptr b o ∷ []) (vptr b o ∷ []) refl $ fjoin3 ! $
-        fjoin ! $ nothing ! $ move ! (6 ∷ 0 ∷ []) $ join ! $
+        nothing ! $ move ! (1 ∷ 0 ∷ []) $ fjoin ! $ move ! (6 ∷ 7 ∷ 0 ∷ []) $ feqI ! (List Val) (vptr b o ∷ []) (vptr b o ∷ []) refl $ fjoin3 ! $
+        fjoin ! $ nothing ! $ move ! (7 ∷ 0 ∷ []) $ join ! $
         use2 W (raw (Count 𝓤 H A at-mem run .pre (to-count x₀ y₀))) (goes-count x₀ y₀ (subst (λ (z₀ : Increments). Fits cs z₀) (sym e₀) (e .1))) $
-        -- [what `count` asks; the tokens of `handle`; response's last list; registry's; connection's; _17; …]
-        calls-at ! fm (Count 𝓤 H A at-mem run) known-c (to-count x₀ y₀) (and-then ! (load ! (from ! (stop !)) (look ! 7 refl)) (and-then ! (load !
-        (from ! (stop !)) (look ! 5 refl)) (no-more !))) (λ u.
+        -- [what `count` asks; the tokens of `handle`; journal's last list; response's; registry's; connection's; _20; …]
+        calls-at ! fm (Count 𝓤 H A at-mem run) known-c (to-count x₀ y₀) (and-then ! (load ! (from ! (stop !)) (look ! 8 refl)) (and-then ! (load !
+        (from ! (stop !)) (look ! 6 refl)) (no-more !))) (λ u.
         use1 W (later (some (λ (n : Unit {0}). (token ⊛ ‵ (unit .own n (u
         ∷ []))) ⊛ raw (ensured 𝓤 H A count-of.ended (count-of.clauses 𝓤 H A at-mem run) (κ₄, tt) (counters, (x₀, tt)) tt n)))) (id⊢ 𝓤 _) $ await ! tt $
         pick ! (λ n.
@@ -320,44 +327,39 @@ module _ {M : Type 1} (𝓤 : URA M) (H : Heap 𝓤) (A : Atoms 𝓤) (W : Given
         (lasts count-of.ended (κ₄, tt) (counters, (x₀, tt)) ts) ⊛ raw (fact 𝓤 (ts .0 ≡ counted cs x₀)))) (id⊢ 𝓤 _) $ pick ! (λ ts.
         split ! $ move ! (1 ∷ []) $ heard ! (ts .0 ≡ counted cs x₀) (λ e₁. fsplit ! $ move ! (1 ∷ []) $ drop ! $
         move ! (1 ∷ []) $ split ! $ move ! (1 ∷ []) $ feqL ! (λ eu.
-        -- [the token of `count`; the last counters; the tokens of `handle`; response's last list; registry's; connection's; _17; …]
-        land ! (from ! (stop !)) (init ! 10 refl (subst (λ (i : Val). Holds (hasTy tyUnit i) × WT i) (sym (ap only eu)) (tt, tt))) $
+        -- [the token of `count`; the last counters; the tokens of `handle`; journal's last list; response's; registry's; connection's; _20; …]
+        land ! (from ! (stop !)) (init ! 11 refl (subst (λ (i : Val). Holds (hasTy tyUnit i) × WT i) (sym (ap only eu)) (tt, tt))) $
         owned ! D.the-row (Is D.the-row) (LL.makes D.the-type D′.the-plain 𝓤 H A) h _ is $
         use1 W (raw (AnswerOf 𝓤 H A at-mem run .pre (to-answer h w))) (goes-answer h w) $
-        calls-at ! fm (AnswerOf 𝓤 H A at-mem run) known-a (to-answer h w) (and-then ! (load ! (from ! (stop !)) (look ! 27 refl)) (no-more !)) (λ z.
+        calls-at ! fm (AnswerOf 𝓤 H A at-mem run) known-a (to-answer h w) (and-then ! (load ! (from ! (stop !)) (look ! 32 refl)) (no-more !)) (λ z.
         use1 W (later (some (λ (s : CallAnswer). (‵ ftrue ⊛ ‵ (N.the-row .own s (z
         ∷ []))) ⊛ raw (ensured 𝓤 H A answer-of.ended (answer-of.clauses 𝓤 H A at-mem run) tt (h, tt) tt s)))) (id⊢ 𝓤 _) $ await ! tt $ pick ! (λ s.
         split ! $ move ! (1 ∷ []) $ use1 W (raw (fact 𝓤 (s ≡ answerOf h))) (answer-said 𝓤 H A at-mem run h s) $
         heard ! (s ≡ answerOf h) (λ e₂. split ! $ drop ! $
-        -- [what the call says; the token of `count`; the last counters; the tokens of `handle`; response's last list; registry's; connection's; _17; …]
+        -- [what the call says; the token of `count`; the last counters; the tokens of `handle`; journal's last list; response's; registry's; connection's; _20; …]
         peeks ! N.the-row (Is N.the-row) (shows 𝓤 H A N.the-row) s (z ∷ []) (λ is₁.
-        land ! (from ! (stop !)) (init ! 41 refl (LL.lawful N.the-type N′.the-laws 𝓤 H A W .typed s _ is₁ .0)) $
-        returns ! (look ! 41 refl) $ forget ! 7 refl $ forget ! 9 refl $ forget ! 11 refl $ forget ! 13 refl $ forget ! 15 refl $ forget ! 17 refl $
-        forget ! 19 refl $ forget ! 21 refl $ forget ! 23 refl $ forget ! 25 refl $ forget ! 27 refl $ forget ! 29 refl $ forget ! 31 refl $
-        forget ! 33 refl $ forget ! 35 refl $ forget ! 37 refl $ forget ! 39 refl $ forget ! 41 refl $
-        move ! (41 ∷ 42 ∷ []) $ free1 ! $ move ! (39 ∷ 40 ∷ []) $ free1 ! $ move ! (37 ∷ 38 ∷ []) $ free1 ! $ move ! (35 ∷ 36 ∷ []) $ free1 ! $ move ! (33 ∷ 34 ∷ []) $ free1 ! $ move ! (31 ∷ 32 ∷ []) $ free1 ! $
-        move ! (29 ∷ 30 ∷ []) $ free1 ! $ move ! (27 ∷ 28 ∷ []) $ free1 ! $ move ! (25 ∷ 26 ∷ []) $ free1 ! $ move ! (23 ∷ 24 ∷ []) $ free1 ! $
-        move ! (21 ∷ 22 ∷ []) $ free1 ! $ move ! (19 ∷ 20 ∷ []) $ free1 ! $ move ! (17 ∷ 18 ∷ []) $ free1 ! $ move ! (15 ∷ 16 ∷ []) $ free1 ! $
-        move ! (13 ∷ 14 ∷ []) $ free1 ! $ move ! (11 ∷ 12 ∷ []) $ free1 ! $ move ! (9 ∷ 10 ∷ []) $ free1 ! $ move ! (7 ∷ 8 ∷ []) $ free1 ! $
+        land ! (from ! (stop !)) (init ! 48 refl (LL.lawful N.the-type N′.the-laws 𝓤 H A W .typed s _ is₁ .0)) $
+        returns ! (look ! 48 refl) $ forget ! 8 refl $ forget ! 10 refl $ forget ! 12 refl $ forget ! 14 refl $ forget ! 16 refl $ forget ! 18 refl $ forget ! 20 refl $ forget ! 22 refl $ forget ! 24 refl $ forget ! 26 refl $ forget ! 28 refl $ forget ! 30 refl $ forget ! 32 refl $ forget ! 34 refl $ forget ! 36 refl $ forget ! 38 refl $ forget ! 40 refl $ forget ! 42 refl $ forget ! 44 refl $ forget ! 46 refl $ forget ! 48 refl $
+        move ! (48 ∷ 49 ∷ []) $ free1 ! $ move ! (46 ∷ 47 ∷ []) $ free1 ! $ move ! (44 ∷ 45 ∷ []) $ free1 ! $ move ! (42 ∷ 43 ∷ []) $ free1 ! $ move ! (40 ∷ 41 ∷ []) $ free1 ! $ move ! (38 ∷ 39 ∷ []) $ free1 ! $ move ! (36 ∷ 37 ∷ []) $ free1 ! $ move ! (34 ∷ 35 ∷ []) $ free1 ! $ move ! (32 ∷ 33 ∷ []) $ free1 ! $ move ! (30 ∷ 31 ∷ []) $ free1 ! $ move ! (28 ∷ 29 ∷ []) $ free1 ! $ move ! (26 ∷ 27 ∷ []) $ free1 ! $ move ! (24 ∷ 25 ∷ []) $ free1 ! $ move ! (22 ∷ 23 ∷ []) $ free1 ! $ move ! (20 ∷ 21 ∷ []) $ free1 ! $ move ! (18 ∷ 19 ∷ []) $ free1 ! $ move ! (16 ∷ 17 ∷ []) $ free1 ! $ move ! (14 ∷ 15 ∷ []) $ free1 ! $ move ! (12 ∷ 13 ∷ []) $ free1 ! $ move ! (10 ∷ 11 ∷ []) $ free1 ! $ move ! (8 ∷ 9 ∷ []) $ free1 ! $
         free0 ! $
-        keep ! (0 ∷ 1 ∷ 2 ∷ 3 ∷ 4 ∷ 5 ∷ 6 ∷ []) $
-        by ! (exits s (ts .0) h (zs .1 .0) (zs .1 .1 .0) (zs .1 .1 .1 .1 .1 .0) z e (e₁ ∙ ap (counted cs) e₀) e₂ lc ld le))))))))))))))))))))))))))))))))))))))))))
+        keep ! (0 ∷ 1 ∷ 2 ∷ 3 ∷ 4 ∷ 5 ∷ 6 ∷ 7 ∷ []) $
+        by ! (exits s (ts .0) h (zs .1 .0) (zs .1 .1 .0) (zs .1 .1 .1 .1 .1 .0) (zs .1 .1 .1 .1 .1 .1 .0) z e (e₁ ∙ ap (counted cs) e₀) e₂ lc ld le lj))))))))))))))))))))))))))))))))))))))))))))))
 
 module _ {M : Type 1} (𝓤 : URA M) (H : Heap 𝓤) (A : Atoms 𝓤) (W : Given 𝓤 H A) (at-mem : Memory → SProp 𝓤) (run : Routine → Fun 𝓤) where
   walks : (C : Calls 𝓤 H) (Λ : Loops 𝓤 H) → FmC 𝓤 H (W .laws) C → Triple 𝓤 (C #handle) (Handle 𝓤 H A at-mem run)
       → Triple 𝓤 (C #added-of) (AddedOf 𝓤 H A at-mem run) → Triple 𝓤 (C #count) (Count 𝓤 H A at-mem run) → Triple 𝓤 (C #answer-of) (AnswerOf 𝓤 H A at-mem run)
       → Walks 𝓤 H A f.ended stayed (WpFn 𝓤 H C Λ code.function) (f.clauses 𝓤 H A at-mem run)
   walks C Λ fm known known-d known-c known-a = walked 𝓤 H A f.ended stayed (f.clauses 𝓤 H A at-mem run) (WpFn 𝓤 H C Λ code.function) (λ κs.
-      (slice-vals, (slice-vals, (slice-vals, (slice-vals, (ptr-vals, (slice-vals, tt)))))))
-      (λ κs. (shr-slice-tells (named 0) (κs .0) u8, (mut-slice-tells (named 1) (κs .1 .0) u8, (mut-slice-tells (named 2) (κs .1 .1 .0) u8, (shr-slice-tells (named 3) (κs .1 .1 .1 .0) u8, (mut-tells (named 4) (κs .1 .1 .1 .1 .0) T.the-row, (mut-slice-tells (named 5) (κs .1 .1 .1 .1 .1 .0) u8, tt)))))))
+      (slice-vals, (slice-vals, (slice-vals, (slice-vals, (ptr-vals, (slice-vals, (slice-vals, tt))))))))
+      (λ κs. (shr-slice-tells (named 0) (κs .0) u8, (mut-slice-tells (named 1) (κs .1 .0) u8, (mut-slice-tells (named 2) (κs .1 .1 .0) u8, (shr-slice-tells (named 3) (κs .1 .1 .1 .0) u8, (mut-tells (named 4) (κs .1 .1 .1 .1 .0) T.the-row, (mut-slice-tells (named 5) (κs .1 .1 .1 .1 .1 .0) u8, (mut-slice-tells (named 6) (κs .1 .1 .1 .1 .1 .1 .0) u8, tt))))))))
       (λ κs qs bounds a _ are. via 𝓤 _ (fst∗ 𝓤 _ (emp 𝓤)) (walk 𝓤 H A W at-mem run (κs .0) (κs .1 .0) (κs .1 .1 .0) (κs .1 .1 .1 .0)
-      (κs .1 .1 .1 .1 .0) (κs .1 .1 .1 .1 .1 .0) (qs .0) (qs .1 .0) (qs .1 .1 .0) (qs .1 .1 .1 .0) (qs .1 .1 .1 .1 .0) (qs .1 .1 .1 .1 .1 .0)
+      (κs .1 .1 .1 .1 .0) (κs .1 .1 .1 .1 .1 .0) (κs .1 .1 .1 .1 .1 .1 .0) (qs .0) (qs .1 .0) (qs .1 .1 .0) (qs .1 .1 .1 .0) (qs .1 .1 .1 .1 .0) (qs .1 .1 .1 .1 .1 .0) (qs .1 .1 .1 .1 .1 .1 .0)
       (a .0) (a .1 .0) (a .1 .1 .0) (a .1 .1 .1 .0) (a .1 .1 .1 .1 .0 .ptr .0) (a .1 .1 .1 .1 .0 .ptr .1) (a .1 .1 .1 .1 .0 .name)
-      (a .1 .1 .1 .1 .0 .now) (a .1 .1 .1 .1 .1 .0) C Λ fm known known-d known-c known-a (are .0) (are .1 .0) (are .1 .1 .0) (are .1 .1 .1 .0)
-      (are .1 .1 .1 .1 .1 .0)))
+      (a .1 .1 .1 .1 .0 .now) (a .1 .1 .1 .1 .1 .0) (a .1 .1 .1 .1 .1 .1 .0) C Λ fm known known-d known-c known-a (are .0) (are .1 .0) (are .1 .1 .0) (are .1 .1 .1 .0)
+      (are .1 .1 .1 .1 .1 .0) (are .1 .1 .1 .1 .1 .1 .0)))
 
-  goes : AllGo 𝓤 H A W 6 (f.signature .params) (f.ended .kept) stayed
-  goes = (goes-dropped 𝓤 H A W 6 (shrSliceOf (0 ∷ []) tt (plain (λ _. u8))) yes (λ κs x f. refl), (goes-gave-slice 𝓤 H A W 6 1 tt (plain (λ _. u8)), (goes-gave-slice 𝓤 H A W 6 2 tt (plain (λ _. u8)), (goes-dropped 𝓤 H A W 6 (shrSliceOf (3 ∷ []) tt (plain (λ _. u8))) yes (λ κs x f. refl), (goes-gave-ref 𝓤 H A W 6 4 tt (plain (λ _. T.the-row)), (goes-gave-slice 𝓤 H A W 6 5 tt (plain (λ _. u8)), tt))))))
+  goes : AllGo 𝓤 H A W 7 (f.signature .params) (f.ended .kept) stayed
+  goes = (goes-dropped 𝓤 H A W 7 (shrSliceOf (0 ∷ []) tt (plain (λ _. u8))) yes (λ κs x f. refl), (goes-gave-slice 𝓤 H A W 7 1 tt (plain (λ _. u8)), (goes-gave-slice 𝓤 H A W 7 2 tt (plain (λ _. u8)), (goes-dropped 𝓤 H A W 7 (shrSliceOf (3 ∷ []) tt (plain (λ _. u8))) yes (λ κs x f. refl), (goes-gave-ref 𝓤 H A W 7 4 tt (plain (λ _. T.the-row)), (goes-gave-slice 𝓤 H A W 7 5 tt (plain (λ _. u8)), (goes-gave-slice 𝓤 H A W 7 6 tt (plain (λ _. u8)), tt)))))))
 
 meets : {M : Type 1} (𝓤 : URA M) (H : Heap 𝓤) (A : Atoms 𝓤) → Given 𝓤 H A → (at-mem : Memory → SProp 𝓤) (run : Routine → Fun 𝓤) (𝓣 : Tables 𝓤 H)
     → Triple 𝓤 (𝓣 .C #handle) (Handle 𝓤 H A at-mem run) → Triple 𝓤 (𝓣 .C #added-of) (AddedOf 𝓤 H A at-mem run) → Triple 𝓤 (𝓣 .C #count) (Count 𝓤 H A at-mem run)

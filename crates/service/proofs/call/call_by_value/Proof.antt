@@ -18,8 +18,8 @@ added-of-requires c κs = search needs
 
 with-increments-requires : tie.Need-with-increments-requires
 with-increments-requires c κs =
-    let s = c .before .before .before .before .before .before .before .before .before .before .before .before .before .before .before .before in
-    let handle = c .before .before .before .before .before .before .before .handle in
+    let s = c .before .before .before .before .before .before .before .before .before .before .before .before .before .before .before .before .before .before .before .before in
+    let handle = c .before .before .before .before .before .before .before .before .before .handle in
     subst (λ (x : Increments). Fits (s .args .counters) x) (sym (c .added-of .ensures)) (handle .ensures .1)
 
 outcome-of-requires : tie.Need-outcome-of-requires
@@ -34,11 +34,14 @@ same-length-2 c = search needs
 same-length-3 : tie.Need-same-length-3
 same-length-3 c = search needs
 
+same-length-4 : tie.Need-same-length-4
+same-length-4 c = search needs
+
 returns : tie.Need-returns
 returns c =
-    let handle = c .before .before .before .before .before .before .before .before .before .handle in
-    let counters = c .before .before .before .before .before .before .before .before .before .before .before .before .before .before .before .before .before .before .args .counters in
-    ap (λ (x : Outcome). outcomeIn (ranWith (codeNumber (x .code)) (x .taken) (x .written) (lentMemory (handle .last .1 .0) (handle .last .1 .1 .0) (x .counters)) (handle .last .1 .1 .1 .1 .1 .0)))
+    let handle = c .before .before .before .before .before .before .before .before .before .before .before .handle in
+    let counters = c .before .before .before .before .before .before .before .before .before .before .before .before .before .before .before .before .before .before .before .before .before .before .args .counters in
+    ap (λ (x : Outcome). outcomeIn (ranWith (codeNumber (x .code)) (x .taken) (x .written) (x .recorded) (lentMemory (handle .last .1 .0) (handle .last .1 .1 .0) (x .counters)) (handle .last .1 .1 .1 .1 .1 .0) (handle .last .1 .1 .1 .1 .1 .1 .0)))
     (c .outcome-of .ensures
     ∙ ap (λ (x : Counters). outcomeOf (answerOf (handle .result)) x) (c .before .with-increments .ensures ∙ ap (counted counters) (c .before .before .added-of .ensures)))
     ∙ handle .ensures .0
@@ -54,4 +57,5 @@ call-by-value-spec =
     same-length
     same-length-2
     same-length-3
+    same-length-4
     returns)

@@ -60,11 +60,22 @@ returns-6 c =
 returns-7 : tie.Need-returns-7
 unfolding codeFor firstOf refusalTests
 returns-7 c =
-    let counted = c .before .before in
+    let listed = c .before in
+    let counted = listed .before .before in
     let registered = counted .before .before in
     let connected = registered .before .before in
     let sized = connected .before .before in
-    rw (le-ltb _ _ (sized .before .if1 .left), le-ltb _ _ (sized .if2 .left), ← connected .before .is-well-formed .ensures, connected .if3 .left, ← registered .before .is-well-formed2 .ensures, registered .if4 .left, ← counted .before .is-too-high .ensures, counted .if5 .left, ← c .before .is-well-formed3 .ensures, c .if6 .left)
+    rw (le-ltb _ _ (sized .before .if1 .left), le-ltb _ _ (sized .if2 .left), ← connected .before .is-well-formed .ensures, connected .if3 .left, ← registered .before .is-well-formed2 .ensures, registered .if4 .left, ← counted .before .is-too-high .ensures, counted .if5 .left, ← listed .before .is-well-formed3 .ensures, listed .if6 .left, lt-ltb _ _ (c .if7 .taken))
+
+returns-8 : tie.Need-returns-8
+unfolding codeFor firstOf refusalTests
+returns-8 c =
+    let listed = c .before in
+    let counted = listed .before .before in
+    let registered = counted .before .before in
+    let connected = registered .before .before in
+    let sized = connected .before .before in
+    rw (le-ltb _ _ (sized .before .if1 .left), le-ltb _ _ (sized .if2 .left), ← connected .before .is-well-formed .ensures, connected .if3 .left, ← registered .before .is-well-formed2 .ensures, registered .if4 .left, ← counted .before .is-too-high .ensures, counted .if5 .left, ← listed .before .is-well-formed3 .ensures, listed .if6 .left, le-ltb _ _ (c .if7 .left))
 
 pub judge-call-spec : {M : Type 1} → statement M
 judge-call-spec =
@@ -80,4 +91,5 @@ judge-call-spec =
     returns-5
     is-well-formed-requires-3
     returns-6
-    returns-7)
+    returns-7
+    returns-8)

@@ -19,7 +19,7 @@ use Rattle.connection.proofs.ConnectionLaws.{held-most, size-there}
 use Rattle.connection.proofs.CheckLaws.{well-size}
 use Rattle.connection.proofs.StateLaws.{memory-is, header-few}
 use Rattle.judgement.specs.Counts.{Counts}
-use Rattle.judgement.specs.Judgement.{judgement}
+use Rattle.journal.specs.Journalling.{journalling}
 use Rattle.counters.specs.Counters.{totalsOf}
 use Rattle.counters.specs.declared.Counters.{Counters}
 use Rattle.service.specs.Call.{chunkMost}
@@ -33,11 +33,11 @@ nothing = next-unfinished [] (short (omega arith))
 
 -- a whole request, read where it lies
 fresh-whole : (list k registry : List ℕ) (c : Counters) (chunk : List ℕ) (n : ℕ) → connectionOf k ≡ opened [] → next chunk ≡ whole n
-    → (let s = stateWith (connectionOf k) registry c in callRule (reader (judgement list)) s chunk ≡ answering s n n (judge (judgement list) registry (totalsOf c .counts) (take n chunk)) (opened []))
+    → (let s = stateWith (connectionOf k) registry c in callRule (reader (journalling list)) s chunk ≡ answering s n n (judge (journalling list) registry (totalsOf c .counts) (take n chunk)) (opened []))
 fresh-whole list k registry c chunk n e w =
     let s : State (List ℕ) Counts = stateWith (connectionOf k) registry c in
-    call-whole (judgement list) s [] chunk e nothing n w
-    ∙ ap (λ (x : ℕ). answering s x n (judge (judgement list) registry (totalsOf c .counts) (take n chunk)) (opened [])) (let z : n - 0 ≡ n = omega arith in z)
+    call-whole (journalling list) s [] chunk e nothing n w
+    ∙ ap (λ (x : ℕ). answering s x n (judge (journalling list) registry (totalsOf c .counts) (take n chunk)) (opened [])) (let z : n - 0 ≡ n = omega arith in z)
 
 -- the header that an open connection holds becomes one to skip
 laid-skipping : (before after header : List ℕ) (toGo : ℕ) → before ≡ connectionBytes (opened header)
@@ -54,7 +54,7 @@ enum-told c = search needs
 
 append-requires : tie.Need-append-requires
 append-requires c κs =
-    let s = c .before .before .before .before .before .before .before .before .before in
+    let s = c .before .before .before .before .before .before .before .before .before .before in
     let begun = frame-unfinished (next (s .args .chunk .now)) (sym (c .before .before .before .read-frame .ensures) ∙ c .before .enum-told .given .1) in
     let few = held-most (s .args .chunk .now) begun in
     (well-size (s .args .connection .now) (s .pre .0 .connection-good), omega arith)
@@ -69,7 +69,7 @@ answer-bad-start-requires : tie.Need-answer-bad-start-requires
 answer-bad-start-requires c κs = search needs
 
 close-requires : tie.Need-close-requires
-close-requires c κs = well-size _ (c .before .before .before .before .before .before .before .before .before .before .before .before .before .pre .0 .connection-good)
+close-requires c κs = well-size _ (c .before .before .before .before .before .before .before .before .before .before .before .before .before .before .pre .0 .connection-good)
 
 finish-requires : tie.Need-finish-requires
 finish-requires c κs = search needs
@@ -79,7 +79,7 @@ enum-known-header c = search needs
 
 slice-aggregate-append : tie.Need-slice-aggregate-append
 slice-aggregate-append c =
-    let chunk : List ℕ = c .before .before .before .before .before .before .before .before .before .before .before .args .chunk .now in
+    let chunk : List ℕ = c .before .before .before .before .before .before .before .before .before .before .before .before .args .chunk .now in
     let f = frame-skipped (next chunk) _ _ (sym (c .before .before .before .before .before .read-frame .ensures) ∙ c .before .before .before .header .given .1) in
     let part = header-part chunk (f .header) _ (f .is) in
     let long = f .long in
@@ -87,7 +87,7 @@ slice-aggregate-append c =
 
 append-requires-2 : tie.Need-append-requires-2
 append-requires-2 c κs =
-    let s = c .before .before .before .before .before .before .before .before .before .before .before in
+    let s = c .before .before .before .before .before .before .before .before .before .before .before .before in
     let chunk : List ℕ = s .args .chunk .now in
     let f = frame-skipped (next chunk) _ _ (sym (c .before .before .before .before .before .read-frame .ensures) ∙ c .before .before .before .header .given .1) in
     let part = header-part chunk (f .header) _ (f .is) in
@@ -98,7 +98,7 @@ append-requires-2 c κs =
 set-skipping-requires : tie.Need-set-skipping-requires
 unfolding connectionBytes
 set-skipping-requires c κs =
-    let s = c .before .before .before .before .before .before .before .before .before .before .before .before .before .before .before in
+    let s = c .before .before .before .before .before .before .before .before .before .before .before .before .before .before .before .before in
     let chunk : List ℕ = s .args .chunk .now in
     let f = frame-skipped (next chunk) _ _ (sym (c .before .before .before .before .before .before .before .before .before .read-frame .ensures) ∙ c .before .before .before .before .before .before .before .header .given .1) in
     let part = header-part chunk (f .header) _ (f .is) in
@@ -116,16 +116,16 @@ enum-known-n c = search needs
 
 slice-aggregate-answer-whole : tie.Need-slice-aggregate-answer-whole
 slice-aggregate-answer-whole c =
-    let chunk : List ℕ = c .before .before .before .before .before .before .before .before .before .before .before .args .chunk .now in
-    let w = whole-part chunk _ (frame-whole (next chunk) _ (sym (c .before .before .before .before .before .read-frame .ensures) ∙ c .before .before .before .n .given .1)) in
+    let chunk : List ℕ = c .before .before .before .before .before .before .before .before .before .before .before .before .before .args .chunk .now in
+    let w = whole-part chunk _ (frame-whole (next chunk) _ (sym (c .before .before .before .before .before .before .read-frame .ensures) ∙ c .before .before .before .before .n .given .1)) in
     sym (length-take-le _ chunk (w .fits))
 
 answer-whole-requires : tie.Need-answer-whole-requires
 answer-whole-requires c κs =
-    let s = c .before .before .before .before .before .before .before .before .before .before .before .before in
+    let s = c .before .before .before .before .before .before .before .before .before .before .before .before .before .before in
     let chunk : List ℕ = s .args .chunk .now in
-    let w = whole-part chunk _ (frame-whole (next chunk) _ (sym (c .before .before .before .before .before .before .read-frame .ensures) ∙ c .before .before .before .before .n .given .1)) in
-    (w .legal, w .long, s .pre .0 .registry-good, s .pre .0 .buffer-good, s .pre .0 .list-good)
+    let w = whole-part chunk _ (frame-whole (next chunk) _ (sym (c .before .before .before .before .before .before .before .read-frame .ensures) ∙ c .before .before .before .before .before .n .given .1)) in
+    (w .legal, w .long, s .pre .0 .registry-good, s .pre .0 .buffer-good, s .pre .0 .list-good, omega (arith, s .pre .0 .journal-good))
 
 finish-requires-2 : tie.Need-finish-requires-2
 finish-requires-2 c κs = search needs
@@ -135,17 +135,18 @@ same-length c = search needs
 
 returns : tie.Need-returns
 returns c =
-    let s = c .before .before .before .before .before .before .before .before .before .before .before .before .before in
+    let s = c .before .before .before .before .before .before .before .before .before .before .before .before .before .before in
     let a = s .args in
     let chunk : List ℕ = a .chunk .now in
     let k : List ℕ = a .connection .now in
     let begun = frame-unfinished (next chunk) (sym (c .before .before .before .before .before .before .before .read-frame .ensures) ∙ c .before .before .before .before .before .enum-told .given .1) in
     λ counters.
-    serves-wait (a .list .now) k (a .registry .now) counters chunk (a .out .now) (length chunk) (opened chunk) (c .before .before .before .append .last .0) (a .out .now) (c .wait .result)
-    (call-unfinished (judgement (a .list .now)) (stateWith (connectionOf k) (a .registry .now) counters) [] chunk (s .pre .1) nothing begun)
+    serves-wait (a .list .now) k (a .registry .now) counters chunk (a .out .now) (a .journal .now) (length chunk) (opened chunk) (c .before .before .before .append .last .0) (a .out .now) (a .journal .now) (c .wait .result)
+    (call-unfinished (journalling (a .list .now)) (stateWith (connectionOf k) (a .registry .now) counters) [] chunk (s .pre .1) nothing begun)
     (s .pre .0 .chunk-good)
     (c .wait .ensures)
     (c .before .before .before .append .ensures [] refl (memory-is k (s .pre .0 .connection-good) (opened []) (s .pre .1)))
+    refl
     refl
 
 same-length-2 : tie.Need-same-length-2
@@ -156,18 +157,18 @@ same-length-3 c = search needs
 
 returns-2 : tie.Need-returns-2
 returns-2 c =
-    let s = c .before .before .before .before .before .before .before .before .before .before .before .before .before .before .before .before .before in
+    let s = c .before .before .before .before .before .before .before .before .before .before .before .before .before .before .before .before .before .before in
     let a = s .args in
     let chunk : List ℕ = a .chunk .now in
     let k : List ℕ = a .connection .now in
     let bad = frame-bad (next chunk) (sym (c .before .before .before .before .before .before .before .before .before .before .before .read-frame .ensures) ∙ c .before .before .before .before .before .before .before .before .before .enum-told2 .given .1) in
     let answer = c .before .before .before .before .before .before .before .answer-bad-start in
     λ counters.
-    serves-answer (a .list .now) k (a .registry .now) counters chunk (a .out .now) (λ x. judgement (a .list .now) .onBadStart (a .registry .now) x) 6 6 closed
-    (c .before .before .before .close .last .0) (a .registry .now) (answer .last .0) (answer .result) (c .finish .result)
+    serves-answer (a .list .now) k (a .registry .now) counters chunk (a .out .now) (a .journal .now) (λ x. journalling (a .list .now) .onBadStart (a .registry .now) x) 6 6 closed
+    (c .before .before .before .close .last .0) (a .registry .now) (answer .last .0) (a .journal .now) (answer .result) (c .finish .result)
     (bad-steady (a .list .now) (a .registry .now))
-    (call-bad (judgement (a .list .now)) (stateWith (connectionOf k) (a .registry .now) counters) [] chunk (s .pre .1) nothing bad)
-    (answer .ensures (a .list .now) (a .registry .now))
+    (call-bad (journalling (a .list .now)) (stateWith (connectionOf k) (a .registry .now) counters) [] chunk (s .pre .1) nothing bad)
+    (answer .ensures (a .list .now) (a .registry .now) (a .journal .now))
     (omega arith)
     (lit< tt)
     (c .finish .ensures)
@@ -178,7 +179,7 @@ same-length-4 c = search needs
 
 returns-3 : tie.Need-returns-3
 returns-3 c =
-    let s = c .before .before .before .before .before .before .before .before .before .before .before .before .before .before .before .before .before .before .before in
+    let s = c .before .before .before .before .before .before .before .before .before .before .before .before .before .before .before .before .before .before .before .before in
     let a = s .args in
     let chunk : List ℕ = a .chunk .now in
     let k : List ℕ = a .connection .now in
@@ -186,11 +187,12 @@ returns-3 c =
     let part : take (c .before .before .before .before .before .before .before .before .before .before .before .header .given .0 .0) chunk ≡ f .header = ap (λ (n : ℕ). take n chunk) (sym (f .long)) ∙ header-part chunk (f .header) _ (f .is) .1 in
     let held = c .before .before .before .before .before .before .before .append2 .ensures [] refl (memory-is k (s .pre .0 .connection-good) (opened []) (s .pre .1)) in
     λ counters.
-    serves-wait (a .list .now) k (a .registry .now) counters chunk (a .out .now) (length chunk) (skipping (f .header) (c .before .before .before .before .before .before .before .before .before .before .before .header .given .0 .1 .0)) (c .before .before .before .set-skipping .last .0) (a .out .now) (c .wait2 .result)
-    (call-large (judgement (a .list .now)) (stateWith (connectionOf k) (a .registry .now) counters) [] chunk (s .pre .1) nothing (f .header) _ (f .is))
+    serves-wait (a .list .now) k (a .registry .now) counters chunk (a .out .now) (a .journal .now) (length chunk) (skipping (f .header) (c .before .before .before .before .before .before .before .before .before .before .before .header .given .0 .1 .0)) (c .before .before .before .set-skipping .last .0) (a .out .now) (a .journal .now) (c .wait2 .result)
+    (call-large (journalling (a .list .now)) (stateWith (connectionOf k) (a .registry .now) counters) [] chunk (s .pre .1) nothing (f .header) _ (f .is))
     (s .pre .0 .chunk-good)
     (c .wait2 .ensures)
     (laid-skipping (c .before .before .before .before .before .before .before .append2 .last .0) (c .before .before .before .set-skipping .last .0) (f .header) _ (held ∙ ap (λ (x : List ℕ). connectionBytes (opened x)) part) (c .before .before .before .set-skipping .ensures))
+    refl
     refl
 
 same-length-5 : tie.Need-same-length-5
@@ -199,22 +201,25 @@ same-length-5 c = search needs
 same-length-6 : tie.Need-same-length-6
 same-length-6 c = search needs
 
+same-length-7 : tie.Need-same-length-7
+same-length-7 c = search needs
+
 returns-4 : tie.Need-returns-4
 returns-4 c =
-    let s = c .before .before .before .before .before .before .before .before .before .before .before .before .before .before .before .before .before .before in
+    let s = c .before .before .before .before .before .before .before .before .before .before .before .before .before .before .before .before .before .before .before .before .before .before in
     let a = s .args in
     let chunk : List ℕ = a .chunk .now in
     let k : List ℕ = a .connection .now in
-    let n : ℕ = c .before .before .before .before .before .before .before .before .before .before .n .given .0 .0 in
-    let w = frame-whole (next chunk) n (sym (c .before .before .before .before .before .before .before .before .before .before .before .before .read-frame .ensures) ∙ c .before .before .before .before .before .before .before .before .before .before .n .given .1) in
-    let answer = c .before .before .before .before .before .answer-whole in
+    let n : ℕ = c .before .before .before .before .before .before .before .before .before .before .before .before .before .n .given .0 .0 in
+    let w = frame-whole (next chunk) n (sym (c .before .before .before .before .before .before .before .before .before .before .before .before .before .before .before .read-frame .ensures) ∙ c .before .before .before .before .before .before .before .before .before .before .before .before .before .n .given .1) in
+    let answer = c .before .before .before .before .before .before .before .answer-whole in
     let part = whole-part chunk n w .fits in
     let few = s .pre .0 .chunk-good in
     let fits : n ≤ chunkMost = omega arith in
     let small : n < 2 ^ 40 = omega (arith, fits) in
     λ counters.
-    serves-answer (a .list .now) k (a .registry .now) counters chunk (a .out .now) (λ x. judge (judgement (a .list .now)) (a .registry .now) x (take n chunk)) n n (opened [])
-    k (answer .last .1 .1 .0) (answer .last .0) (answer .result) (c .finish2 .result)
+    serves-answer (a .list .now) k (a .registry .now) counters chunk (a .out .now) (a .journal .now) (λ x. judge (journalling (a .list .now)) (a .registry .now) x (take n chunk)) n n (opened [])
+    k (answer .last .1 .1 .1 .0) (answer .last .0) (answer .last .1 .0) (answer .result) (c .finish2 .result)
     (judge-steady (a .list .now) (a .registry .now) (take n chunk))
     (fresh-whole (a .list .now) k (a .registry .now) counters chunk n (s .pre .1) w)
     (answer .ensures)
@@ -253,4 +258,5 @@ serve-fresh-spec =
     returns-3
     same-length-5
     same-length-6
+    same-length-7
     returns-4)

@@ -12,6 +12,8 @@ use Rattle.stream.proofs.FrameLaws.{requestLength-append}
 use Rattle.reading.specs.Call.{Effect}
 use Rattle.judgement.specs.Counts.{Counts}
 use Rattle.judgement.specs.Judgement.{judgement, refusedEarly}
+use Rattle.journal.specs.Journalling.{journalling}
+use Rattle.stream.specs.Handed.{Handed}
 use Rattle.answer.specs.code.Answers.{AnsweredBy}
 use Rattle.answer.specs.declared.Answered.{Answered}
 use Rattle.counters.specs.Counters.{totalsOf}
@@ -50,11 +52,11 @@ returns c =
     let a = s .args in
     let m : List ℕ = a .connection .now in
     let less : a .here < a .to-go = omega arith in
-    λ list registry counters.
-    subst (λ (e : Effect (State (List ℕ) Counts) (List ℕ)). Carried counters e (c .before .before .before .set-skipping .last .0) registry (a .out .now) (a .out .now) (c .wait .result))
+    λ list registry journal counters.
+    subst (λ (e : Effect (State (List ℕ) Counts) Handed). Carried counters e (c .before .before .before .set-skipping .last .0) registry (a .out .now) (a .out .now) journal journal (c .wait .result))
     (sym (skip-waits list registry counters (headerAt m) (a .used) (a .here) (a .to-go) less))
-    (carried-wait closed registry counters (a .used + a .here) (skipping (headerAt m) (a .to-go - a .here)) _ _ _ _ (s .pre .used-good) (c .wait .ensures)
-    (c .before .before .before .set-skipping .ensures (s .pre .kind) (s .pre .number) (headerAt m) (s .pre .laid)) refl)
+    (carried-wait closed registry counters (a .used + a .here) (skipping (headerAt m) (a .to-go - a .here)) _ _ _ journal journal _ (s .pre .used-good) (c .wait .ensures)
+    (c .before .before .before .set-skipping .ensures (s .pre .kind) (s .pre .number) (headerAt m) (s .pre .laid)) refl refl)
 
 sub-request-length : tie.Need-sub-request-length
 sub-request-length c = search needs
@@ -106,14 +108,14 @@ same-size m long =
     ∙ requestLength-append (headerAt m) (drop (headerLength (drop 9 m)) (drop 9 m)) long
 
 -- the answer to what stands there is that to the header
-answered-header : (list registry m before after : List ℕ) (r : Answered)
-    → AnsweredBy (λ k. judgement list .onOversized registry k (take (headerLength (take (length m - 9) (drop 9 m))) (take (length m - 9) (drop 9 m)))) registry before after r
-    → AnsweredBy (λ k. judgement list .onOversized registry k (headerAt m)) registry before after r
-answered-header list registry m before after r =
-    subst (λ (b : List ℕ). AnsweredBy (λ k. judgement list .onOversized registry k (take (headerLength b) b)) registry before after r) (lent 9 m)
+answered-header : (list registry m before after journal : List ℕ) (r : Answered)
+    → AnsweredBy (λ k. journalling list .onOversized registry k (take (headerLength (take (length m - 9) (drop 9 m))) (take (length m - 9) (drop 9 m)))) registry before after journal journal r
+    → AnsweredBy (λ k. journalling list .onOversized registry k (headerAt m)) registry before after journal journal r
+answered-header list registry m before after journal r =
+    subst (λ (b : List ℕ). AnsweredBy (λ k. journalling list .onOversized registry k (take (headerLength b) b)) registry before after journal journal r) (lent 9 m)
 
 returns-2 : tie.Need-returns-2
-unfolding judgement refusedEarly
+unfolding journalling judgement refusedEarly
 returns-2 c =
     let s = c .before .before .before .before .before .before .before .before .before .before .before .before .before .before .before .before .before in
     let a = s .args in
@@ -124,13 +126,13 @@ returns-2 c =
     let w = c .before .before .before .before .before .before .before .answer-skipped in
     let used = s .pre .used-good in
     let few : a .used + a .to-go ≤ chunkMost = omega (arith, more, used) in
-    λ list registry counters.
-    subst (λ (e : Effect (State (List ℕ) Counts) (List ℕ)). Carried counters e (c .before .before .before .reset .last .0) registry (a .out .now) (w .last .0) (c .finish .result))
-    (ap (λ (n : ℕ). answering (stateWith closed registry counters) (a .used + a .to-go) n (judgement list .onOversized registry (totalsOf counters .counts) (headerAt m)) (opened [])) size
+    λ list registry journal counters.
+    subst (λ (e : Effect (State (List ℕ) Counts) Handed). Carried counters e (c .before .before .before .reset .last .0) registry (a .out .now) (w .last .0) journal journal (c .finish .result))
+    (ap (λ (n : ℕ). answering (stateWith closed registry counters) (a .used + a .to-go) n (journalling list .onOversized registry (totalsOf counters .counts) (headerAt m)) (opened [])) size
     ∙ sym (skip-answers list registry counters (headerAt m) (a .used) (a .here) (a .to-go) more))
-    (carried-answer closed registry counters (λ k. judgement list .onOversized registry k (headerAt m)) (a .used + a .to-go) (f .request-length .result) (opened [])
-    (c .before .before .before .reset .last .0) registry (a .out .now) (w .last .0) (w .result) (c .finish .result) few (f .request-length .ensures .1)
-    (answered-header list registry m (a .out .now) (w .last .0) (w .result) (w .ensures list registry)) refl refl (c .finish .ensures) (c .before .before .before .reset .ensures))
+    (carried-answer closed registry counters (λ k. journalling list .onOversized registry k (headerAt m)) (a .used + a .to-go) (f .request-length .result) (opened [])
+    (c .before .before .before .reset .last .0) registry (a .out .now) (w .last .0) journal journal (w .result) (c .finish .result) few (f .request-length .ensures .1)
+    (answered-header list registry m (a .out .now) (w .last .0) journal (w .result) (w .ensures list registry journal)) refl refl (c .finish .ensures) (c .before .before .before .reset .ensures))
 
 pub skip-spec : {M : Type 1} → statement M
 skip-spec =

@@ -1,0 +1,14 @@
+pub mod RecordLaws
+pub mod CutLaws
+pub mod ReplayLaws
+pub mod KeptLaws
+pub mod DoneLaws
+pub mod LeftLaws
+pub mod StepLaws
+pub mod ReadLaws
+pub mod StateLaws
+pub mod OutcomeLaws
+pub mod CompactLaws
+pub mod MemoryLaws
+pub mod WrittenLaws
+pub mod ChangeLaws
