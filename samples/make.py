@@ -1,7 +1,7 @@
 #!/usr/bin/env python3
-"""Makes the sample roster, list and streams, and counts what their bills must say.
+"""Makes the sample roster, list, streams and journal, and counts what their bills must say.
 
-    samples/make.py            writes servers.roster, servers.list and the three streams beside this file
+    samples/make.py            writes servers.roster, servers.list, the three streams and day.journal beside this file
     samples/make.py --check    writes nothing; fails if one of them, or a .bill file, differs
 
 Each request below stands with the status that document 01, as document 02 amends it, gives it, and with
@@ -14,13 +14,14 @@ import argparse
 import hashlib
 import struct
 import sys
+import zlib
 from collections import Counter
 from dataclasses import dataclass
 from pathlib import Path
 
 HERE = Path(__file__).parent
 
-# ---- document 01, "Operations and their fields"; document 02, "Checking signatures" and "Keys we ship"
+# ---- document 01, "Operations and their fields"; document 02, "Checking signatures", "Keys we ship" and "Surviving a power cut"
 
 CORE, KEYSTORE = 0, 1
 PING, LIST_PROVIDERS, LIST_OPCODES = 1, 8, 9
@@ -34,6 +35,8 @@ OPERATIONS = {
     IMPORT: "Import",
     EXPORT: "Export",
 }
+# The tags of the journal's records.
+TAGS = {IMPORT: 2, DESTROY: 3}
 STATUSES = [0, 1, 2, 3, 4, 6, 7, 9, 11, 12, 17, 19, 20, 1133, 1134, 1135, 1139, 1140, 1142, 1149]
 SLOTS = 8
 
@@ -214,11 +217,13 @@ class Request:
 
 @dataclass(frozen=True)
 class Sent:
-    """A request, the status that document 01 gives it, and the name of the key that it is about."""
+    """A request, the status that document 01 gives it, and the name of the key that it is about; of an import or destroy
+    also what its record says of the key."""
 
     request: Request
     status: int
     key: str = ""
+    recorded: bytes = b""
 
 
 def core(opcode, status=0, **fields):
@@ -226,14 +231,20 @@ def core(opcode, status=0, **fields):
     return Sent(Request(opcode, **fields), status)
 
 
-def keystore(application, opcode, key, body, status=0, **fields):
+def keystore(application, opcode, key, body, status=0, recorded=b"", **fields):
     """A request about a key that an application sends to the keystore under its name."""
     named = {"provider": KEYSTORE, "auth_type": 1, "auth": application.encode()}
-    return Sent(Request(opcode, body=body, **{**named, **fields}), status, key)
+    return Sent(Request(opcode, body=body, **{**named, **fields}), status, key, recorded)
+
+
+def imported(name, data, bits, export=True, verify=True):
+    """What the record of an import says of the key."""
+    return struct.pack("<HBBB", bits, export, verify, len(name)) + name.encode() + data
 
 
 def import_data(application, name, data, bits, status=0, **flags):
-    return keystore(application, IMPORT, name, import_body(name, data, bits, **flags), status)
+    body = import_body(name, data, bits, **flags)
+    return keystore(application, IMPORT, name, body, status, imported(name, data, bits, **flags))
 
 
 def import_key(application, name, bits, status=0, **flags):
@@ -245,7 +256,7 @@ def export_key(application, name, status=0, **fields):
 
 
 def destroy_key(application, name, status=0, **fields):
-    return keystore(application, DESTROY, name, name_body(name), status, **fields)
+    return keystore(application, DESTROY, name, name_body(name), status, name.encode(), **fields)
 
 
 def verify(application, name, digest, signature, status=0, **fields):
@@ -273,10 +284,11 @@ def greetings():
 def keys_of_the_servers():
     """Two servers hold a key of the same name, and each sees its own only."""
     # Fields in any order, longer varints than needed, and of a repeated field the last counts.
+    data = public_key("recon-b mr-0001", 2048)
     shuffled = (
         b"\x20\x80\x00"
         + number_field(3, 1)
-        + bytes_field(2, public_key("recon-b mr-0001", 2048))
+        + bytes_field(2, data)
         + number_field(4, 1)
         + name_body("mr-0000")
         + number_field(3, 2048)
@@ -287,7 +299,7 @@ def keys_of_the_servers():
         import_key("recon-a", "ct-0002", 3072, verify=False),
         import_key("recon-b", "ct-0001", 4096),
         import_key("recon-b", "sealed", 2048, export=False),
-        keystore("recon-b", IMPORT, "mr-0001", shuffled),
+        keystore("recon-b", IMPORT, "mr-0001", shuffled, recorded=imported("mr-0001", data, 2048, verify=False)),
         export_key("recon-a", "ct-0001", session=3),
         export_key("recon-b", "ct-0001", session=4),
         export_key("recon-b", "mr-0001"),
@@ -504,6 +516,24 @@ class Stream:
             if held
         ]
 
+    def journal(self):
+        """Document 02, "Surviving a power cut": the records of what was served."""
+        records = [
+            record(TAGS[sent.request.opcode], bytes([APPLICATIONS.index(sent.request.auth.decode())]) + sent.recorded)
+            for sent in self.sent
+            if sent.status == 0 and sent.request.opcode in TAGS
+        ]
+        return b"".join(content + struct.pack("<I", zlib.crc32(content)) for content in records)
+
+    def restored_bill(self):
+        """That of a service which has only read the journal: its keys, not used yet."""
+        return [
+            "taken 0",
+            *[f"line {n} {name} 0" for n, name in enumerate(APPLICATIONS)],
+            *[line.rsplit(" ", 1)[0] + " 0" for line in self.key_lines()],
+            *["open 0", "dropped 0", "held 0"],
+        ]
+
     def bill(self):
         """Document 01, "The bill"."""
         callers = Counter(request.auth.decode() for request in self.served())
@@ -552,7 +582,7 @@ def shipped():
 
 
 def record(tag, value):
-    """Of a roster or a list: tag, length, value."""
+    """Of a roster or a list, and of a journal but for its CRC: tag, length, value."""
     return bytes([tag]) + struct.pack("<H", len(value)) + value
 
 
@@ -609,10 +639,10 @@ def main():
     lacking = missing(streams["day"], streams["closed"])
     files = {"servers.roster": roster(), "servers.list": list_file()}
     files |= {f"{name}.stream": stream.encode() for name, stream in streams.items()}
-    bills = {
-        f"{name}.bill": "".join(line + "\n" for line in stream.bill()).encode()
-        for name, stream in streams.items()
-    }
+    files["day.journal"] = streams["day"].journal()
+    lines = {f"{name}.bill": stream.bill() for name, stream in streams.items()}
+    lines["restored.bill"] = streams["day"].restored_bill()
+    bills = {name: "".join(line + "\n" for line in text).encode() for name, text in lines.items()}
     for name, stream in streams.items():
         show(name, stream)
     if not check_only:
