@@ -1,19 +1,20 @@
 /*
  * The key service for C: target/staticlib/libabi.a, which `rt staticlib abi` writes (x86-64, System V).
  * The archive allocates nothing, keeps nothing between calls and needs no library but C's. All memory is the caller's.
- * docs/LAYOUT.md has the layouts of registry and connection memory and of the list; document 01 is the requirements
- * paper, document 02 the requests after it.
+ * docs/LAYOUT.md has the layouts of registry and connection memory, of the list, and of the journal and its reader's
+ * state; document 01 is the requirements paper, document 02 the requests after it.
  *
  * Memory is handed over as a pointer and a length in bytes. Every function is defined for any bytes and any lengths:
  *
- *   - Short or long memory is answered: a registry or connection of a wrong size, a response buffer below
- *     RAZIDKOT_LEAST_RESPONSE_BUFFER, a chunk above RAZIDKOT_LONGEST_CHUNK, a buffer for the bill below
- *     RAZIDKOT_LEAST_BILL_BUFFER.
+ *   - Short or long memory is answered: a registry, connection or journal state of a wrong size, a response buffer
+ *     below RAZIDKOT_LEAST_RESPONSE_BUFFER, a journal buffer below RAZIDKOT_LEAST_JOURNAL_BUFFER, a chunk above
+ *     RAZIDKOT_LONGEST_CHUNK, a buffer for the bill below RAZIDKOT_LEAST_BILL_BUFFER.
  *   - NULL with length 0 is empty memory and is answered as such: an empty roster file, list or chunk, which are good;
- *     a registry or connection of a wrong size; a buffer for a response or for the bill that is too small.
+ *     a registry, connection or journal state of a wrong size; a buffer for a response, for a record or for the bill
+ *     that is too small.
  *   - Ill-formed memory of the right size, and an ill-formed list, are answered: RAZIDKOT_CALL_CONNECTION_ILL_FORMED,
- *     RAZIDKOT_CALL_REGISTRY_ILL_FORMED, RAZIDKOT_CALL_LIST_ILL_FORMED, RAZIDKOT_BILL_CONNECTION_ILL_FORMED,
- *     RAZIDKOT_BILL_REGISTRY_ILL_FORMED.
+ *     RAZIDKOT_CALL_REGISTRY_ILL_FORMED, RAZIDKOT_CALL_LIST_ILL_FORMED, RAZIDKOT_JOURNAL_REGISTRY_ILL_FORMED,
+ *     RAZIDKOT_JOURNAL_STATE_ILL_FORMED, RAZIDKOT_BILL_CONNECTION_ILL_FORMED, RAZIDKOT_BILL_REGISTRY_ILL_FORMED.
  *
  * What it can't tell, and what is undefined:
  *
@@ -23,7 +24,8 @@
  *   - NULL, or a pointer that is not aligned for uint64_t, for the counters.
  *
  * Threads: the functions share no memory, so calls on different memory may run at the same time. Registry, connection,
- * counters and response buffer may each be in one call at a time, and nothing else may read or write them meanwhile.
+ * counters, response buffer, journal buffer and journal state may each be in one call at a time, and nothing else may
+ * read or write them meanwhile.
  * Connections that share a registry or counters therefore take turns. Chunk and list are only read: calls at the same
  * time may share them.
  */
@@ -45,10 +47,16 @@ extern "C" {
 #define RAZIDKOT_CONNECTION_SIZE 4431
 /* A shorter response buffer is refused. */
 #define RAZIDKOT_LEAST_RESPONSE_BUFFER 1024
+/* A shorter journal buffer is refused. */
+#define RAZIDKOT_LEAST_JOURNAL_BUFFER 1024
 /* A longer chunk is refused. */
 #define RAZIDKOT_LONGEST_CHUNK 65536
 /* No response is longer. */
 #define RAZIDKOT_LONGEST_RESPONSE 629
+/* No record of the journal is longer. */
+#define RAZIDKOT_LONGEST_RECORD 645
+/* The one size of the memory of a journal's reader. */
+#define RAZIDKOT_JOURNAL_STATE_SIZE 662
 /* A shorter buffer gets no bill; no bill is longer. */
 #define RAZIDKOT_LEAST_BILL_BUFFER 6336
 /* 2^62: a call is refused if any counter is above it. */
@@ -111,7 +119,7 @@ enum razidkot_open_code {
     RAZIDKOT_OPEN_WRONG_SIZE = 1
 };
 
-/* What razidkot_call says: 0, or the digit of the papers' C1 to C6. The first that applies, in this order. */
+/* What razidkot_call says: 0, or the digit of the papers' C1 to C7. The first that applies, in this order. */
 enum razidkot_call_code {
     RAZIDKOT_CALL_TAKEN = 0,
     /* C1: the response buffer has fewer than RAZIDKOT_LEAST_RESPONSE_BUFFER bytes. */
@@ -125,17 +133,24 @@ enum razidkot_call_code {
     /* C5: a counter is above RAZIDKOT_HIGHEST_COUNTER. */
     RAZIDKOT_CALL_COUNTER_TOO_HIGH = 5,
     /* C6: the list is ill formed: document 02, "Keys we ship". */
-    RAZIDKOT_CALL_LIST_ILL_FORMED = 6
+    RAZIDKOT_CALL_LIST_ILL_FORMED = 6,
+    /* C7: the journal buffer has fewer than RAZIDKOT_LEAST_JOURNAL_BUFFER bytes. */
+    RAZIDKOT_CALL_JOURNAL_BUFFER_TOO_SMALL = 7
 };
 
-/* What a call says. A call that is not taken says 0 taken and 0 written. */
+/* What a call says. A call that is not taken says 0 taken, 0 written and 0 recorded. */
 typedef struct {
     /* A razidkot_call_code. */
     uint32_t code;
     /* How many bytes of the chunk were taken; the rest is for the caller to hand over again. */
     size_t taken;
-    /* How many bytes of response were written to the front of the buffer; 0 if none is due yet. */
+    /* How many bytes of response were written to the front of its buffer; 0 if none is due yet. */
     size_t written;
+    /*
+     * How many bytes of a record were written to the front of the journal buffer; 0 but for an import or destroy that
+     * was served. Append them to the journal, and have them on disk, before the response is sent.
+     */
+    size_t recorded;
 } razidkot_answer;
 
 /*
@@ -155,19 +170,83 @@ void razidkot_clear_counters(razidkot_counters *counters);
 
 /*
  * Takes bytes of the chunk until one response is written, or to the chunk's end, and says how many. A chunk may end
- * anywhere within a request. Bytes of the buffer past the response stay. An empty chunk is taken and changes nothing.
- * A call that is refused (code 1 to 6) changes nothing at all: connection, registry, counters and buffer stay.
+ * anywhere within a request. Bytes of a buffer past the response or the record stay. An empty chunk is taken and changes
+ * nothing. A call that is refused (code 1 to 7) changes nothing at all: connection, registry, counters and buffers stay.
  *
  * The list has the keys that every application may export and verify with besides its own: records as the roster's, a
  * name (tag 1) and its data (tag 2) for each key, at most RAZIDKOT_MOST_LISTED_KEYS. It is judged on every call and
  * never written; NULL with length 0 is the list of none. Another call may be lent another list.
+ *
+ * The records of all calls on a registry, joined in the order of the calls, are its journal: razidkot_journal_read
+ * gives the registry back from it. A host that keeps no journal lends the buffer all the same.
  */
 razidkot_answer razidkot_call(const uint8_t *chunk, size_t chunk_length,
                               uint8_t *connection, size_t connection_length,
                               uint8_t *registry, size_t registry_length,
                               const uint8_t *list, size_t list_length,
                               razidkot_counters *counters,
-                              uint8_t *response, size_t response_length);
+                              uint8_t *response, size_t response_length,
+                              uint8_t *journal, size_t journal_length);
+
+/* What razidkot_journal_begin says. */
+enum razidkot_journal_begin_code {
+    /* The state is that of a reader before the first byte. */
+    RAZIDKOT_JOURNAL_BEGUN = 0,
+    /* The memory does not have RAZIDKOT_JOURNAL_STATE_SIZE bytes. */
+    RAZIDKOT_JOURNAL_WRONG_SIZE = 1
+};
+
+/*
+ * What razidkot_journal_read says: of all bytes so far (0 to 4), or why it reads none (5 and 6, in this order). Of a
+ * whole record the first fault is said, J1 to J3, and nothing behind that record is read.
+ */
+enum razidkot_journal_code {
+    /* They end with a record, or there are none. */
+    RAZIDKOT_JOURNAL_AT_RECORD = 0,
+    /* J1: another CRC than that of the record's tag, length and value. */
+    RAZIDKOT_JOURNAL_WRONG_CRC = 1,
+    /* J2: no import's or destroy's layout. */
+    RAZIDKOT_JOURNAL_WRONG_LAYOUT = 2,
+    /* J3: its line is not in use, or Import or Destroy would refuse it. */
+    RAZIDKOT_JOURNAL_NOT_ALLOWED = 3,
+    /* They end within a record: at the end of the file a cut record, which is no fault. */
+    RAZIDKOT_JOURNAL_WITHIN_RECORD = 4,
+    /* The registry memory has another size than RAZIDKOT_REGISTRY_SIZE, or no registry in it. */
+    RAZIDKOT_JOURNAL_REGISTRY_ILL_FORMED = 5,
+    /* The state has another size than RAZIDKOT_JOURNAL_STATE_SIZE, or no reader in it. */
+    RAZIDKOT_JOURNAL_STATE_ILL_FORMED = 6
+};
+
+/* What reading says. Codes 5 and 6 come with 0 taken and 0 kept. */
+typedef struct {
+    /* A razidkot_journal_code. */
+    uint32_t code;
+    /* How many bytes of the chunk were read: all, or up to the end of the record that is refused. */
+    size_t taken;
+    /*
+     * How many bytes the records take that were carried out, from the journal's first byte on. A refused record begins
+     * there. Cut the file to so many bytes before more is appended.
+     */
+    uint64_t kept;
+} razidkot_journal_answer;
+
+/*
+ * Makes memory the state of a journal's reader and returns a razidkot_journal_begin_code. The memory may hold anything
+ * before; memory of a wrong size stays as it was.
+ */
+uint32_t razidkot_journal_begin(uint8_t *state, size_t length);
+
+/*
+ * Reads on in a journal, and carries out in the registry each record that ends in the chunk: its key is imported, not
+ * used yet, or destroyed. At the first chunk the registry is as razidkot_load_roster left it, with the lines of the
+ * roster in the order that they had when the records were written: a record names its line by number.
+ *
+ * A chunk may have any length and end anywhere. The registry is checked on every call, so that chunks of 64 KiB are
+ * quick. It is well formed after every call. Codes 5 and 6 change nothing.
+ */
+razidkot_journal_answer razidkot_journal_read(uint8_t *state, size_t state_length,
+                                              uint8_t *registry, size_t registry_length,
+                                              const uint8_t *chunk, size_t chunk_length);
 
 /* What razidkot_bill says. The first that applies, in this order; the codes are those of this header alone. */
 enum razidkot_bill_code {

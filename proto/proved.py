@@ -15,6 +15,7 @@ CONNECTION_SIZE = 4_431
 # taken, answered, dropped; served by 8 lines; unauthenticated; refused by 19 statuses
 COUNTERS = 3 + 8 + 1 + 19
 RESPONSE_BUFFER = 1_024
+JOURNAL_BUFFER = 1_024
 RESPONSE_HEADER = "<IHBBBQBIHH"
 
 REQUEST_BUFFER = 5_120
@@ -76,6 +77,7 @@ class Answer(ctypes.Structure):
         ("code", ctypes.c_uint32),
         ("taken", ctypes.c_size_t),
         ("written", ctypes.c_size_t),
+        ("recorded", ctypes.c_size_t),
     ]
 
 
@@ -91,7 +93,7 @@ class Service:
         open_connection.argtypes = SLICE
         open_connection.restype = ctypes.c_uint32
         self._call = library.razidkot_call
-        self._call.argtypes = SLICE * 4 + [ctypes.c_void_p] + SLICE
+        self._call.argtypes = SLICE * 4 + [ctypes.c_void_p] + SLICE * 2
         self._call.restype = Answer
         self._registry = ctypes.create_string_buffer(REGISTRY_SIZE)
         self._connection = ctypes.create_string_buffer(CONNECTION_SIZE)
@@ -104,8 +106,10 @@ class Service:
     def ask(self, request):
         """The header's fields behind the magic, and the body, of the response to one request."""
         response = ctypes.create_string_buffer(RESPONSE_BUFFER)
+        journal = ctypes.create_string_buffer(JOURNAL_BUFFER)
         memory = (self._connection, CONNECTION_SIZE, self._registry, REGISTRY_SIZE, None, 0)
-        answer = self._call(request, len(request), *memory, self._counters, response, RESPONSE_BUFFER)
+        buffers = (response, RESPONSE_BUFFER, journal, JOURNAL_BUFFER)
+        answer = self._call(request, len(request), *memory, self._counters, *buffers)
         if (answer.code, answer.taken) != (0, len(request)):
             raise ValueError(f"a call not taken whole: {answer.code}, {answer.taken}")
         written = response.raw[: answer.written]

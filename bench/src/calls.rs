@@ -1,11 +1,11 @@
 //! Requests in chunks of 4,096 bytes through the compiled call and through the reference's. Both judge
-//! all six refusals on every call.
+//! all seven refusals on every call.
 
 use crate::registries::Registry;
 use crate::rows::{digest, Row, Turn, EACH_TURN};
 use razidkot::{raw, Counters};
 use razidkot_tests::ask::{name_body, request, EXPORT, PING};
-use reference::{CONNECTION_SIZE, MIN_RESPONSE_BUFFER};
+use reference::{CONNECTION_SIZE, MIN_JOURNAL_BUFFER, MIN_RESPONSE_BUFFER};
 use std::hint::black_box;
 use std::rc::Rc;
 use std::time::Instant;
@@ -113,6 +113,7 @@ struct Proved {
     list: Vec<u8>,
     counters: Counters,
     response: Vec<u8>,
+    journal: Vec<u8>,
 }
 
 impl Proved {
@@ -123,6 +124,7 @@ impl Proved {
             list: list.to_vec(),
             counters: Counters::default(),
             response: vec![0; MIN_RESPONSE_BUFFER],
+            journal: vec![0; MIN_JOURNAL_BUFFER],
         }
     }
 }
@@ -136,6 +138,7 @@ impl Service for Proved {
             &self.list,
             &mut self.counters,
             &mut self.response,
+            &mut self.journal,
         );
         answer.result().expect("a call that is taken").taken
     }
@@ -152,6 +155,7 @@ struct Reference {
     list: Vec<u8>,
     counters: reference::Counters,
     response: Vec<u8>,
+    journal: Vec<u8>,
 }
 
 impl Reference {
@@ -162,6 +166,7 @@ impl Reference {
             list: list.to_vec(),
             counters: reference::Counters::default(),
             response: vec![0; MIN_RESPONSE_BUFFER],
+            journal: vec![0; MIN_JOURNAL_BUFFER],
         }
     }
 }
@@ -175,6 +180,7 @@ impl Service for Reference {
             &self.list,
             &mut self.counters,
             &mut self.response,
+            &mut self.journal,
         );
         taken.expect("a call that is taken").taken
     }

@@ -23,6 +23,8 @@ static uint8_t connection[RAZIDKOT_CONNECTION_SIZE];
 static razidkot_counters counters;
 static uint8_t responses[4 * RAZIDKOT_LEAST_RESPONSE_BUFFER];
 static size_t responses_length;
+/* This service keeps its keys in memory alone, and leaves the records that calls write here. */
+static uint8_t journal[RAZIDKOT_LEAST_JOURNAL_BUFFER];
 
 static bool start_service(void)
 {
@@ -37,7 +39,7 @@ static bool send_bytes(const uint8_t *bytes, size_t length)
     while (length > 0) {
         razidkot_answer answer = razidkot_call(bytes, length, connection, sizeof connection, registry, sizeof registry,
                                                NULL, 0, &counters, responses + responses_length,
-                                               sizeof responses - responses_length);
+                                               sizeof responses - responses_length, journal, sizeof journal);
         if (answer.code != RAZIDKOT_CALL_TAKEN)
             return false;
         responses_length += answer.written;

@@ -1,7 +1,7 @@
 //! The bill of a roster file, a captured stream and a list of keys.
 //! Document 01, "The bill"; document 02, "Keys we ship" and "Use per key".
 
-use crate::call::{call_with_journal, Refusal, MAX_CHUNK, MIN_JOURNAL_BUFFER, MIN_RESPONSE_BUFFER};
+use crate::call::{call, Refusal, MAX_CHUNK, MIN_JOURNAL_BUFFER, MIN_RESPONSE_BUFFER};
 use crate::connection::unfinished_bytes;
 use crate::counters::Counters;
 use crate::list::list_is_well_formed;
@@ -125,7 +125,7 @@ fn take_chunk(
     let response = &mut [0; MIN_RESPONSE_BUFFER];
     let journal = &mut [0; MIN_JOURNAL_BUFFER];
     while !chunk.is_empty() {
-        let taken = call_with_journal(
+        let taken = call(
             chunk, connection, registry, list, counters, response, journal,
         )
         .expect("memory and list are good and no file has more than 2^62 bytes");

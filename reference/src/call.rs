@@ -45,24 +45,9 @@ pub struct Taken {
     pub recorded: usize,
 }
 
-/// `call_with_journal` for a caller that keeps no journal.
-pub fn call(
-    chunk: &[u8],
-    connection: &mut [u8],
-    registry: &mut [u8],
-    list: &[u8],
-    counters: &mut Counters,
-    response: &mut [u8],
-) -> Result<Taken, Refusal> {
-    let journal = &mut [0; MIN_JOURNAL_BUFFER];
-    call_with_journal(
-        chunk, connection, registry, list, counters, response, journal,
-    )
-}
-
 /// Takes bytes of `chunk` until one response is written or to its end; a refused call changes
 /// nothing. Bytes of `response` past the response stay, and those of `journal` past the record.
-pub fn call_with_journal(
+pub fn call(
     chunk: &[u8],
     connection: &mut [u8],
     registry: &mut [u8],

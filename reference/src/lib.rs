@@ -24,9 +24,7 @@ mod status;
 mod wire;
 
 pub use bill::{bill, bill_from_reader, bill_text};
-pub use call::{
-    call, call_with_journal, Refusal, Taken, MAX_CHUNK, MIN_JOURNAL_BUFFER, MIN_RESPONSE_BUFFER,
-};
+pub use call::{call, Refusal, Taken, MAX_CHUNK, MIN_JOURNAL_BUFFER, MIN_RESPONSE_BUFFER};
 pub use client::{
     client_begin, client_read, read_response, write_request, IllFormed, Operation, Output,
     ReadAnswer, ReadRefusal, Reader, Reading, WriteRefusal, WrongSize, CLIENT_SIZE,

@@ -7,9 +7,7 @@ use common::generate::{self, Random};
 use common::journal::*;
 use common::vectors::blocks;
 use common::*;
-use reference::{
-    call, call_with_journal, Refusal, Status, Taken, LONGEST_RECORD, MIN_JOURNAL_BUFFER,
-};
+use reference::{Refusal, Status, Taken, LONGEST_RECORD, MIN_JOURNAL_BUFFER};
 
 const FILLED: u8 = 0x77;
 
@@ -476,34 +474,4 @@ fn a_call_refused_with_c7_can_be_made_again_with_room() {
     service.expect_refusal(&request.bytes(), Refusal::JournalBufferTooSmall);
     service.journal.push(0x55);
     expect_record(&mut service, &request, &import_record(0, &key(b"a")));
-}
-
-#[test]
-fn a_call_without_a_journal_is_the_same_call() {
-    for request in [import(&key(b"b")), destroy(b"a"), export(b"a"), ping()] {
-        let mut with = Service::with_keys(&[b"a"]);
-        let mut without = with.clone();
-        let Service {
-            connection,
-            registry,
-            list,
-            counters,
-            response,
-            ..
-        } = &mut without;
-        let chunk = request.bytes();
-        let answer = call(&chunk, connection, registry, list, counters, response);
-        let expected = call_with_journal(
-            &chunk,
-            &mut with.connection,
-            &mut with.registry,
-            &with.list,
-            &mut with.counters,
-            &mut with.response,
-            &mut without.journal,
-        );
-        assert_eq!(answer, expected);
-        with.journal.clone_from(&without.journal);
-        assert_eq!(with, without);
-    }
 }

@@ -7,6 +7,7 @@
 static uint8_t registry[RAZIDKOT_REGISTRY_SIZE];
 static uint8_t connection[RAZIDKOT_CONNECTION_SIZE];
 static uint8_t response[RAZIDKOT_LEAST_RESPONSE_BUFFER];
+static uint8_t journal[RAZIDKOT_LEAST_JOURNAL_BUFFER];
 static uint8_t chunk[RAZIDKOT_LONGEST_CHUNK + 1];
 static razidkot_counters counters;
 /* A key of one byte. */
@@ -21,19 +22,23 @@ static void expect(const char *what, uint64_t is, uint64_t expected)
     }
 }
 
-/* A call with the good connection, registry and counters, whose answer is this. */
+/* A call's answer is this, and there is no record. */
 static void expect_answer(const char *what, razidkot_answer answer, uint32_t code, size_t taken, size_t written)
 {
     expect(what, answer.code, code);
     expect(what, answer.taken, taken);
     expect(what, answer.written, written);
+    expect(what, answer.recorded, 0);
 }
 
 static void expect_layouts(void)
 {
     expect("size of the counters", sizeof(razidkot_counters), 31 * 8);
     expect("refused", offsetof(razidkot_counters, refused), 12 * 8);
-    expect("size of an answer", sizeof(razidkot_answer), 24);
+    expect("size of an answer", sizeof(razidkot_answer), 32);
+    expect("recorded", offsetof(razidkot_answer, recorded), 24);
+    expect("size of a journal's answer", sizeof(razidkot_journal_answer), 24);
+    expect("kept", offsetof(razidkot_journal_answer, kept), 16);
     memset(&counters, 0xEE, sizeof counters);
     razidkot_clear_counters(&counters);
     for (size_t at = 0; at < sizeof counters; at++)
@@ -57,27 +62,70 @@ static void expect_connections(void)
     expect("fresh", razidkot_open_connection(connection, sizeof connection), RAZIDKOT_OPEN_FRESH);
 }
 
+/* A call on connection, registry and counters, with a list and a response buffer of these lengths. */
+static razidkot_answer call(size_t length, size_t c, size_t g, size_t l, size_t r, size_t j)
+{
+    return razidkot_call(length ? chunk : NULL, length, c ? connection : NULL, c, g ? registry : NULL, g,
+                         l ? list : NULL, l, &counters, r ? response : NULL, r, j ? journal : NULL, j);
+}
+
 static void expect_calls(void)
 {
-    const size_t c = sizeof connection, g = sizeof registry, r = sizeof response, l = sizeof list;
-    razidkot_counters *const n = &counters;
-    expect_answer("empty", razidkot_call(NULL, 0, connection, c, registry, g, NULL, 0, n, response, r), 0, 0, 0);
-    expect_answer("a list", razidkot_call(NULL, 0, connection, c, registry, g, list, l, n, response, r), 0, 0, 0);
-    expect_answer("C1", razidkot_call(NULL, 0, NULL, 0, NULL, 0, list, 1, n, NULL, 0), 1, 0, 0);
-    expect_answer("C1", razidkot_call(chunk, 9, connection, c, registry, g, NULL, 0, n, response, r - 1), 1, 0, 0);
-    expect_answer("C2", razidkot_call(chunk, sizeof chunk, NULL, 0, NULL, 0, list, 1, n, response, r), 2, 0, 0);
-    expect_answer("C3", razidkot_call(chunk, 9, NULL, 0, NULL, 0, list, 1, n, response, r), 3, 0, 0);
-    expect_answer("C4", razidkot_call(chunk, 9, connection, c, NULL, 0, list, 1, n, response, r), 4, 0, 0);
+    const size_t c = sizeof connection, g = sizeof registry, r = sizeof response, l = sizeof list, j = sizeof journal;
+    expect_answer("empty", call(0, c, g, 0, r, j), 0, 0, 0);
+    expect_answer("a list", call(0, c, g, l, r, j), 0, 0, 0);
+    expect_answer("C1", call(0, 0, 0, 1, 0, 0), RAZIDKOT_CALL_RESPONSE_BUFFER_TOO_SMALL, 0, 0);
+    expect_answer("C1", call(9, c, g, 0, r - 1, j), RAZIDKOT_CALL_RESPONSE_BUFFER_TOO_SMALL, 0, 0);
+    expect_answer("C2", call(sizeof chunk, 0, 0, 1, r, 0), RAZIDKOT_CALL_CHUNK_TOO_LONG, 0, 0);
+    expect_answer("C3", call(9, 0, 0, 1, r, 0), RAZIDKOT_CALL_CONNECTION_ILL_FORMED, 0, 0);
+    expect_answer("C4", call(9, c, 0, 1, r, 0), RAZIDKOT_CALL_REGISTRY_ILL_FORMED, 0, 0);
     counters.refused[18] = RAZIDKOT_HIGHEST_COUNTER + 1;
-    expect_answer("C5", razidkot_call(chunk, 9, connection, c, registry, g, list, 1, n, response, r), 5, 0, 0);
+    expect_answer("C5", call(9, c, g, 1, r, 0), RAZIDKOT_CALL_COUNTER_TOO_HIGH, 0, 0);
     counters.refused[18] = RAZIDKOT_HIGHEST_COUNTER;
     for (size_t cut = 1; cut < l; cut++)
-        expect_answer("C6", razidkot_call(chunk, 9, connection, c, registry, g, list, cut, n, response, r), 6, 0, 0);
+        expect_answer("C6", call(9, c, g, cut, r, 0), RAZIDKOT_CALL_LIST_ILL_FORMED, 0, 0);
+    expect_answer("C7", call(0, c, g, l, r, 0), RAZIDKOT_CALL_JOURNAL_BUFFER_TOO_SMALL, 0, 0);
+    expect_answer("C7", call(9, c, g, l, r, j - 1), RAZIDKOT_CALL_JOURNAL_BUFFER_TOO_SMALL, 0, 0);
     /* Nine zeros: a bad start, and status 17 at the sixth. */
-    expect_answer("taken", razidkot_call(chunk, 9, connection, c, registry, g, list, l, n, response, r), 0, 6, 26);
+    expect_answer("taken", call(9, c, g, l, r, j), RAZIDKOT_CALL_TAKEN, 6, 26);
     expect("status 17", response[24], RAZIDKOT_INVALID_HEADER);
     expect("refused with 17", counters.refused[9], 1);
     expect("taken", counters.taken, 6);
+}
+
+/* A journal with one import by the application in line 0: the key "a", data AA BB, 2,048 bits, export allowed. */
+static const uint8_t imported[] = {2, 9, 0, 0, 0, 8, 1, 0, 1, 'a', 0xAA, 0xBB, 0xA2, 0x03, 0xE2, 0xED};
+
+static void expect_read(const char *what, razidkot_journal_answer answer, uint32_t code, size_t taken, uint64_t kept)
+{
+    expect(what, answer.code, code);
+    expect(what, answer.taken, taken);
+    expect(what, answer.kept, kept);
+}
+
+static void expect_journals(void)
+{
+    static uint8_t state[RAZIDKOT_JOURNAL_STATE_SIZE];
+    const uint8_t roster[] = {1, 1, 0, 'b'};
+    const size_t s = sizeof state, g = sizeof registry, f = sizeof imported;
+    expect("no memory", razidkot_journal_begin(NULL, 0), RAZIDKOT_JOURNAL_WRONG_SIZE);
+    expect("short", razidkot_journal_begin(state, s - 1), RAZIDKOT_JOURNAL_WRONG_SIZE);
+    expect("a roster", razidkot_load_roster(roster, sizeof roster, registry, g), RAZIDKOT_ROSTER_LOADED);
+    expect("begun", razidkot_journal_begin(state, s), RAZIDKOT_JOURNAL_BEGUN);
+    expect_read("nothing", razidkot_journal_read(NULL, 0, NULL, 0, NULL, 0), RAZIDKOT_JOURNAL_REGISTRY_ILL_FORMED, 0, 0);
+    expect_read("no state", razidkot_journal_read(NULL, 0, registry, g, imported, f),
+                RAZIDKOT_JOURNAL_STATE_ILL_FORMED, 0, 0);
+    expect_read("empty", razidkot_journal_read(state, s, registry, g, NULL, 0), RAZIDKOT_JOURNAL_AT_RECORD, 0, 0);
+    expect_read("cut", razidkot_journal_read(state, s, registry, g, imported, 5), RAZIDKOT_JOURNAL_WITHIN_RECORD, 5, 0);
+    expect_read("whole", razidkot_journal_read(state, s, registry, g, imported + 5, f - 5), RAZIDKOT_JOURNAL_AT_RECORD,
+                f - 5, f);
+    expect("imported", registry[65], 1);
+    expect_read("J3", razidkot_journal_read(state, s, registry, g, imported, f), RAZIDKOT_JOURNAL_NOT_ALLOWED, f, f);
+    expect_read("refused for good", razidkot_journal_read(state, s, registry, g, imported, f),
+                RAZIDKOT_JOURNAL_NOT_ALLOWED, 0, f);
+    expect("begun again", razidkot_journal_begin(state, s), RAZIDKOT_JOURNAL_BEGUN);
+    expect_read("J1", razidkot_journal_read(state, s, registry, g, chunk, 7), RAZIDKOT_JOURNAL_WRONG_CRC, 7, 0);
+    expect("no names", razidkot_load_roster(NULL, 0, registry, g), RAZIDKOT_ROSTER_LOADED);
 }
 
 static void expect_bills(void)
@@ -101,6 +149,7 @@ int main(void)
     expect_rosters();
     expect_connections();
     expect_calls();
+    expect_journals();
     expect_bills();
     return failed;
 }

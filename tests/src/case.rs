@@ -4,7 +4,7 @@
 use crate::ask::{request, PING};
 use crate::connections;
 use crate::generate::{registry, Damage, Filling, Random};
-use crate::lent::{counter_mut, Lent, COUNTERS};
+use crate::lent::{counter_mut, Lengths, Lent, COUNTERS};
 use crate::lists::{list_of, pairs_in};
 use crate::requests::{applications, requests};
 use crate::shipped;
@@ -26,7 +26,7 @@ pub struct Case {
     pub sizes: Vec<usize>,
     /// Is the rest of a chunk handed over again by itself, or with what follows?
     pub rests_alone: bool,
-    pub response_length: usize,
+    pub lengths: Lengths,
     pub faults: Vec<FaultyCall>,
 }
 
@@ -37,7 +37,7 @@ pub struct FaultyCall {
     pub faults: Vec<Fault>,
 }
 
-/// What a call is made with, C1 to C6 most often; some damage leaves memory or list well formed.
+/// What a call is made with, C1 to C7 most often; some damage leaves memory or list well formed.
 #[derive(Clone, Copy, Debug)]
 pub enum Fault {
     ResponseLength(usize),
@@ -51,6 +51,7 @@ pub enum Fault {
     },
     /// The damage that this seed gives.
     List(u64),
+    JournalLength(usize),
 }
 
 impl Case {
@@ -75,7 +76,10 @@ impl Case {
             requests,
             sizes,
             rests_alone: random.once_in(2),
-            response_length: random.pick(&[1_024, 1_024, 1_025, 2_000]),
+            lengths: Lengths {
+                response: random.pick(&[1_024, 1_024, 1_025, 2_000]),
+                journal: random.pick(&[1_024, 1_024, 1_025, 1_026, 2_000]),
+            },
             faults: (0..random.below(12)).map(|_| faulty_call(random)).collect(),
         };
         if random.once_in(2) {
@@ -177,9 +181,10 @@ fn faulty_call(random: &mut Random) -> FaultyCall {
             value: random.pick(&[1 << 62, (1 << 62) + 1, 1 << 63, u64::MAX]),
         },
         Fault::List(random.word()),
+        Fault::JournalLength(random.pick(&[0, 1, 9, 645, 1_022, 1_023, 1_024])),
     ];
     random.shuffle(&mut faults);
-    faults.truncate(random.pick(&[1, 1, 2, 3, 6]));
+    faults.truncate(random.pick(&[1, 1, 2, 3, 7]));
     FaultyCall {
         number: random.below(MOST_CALLS / 4),
         faults,
@@ -187,9 +192,9 @@ fn faulty_call(random: &mut Random) -> FaultyCall {
 }
 
 impl Fault {
-    pub fn apply(self, lent: &mut Lent, chunk: &mut Vec<u8>, response_length: &mut usize) {
+    pub fn apply(self, lent: &mut Lent, chunk: &mut Vec<u8>, lengths: &mut Lengths) {
         match self {
-            Fault::ResponseLength(length) => *response_length = length,
+            Fault::ResponseLength(length) => lengths.response = length,
             Fault::ChunkLength(length) => {
                 let ping = request(PING, None, &[]);
                 let missing = length.saturating_sub(chunk.len());
@@ -202,6 +207,7 @@ impl Fault {
             Fault::Registry(damage) => damage.apply(&mut lent.registry),
             Fault::Counter { place, value } => *counter_mut(&mut lent.counters, place) = value,
             Fault::List(seed) => shipped::damage(&mut Random::new(seed), &mut lent.list),
+            Fault::JournalLength(length) => lengths.journal = length,
         }
     }
 }

@@ -8,11 +8,11 @@ use crate::client_program::{Program, Said, WAITING};
 use crate::client_states::STATE_SIZE;
 use crate::generate::{name, Random, KEY_NAMES};
 use crate::layout::SLOTS;
-use crate::lent::Lent;
+use crate::lent::{Lengths, Lent};
 use crate::oracle::key_name_is_legal;
 use crate::shipped::some_list;
 use crate::signatures::Signed;
-use razidkot::{Counters, CONNECTION_SIZE, LEAST_RESPONSE_BUFFER, LONGEST_CHUNK, REGISTRY_SIZE};
+use razidkot::{Counters, CONNECTION_SIZE, LONGEST_CHUNK, REGISTRY_SIZE};
 use razidkot_client::raw::Request;
 use razidkot_client::LEAST_REQUEST_BUFFER;
 
@@ -271,7 +271,7 @@ fn answer(service: Program, lent: &mut Lent, stream: &[u8], random: &mut Random)
     let mut responses = Vec::new();
     let mut rest = stream;
     while !rest.is_empty() {
-        lent.renew_response(LEAST_RESPONSE_BUFFER, 0x55);
+        lent.renew_buffers(Lengths::LEAST, 0x55);
         let chunk = chunk(random, rest, longest);
         let answer = match service {
             Program::Proved => lent.call_proved(chunk),

@@ -1,8 +1,9 @@
 //! Makes the calls of a case to the compiled service and to the reference, and compares all that
-//! they say and leave: document 01, "When a call is not taken" and "A whole stream under the rules".
+//! they say and leave: document 01, "When a call is not taken" and "A whole stream under the rules";
+//! document 02, "Surviving a power cut".
 
 use crate::case::{Case, FaultyCall};
-use crate::lent::Lent;
+use crate::lent::{Lengths, Lent};
 use crate::reached::Reached;
 use razidkot::raw::Answer;
 
@@ -23,16 +24,16 @@ impl Both {
         }
     }
 
-    /// One call of each, with fresh response buffers.
+    /// One call of each, with fresh buffers.
     fn call(
         &mut self,
         chunk: &[u8],
-        response_length: usize,
+        lengths: Lengths,
         reached: &mut Reached,
     ) -> Result<Answer, String> {
         let byte = reached.calls as u8;
-        self.proved.renew_response(response_length, byte);
-        self.reference.renew_response(response_length, byte);
+        self.proved.renew_buffers(lengths, byte);
+        self.reference.renew_buffers(lengths, byte);
         self.before.clone_from(&self.reference);
         let proved = self.proved.call_proved(chunk);
         let expected = self.reference.call_reference(chunk);
@@ -51,15 +52,15 @@ impl Both {
         &self,
         call: &FaultyCall,
         chunk: &[u8],
-        mut response_length: usize,
+        mut lengths: Lengths,
         reached: &mut Reached,
     ) -> Result<Answer, String> {
         let mut lent = self.reference.clone();
         let mut chunk = chunk.to_vec();
         for fault in &call.faults {
-            fault.apply(&mut lent, &mut chunk, &mut response_length);
+            fault.apply(&mut lent, &mut chunk, &mut lengths);
         }
-        Both::new(lent).call(&chunk, response_length, reached)
+        Both::new(lent).call(&chunk, lengths, reached)
     }
 }
 
@@ -78,9 +79,9 @@ pub fn run(case: &Case, reached: &mut Reached) -> Result<(), String> {
         };
         let chunk = &stream[at..stream.len().min(at + size)];
         for faulty in case.faults.iter().filter(|call| call.number == number) {
-            both.call_with_faults(faulty, chunk, case.response_length, reached)?;
+            both.call_with_faults(faulty, chunk, case.lengths, reached)?;
         }
-        let answer = both.call(chunk, case.response_length, reached)?;
+        let answer = both.call(chunk, case.lengths, reached)?;
         at += answer.taken;
         rest = chunk.len() - answer.taken;
         if answer.code != 0 || at == stream.len() {
@@ -120,6 +121,7 @@ fn show(seed: u64, case: &Case) -> String {
     lines.push(format!("list of {} bytes {list:02X?}", case.list.len()));
     lines.push(format!("connection {:02X?}", &case.connection[..40]));
     lines.push(format!("{:?}", case.counters));
+    lines.push(format!("{:?}", case.lengths));
     lines.push(format!("{:?}", case.faults));
     lines.join("\n")
 }

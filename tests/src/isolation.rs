@@ -4,10 +4,10 @@
 use crate::histories::{Call, Case, History};
 use crate::isolation_reached::Reached;
 use crate::layout::{line_at, name_at, slot_at, used_places, Place, LINE_SIZE};
-use crate::lent::Lent;
+use crate::lent::{Lengths, Lent};
 use crate::senders::{is_of, is_unauthenticated};
 use razidkot::raw::Answer;
-use razidkot::{Counters, Status, CONNECTION_SIZE, LEAST_RESPONSE_BUFFER, LONGEST_CHUNK};
+use razidkot::{Counters, Status, CONNECTION_SIZE, LONGEST_CHUNK};
 use std::collections::BTreeSet;
 use std::fmt;
 use std::mem::{discriminant, swap, take};
@@ -125,7 +125,7 @@ impl<S: Service> Shared<'_, S> {
         let connection = &mut self.connections[place];
         // Other bytes in each history: none of them are to be in a response.
         let byte = self.exchanges.len() as u8;
-        self.lent.renew_response(LEAST_RESPONSE_BUFFER, byte);
+        self.lent.renew_buffers(Lengths::LEAST, byte);
         swap(&mut self.lent.connection, &mut connection.memory);
         let answer = self.service.call(&mut self.lent, chunk);
         swap(&mut self.lent.connection, &mut connection.memory);

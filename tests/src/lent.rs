@@ -2,10 +2,25 @@
 
 use crate::ask::request;
 use razidkot::raw::{self, Answer};
-use razidkot::{Counters, CONNECTION_SIZE, LEAST_RESPONSE_BUFFER};
+use razidkot::{Counters, CONNECTION_SIZE, LEAST_JOURNAL_BUFFER, LEAST_RESPONSE_BUFFER};
 
-/// Bytes of the response memory that are never lent, to see that nothing is written there.
+/// Bytes behind each buffer that are never lent, to see that nothing is written there.
 const GUARD: usize = 64;
+
+/// How long the buffers are that a call writes to.
+#[derive(Clone, Copy, Debug, PartialEq, Eq)]
+pub struct Lengths {
+    pub response: usize,
+    pub journal: usize,
+}
+
+impl Lengths {
+    /// As short as may be.
+    pub const LEAST: Lengths = Lengths {
+        response: LEAST_RESPONSE_BUFFER,
+        journal: LEAST_JOURNAL_BUFFER,
+    };
+}
 
 /// All that a call may change, and the list that it may not.
 #[derive(Clone, PartialEq, Eq)]
@@ -15,6 +30,7 @@ pub struct Lent {
     pub list: Vec<u8>,
     pub counters: Counters,
     response: Vec<u8>,
+    journal: Vec<u8>,
 }
 
 impl Lent {
@@ -25,6 +41,7 @@ impl Lent {
             list,
             counters,
             response: Vec::new(),
+            journal: Vec::new(),
         }
     }
 
@@ -38,14 +55,21 @@ impl Lent {
         )
     }
 
-    /// A response buffer of this length, all of it this byte.
-    pub fn renew_response(&mut self, length: usize, byte: u8) {
-        self.response.clear();
-        self.response.resize(length + GUARD, byte);
+    /// Buffers of these lengths, all of them this byte.
+    pub fn renew_buffers(&mut self, lengths: Lengths, byte: u8) {
+        let buffers = [&mut self.response, &mut self.journal];
+        for (buffer, length) in buffers.into_iter().zip([lengths.response, lengths.journal]) {
+            buffer.clear();
+            buffer.resize(length + GUARD, byte);
+        }
     }
 
     pub fn response(&self) -> &[u8] {
         &self.response[..self.response.len() - GUARD]
+    }
+
+    pub fn journal(&self) -> &[u8] {
+        &self.journal[..self.journal.len() - GUARD]
     }
 
     pub fn response_mut(&mut self) -> &mut [u8] {
@@ -54,19 +78,20 @@ impl Lent {
     }
 
     pub fn call_proved(&mut self, chunk: &[u8]) -> Answer {
-        let length = self.response.len() - GUARD;
+        let [response, journal] = [&mut self.response[..], &mut self.journal].map(lent_part);
         raw::call(
             chunk,
             &mut self.connection,
             &mut self.registry,
             &self.list,
             &mut self.counters,
-            &mut self.response[..length],
+            response,
+            journal,
         )
     }
 
     pub fn call_reference(&mut self, chunk: &[u8]) -> Answer {
-        let length = self.response.len() - GUARD;
+        let [response, journal] = [&mut self.response[..], &mut self.journal].map(lent_part);
         let mut counters = to_reference(&self.counters);
         let answer = reference::call(
             chunk,
@@ -74,7 +99,8 @@ impl Lent {
             &mut self.registry,
             &self.list,
             &mut counters,
-            &mut self.response[..length],
+            response,
+            journal,
         );
         self.counters = from_reference(&counters);
         match answer {
@@ -82,11 +108,13 @@ impl Lent {
                 code: 0,
                 taken: answer.taken,
                 written: answer.written,
+                recorded: answer.recorded,
             },
             Err(refusal) => Answer {
                 code: refusal.number().into(),
                 taken: 0,
                 written: 0,
+                recorded: 0,
             },
         }
     }
@@ -94,8 +122,8 @@ impl Lent {
     /// One call of each on this memory; what they say and leave is the same.
     pub fn call_both(&mut self, chunk: &[u8]) -> Answer {
         let mut reference = self.clone();
-        self.renew_response(LEAST_RESPONSE_BUFFER, 0x55);
-        reference.renew_response(LEAST_RESPONSE_BUFFER, 0x55);
+        self.renew_buffers(Lengths::LEAST, 0x55);
+        reference.renew_buffers(Lengths::LEAST, 0x55);
         let expected = reference.call_reference(chunk);
         assert_eq!(self.call_proved(chunk), expected);
         assert_eq!(self.difference(&reference), None);
@@ -124,6 +152,7 @@ impl Lent {
             ("registry", &self.registry, &other.registry),
             ("list", &self.list, &other.list),
             ("response buffer", &self.response, &other.response),
+            ("journal buffer", &self.journal, &other.journal),
         ];
         for (name, memory, other) in memories {
             let differs = |(byte, other)| byte != other;
@@ -135,6 +164,12 @@ impl Lent {
         (self.counters != other.counters)
             .then(|| format!("{:?} and {:?}", self.counters, other.counters))
     }
+}
+
+/// All but the guard.
+fn lent_part(buffer: &mut [u8]) -> &mut [u8] {
+    let length = buffer.len() - GUARD;
+    &mut buffer[..length]
 }
 
 pub fn to_reference(counters: &Counters) -> reference::Counters {

@@ -22,6 +22,7 @@ pub mod generate;
 pub mod histories;
 pub mod isolation;
 pub mod isolation_reached;
+pub mod journals;
 pub mod layout;
 pub mod lent;
 pub mod listed;

@@ -10,7 +10,8 @@ use crate::oracle::find_application;
 use crate::run::Outcomes;
 use crate::shipped::slot_names;
 use razidkot::raw::Answer;
-use razidkot::{Status, HIGHEST_COUNTER, LEAST_RESPONSE_BUFFER, LONGEST_CHUNK, LONGEST_RESPONSE};
+use razidkot::{Status, HIGHEST_COUNTER, LEAST_JOURNAL_BUFFER, LEAST_RESPONSE_BUFFER};
+use razidkot::{LONGEST_CHUNK, LONGEST_RECORD, LONGEST_RESPONSE};
 
 const KINDS: [&str; 4] = ["open empty", "open holding", "skipping", "closed"];
 
@@ -40,6 +41,8 @@ impl Reached {
                 self.count_key(before, &chunk[..answer.taken], response);
             }
             self.outcomes.count(list_reached(&before.list));
+            self.outcomes
+                .count(record_reached(&after.journal()[..answer.recorded]));
         }
         self.count_served(before, after);
         if after.registry != before.registry {
@@ -116,6 +119,7 @@ impl Reached {
     /// A test that never reaches an outcome could not fail on it.
     pub fn assert_all(&self, least: u64) {
         self.outcomes.assert_often(&expected(), least);
+        self.outcomes.assert_often(&["longest record"], least / 5);
         // Many more cases, so that there are fewer of each.
         self.outcomes.assert_often(&listed::expected(), least / 5);
         self.outcomes
@@ -148,6 +152,15 @@ fn opcode_reached(opcode: u16) -> String {
 
 fn verify_reached(status: u16) -> String {
     format!("verify with status {status}")
+}
+
+/// By its tag; the longest has one of its own.
+fn record_reached(record: &[u8]) -> String {
+    match (record.first(), record.len()) {
+        (None, _) => "no record".to_string(),
+        (_, LONGEST_RECORD) => "longest record".to_string(),
+        (Some(tag), _) => format!("record with tag {tag}"),
+    }
 }
 
 /// Of a good list.
@@ -192,6 +205,7 @@ fn applying(lent: &Lent, chunk: &[u8]) -> impl Iterator<Item = u32> {
         !reference::registry_is_well_formed(&lent.registry),
         highest > Some(HIGHEST_COUNTER),
         !reference::list_is_well_formed(&lent.list),
+        lent.journal().len() < LEAST_JOURNAL_BUFFER,
     ];
     (1..)
         .zip(applies)
@@ -203,9 +217,9 @@ fn expected() -> Vec<String> {
     let statuses = std::iter::once(Status::Success).chain(Status::REFUSED);
     let statuses = statuses
         .flat_map(|status| [true, false].map(|whole| status_reached(status.number(), whole)));
-    let codes = (1..=6).map(|code| format!("C{code}"));
-    let pairs = (1..=6)
-        .flat_map(|code| (code + 1..=6).map(move |later| format!("C{code} before C{later}")));
+    let codes = (1..=7).map(|code| format!("C{code}"));
+    let pairs = (1..=7)
+        .flat_map(|code| (code + 1..=7).map(move |later| format!("C{code} before C{later}")));
     let kinds = KINDS
         .into_iter()
         .flat_map(|kind| [kind.to_string(), format!("{kind}, empty chunk")]);
@@ -225,6 +239,7 @@ fn expected() -> Vec<String> {
     let lines = (0..8).map(|line| format!("served line {line}"));
     let others = ["served unauthenticated", "slot freed", "longest response"].map(str::to_string);
     let lists = ["no pairs", "a pair", "some pairs", "64 pairs"].map(str::to_string);
+    let records = ["no record", "record with tag 2", "record with tag 3"].map(str::to_string);
     statuses
         .chain(codes)
         .chain(pairs)
@@ -235,5 +250,6 @@ fn expected() -> Vec<String> {
         .chain(lines)
         .chain(others)
         .chain(lists)
+        .chain(records)
         .collect()
 }

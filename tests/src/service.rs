@@ -3,19 +3,20 @@
 
 use crate::ask::{record, registry_of};
 use crate::lent::to_reference;
-use razidkot::{Buffers, Connection, List, Registry, Service, LONGEST_CHUNK};
+use razidkot::{Buffers, Connection, List, NoJournal, Registry, Service, LONGEST_CHUNK};
 use reference::rules;
 
 /// A service with a roster of these names, no keys, and a good list.
-fn service_of(names: &[Vec<u8>], list: &[u8]) -> Service {
+fn service_of(names: &[Vec<u8>], list: &[u8]) -> Service<NoJournal> {
     let roster: Vec<u8> = names.iter().flat_map(|name| record(1, name)).collect();
     let registry = Registry::load(&roster).expect("a good roster");
-    Service::new(registry, List::from_bytes(list).expect("a good list"))
+    let list = List::from_bytes(list).expect("a good list");
+    Service::new(registry, list, NoJournal)
 }
 
 /// Hands the stream over in chunks of these sizes, over and over; gives the responses.
 pub fn send(
-    service: &mut Service,
+    service: &mut Service<NoJournal>,
     connection: &mut Connection,
     stream: &[u8],
     sizes: &[usize],

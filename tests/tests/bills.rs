@@ -4,7 +4,7 @@ use razidkot::raw::{self, NoBill};
 use razidkot_tests::case::{Case, Fault};
 use razidkot_tests::generate::{registry, Filling, Random};
 use razidkot_tests::layout::{set_uses, used_places, LINES, SLOTS};
-use razidkot_tests::lent::{counter_mut, to_reference, Lent, COUNTERS};
+use razidkot_tests::lent::{counter_mut, to_reference, Lengths, Lent, COUNTERS};
 use razidkot_tests::listed::MOST_USES;
 use razidkot_tests::reached::kind_of;
 use razidkot_tests::run::{for_seeds, Outcomes};
@@ -34,15 +34,16 @@ fn expected(lent: &Lent, length: usize) -> (Result<usize, NoBill>, Vec<u8>) {
     (Ok(text.len()), out)
 }
 
-/// The memory of a case, with each fault of its calls but those of buffer and chunk.
+/// The memory of a case, with each fault of its calls but those of buffers and chunk.
 fn some_memory(seed: u64) -> Vec<Lent> {
     let case = Case::generate(seed);
     let mut memory = vec![case.lent()];
+    let mut lengths = Lengths::LEAST;
     for fault in case.faults.iter().flat_map(|call| &call.faults) {
         let mut lent = case.lent();
         match fault {
-            Fault::ResponseLength(_) | Fault::ChunkLength(_) => continue,
-            fault => fault.apply(&mut lent, &mut Vec::new(), &mut 0),
+            Fault::ResponseLength(_) | Fault::ChunkLength(_) | Fault::JournalLength(_) => continue,
+            fault => fault.apply(&mut lent, &mut Vec::new(), &mut lengths),
         }
         memory.push(lent);
     }

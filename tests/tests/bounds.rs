@@ -4,7 +4,7 @@
 use razidkot::Refusal;
 use razidkot_tests::ask::*;
 use razidkot_tests::layout::{Key, SLOTS};
-use razidkot_tests::lent::Lent;
+use razidkot_tests::lent::{Lengths, Lent};
 use razidkot_tests::requests::{with_header_size, with_lengths};
 use razidkot_tests::service;
 
@@ -176,12 +176,13 @@ fn a_ninth_import_under_a_held_name_already_exists() {
 }
 
 #[test]
-fn a_buffer_of_1_024_bytes_is_enough_and_one_of_1_023_is_not() {
+fn buffers_of_1_024_bytes_are_enough_and_one_of_1_023_is_not() {
     let mut lent = Lent::fresh(&registry_of(&[]), b"");
-    let mut call = |buffer| {
-        lent.renew_response(buffer, 0x55);
+    let mut call = |response, journal| {
+        lent.renew_buffers(Lengths { response, journal }, 0x55);
         lent.call_proved(&ping()).result()
     };
-    assert_eq!(call(1_023), Err(Refusal::ResponseBufferTooSmall));
-    assert_eq!(call(1_024).map(|answer| answer.written), Ok(28));
+    assert_eq!(call(1_023, 0), Err(Refusal::ResponseBufferTooSmall));
+    assert_eq!(call(1_024, 1_023), Err(Refusal::JournalBufferTooSmall));
+    assert_eq!(call(1_024, 1_024).map(|answer| answer.written), Ok(28));
 }

@@ -1,5 +1,5 @@
 //! The compiled call against the reference's, on generated memory, lists and streams: what it says,
-//! every byte of buffer, connection, registry and list, and every counter.
+//! every byte of buffers, connection, registry and list, and every counter.
 
 use razidkot::{Connection, Counters, Registry, CONNECTION_SIZE, LONGEST_CHUNK};
 use razidkot_tests::ask::{record, registry_of};
@@ -75,6 +75,12 @@ fn sizes_and_statuses_are_those_of_the_reference() {
         razidkot::LEAST_RESPONSE_BUFFER,
         reference::MIN_RESPONSE_BUFFER
     );
+    assert_eq!(
+        razidkot::LEAST_JOURNAL_BUFFER,
+        reference::MIN_JOURNAL_BUFFER
+    );
+    assert_eq!(razidkot::LONGEST_RECORD, reference::LONGEST_RECORD);
+    assert_eq!(razidkot::JOURNAL_STATE_SIZE, reference::JOURNAL_STATE_SIZE);
     assert_eq!(razidkot::LONGEST_CHUNK, reference::MAX_CHUNK);
     assert_eq!(razidkot::LONGEST_RESPONSE, reference::LONGEST_RESPONSE);
     let statuses = razidkot::Status::REFUSED.map(|status| status.number());

@@ -236,7 +236,7 @@ fn the_client_builds_from_what_is_installed() {
 
 #[test]
 fn the_pages_have_each_function_as_its_header_declares_it() {
-    for ((header, page), least) in PAGES.into_iter().zip([5, 9]) {
+    for ((header, page), least) in PAGES.into_iter().zip([7, 9]) {
         let declared = declarations(header);
         assert!(declared.len() >= least, "{header}: {declared:?}");
         let text = even(&read(repository().join("man").join(page)));
@@ -286,5 +286,5 @@ fn man_shows_every_installed_page_without_a_warning() {
         assert!(printed(&mut man).contains(name), "{file}");
         shown += 1;
     }
-    assert_eq!(shown, 18);
+    assert_eq!(shown, 20);
 }

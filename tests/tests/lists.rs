@@ -6,7 +6,7 @@ use razidkot::{List, Refusal};
 use razidkot_tests::ask::*;
 use razidkot_tests::generate::{registry, Filling};
 use razidkot_tests::layout::Key;
-use razidkot_tests::lent::Lent;
+use razidkot_tests::lent::{Lengths, Lent};
 use razidkot_tests::lists::*;
 use razidkot_tests::run::{for_seeds, Outcomes};
 use razidkot_tests::service;
@@ -25,7 +25,7 @@ fn ping() -> Vec<u8> {
 /// Whether a Ping with this list is taken; a refused call says C6 and changes nothing.
 fn is_taken(registry: &[u8], list: &[u8]) -> bool {
     let mut lent = Lent::fresh(registry, list);
-    lent.renew_response(1_024, 0x55);
+    lent.renew_buffers(Lengths::LEAST, 0x55);
     let before = lent.clone();
     let answer = lent.call_both(&ping());
     if answer.code == 0 {
@@ -36,6 +36,7 @@ fn is_taken(registry: &[u8], list: &[u8]) -> bool {
         code: LIST_ILL_FORMED,
         taken: 0,
         written: 0,
+        recorded: 0,
     };
     assert_eq!(answer, refused);
     assert!(lent == before, "a refused call changes nothing");

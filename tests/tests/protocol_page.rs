@@ -8,7 +8,7 @@ use page::drafts::drafts;
 use page::labels::{header_fields, provider_text, Field, Headers};
 use page::play::{play, Setting};
 use page::text::{examples, number, page, repository_file, table, Example};
-use razidkot::{Connection, List, Refusal, Registry, RosterFault, Service, Status};
+use razidkot::{Connection, List, NoJournal, Refusal, Registry, RosterFault, Service, Status};
 use razidkot::{LONGEST_LIST, MOST_LISTED_KEYS};
 use razidkot_client::{Opcode, Provider, ReadRefusal, WriteRefusal};
 use razidkot_tests::ask::{request, PING};
@@ -379,19 +379,20 @@ fn the_fields_are_those_of_the_proto_file() {
 // ---- The order of judgement
 
 /// A service of this roster, without shipped keys.
-fn service_of(roster: &[u8]) -> Service {
-    Service::new(Registry::load(roster).expect("a roster"), List::new())
+fn service_of(roster: &[u8]) -> Service<NoJournal> {
+    let registry = Registry::load(roster).expect("a roster");
+    Service::new(registry, List::new(), NoJournal)
 }
 
 /// The status of each response to these bytes, on a fresh connection.
-fn statuses(service: &mut Service, bytes: &[u8]) -> Vec<u64> {
+fn statuses(service: &mut Service<NoJournal>, bytes: &[u8]) -> Vec<u64> {
     let responses = send(service, &mut Connection::open(), bytes, &[]);
     let status = |response: &Vec<u8>| u16::from_le_bytes([response[24], response[25]]).into();
     responses.iter().map(status).collect()
 }
 
 /// A service in which `ct` holds as many keys as it may: `a` and those behind it.
-fn full_service() -> Service {
+fn full_service() -> Service<NoJournal> {
     let mut service = service_of(b"\x01\x02\0ct");
     for name in (b'a'..).take(SLOTS) {
         let mut import = drafts()[0].bytes();

@@ -3,7 +3,7 @@
 use crate::arguments::Arguments;
 use crate::request::Request;
 use crate::{input, list, roster, Failure};
-use razidkot::{Buffers, Connection, Held, List, Service, Status, LONGEST_CHUNK};
+use razidkot::{Buffers, Connection, Held, List, NoJournal, Service, Status, LONGEST_CHUNK};
 use std::fs::File;
 use std::io::{self, Write};
 use std::path::PathBuf;
@@ -27,7 +27,7 @@ pub fn run(mut arguments: Arguments, out: &mut dyn Write) -> Result<(), Failure>
 
     let registry = roster::load(&roster)?;
     let list = list.map_or(Ok(List::new()), |file| list::load(&file))?;
-    let mut capture = Capture::new(Service::new(registry, list));
+    let mut capture = Capture::new(Service::new(registry, list, NoJournal));
     let failed = |error| Failure::at(&file, error);
     let mut stream = File::open(&file).map_err(failed)?;
     let mut chunk = vec![0; LONGEST_CHUNK];
@@ -43,14 +43,14 @@ pub fn run(mut arguments: Arguments, out: &mut dyn Write) -> Result<(), Failure>
 
 /// The service, and what is needed to show the request that it is at.
 struct Capture {
-    service: Service,
+    service: Service<NoJournal>,
     connection: Connection,
     /// The first bytes of that request.
     request: Vec<u8>,
 }
 
 impl Capture {
-    fn new(service: Service) -> Capture {
+    fn new(service: Service<NoJournal>) -> Capture {
         Capture {
             service,
             connection: Connection::open(),

@@ -28,12 +28,12 @@ impl Connection {
     /// What it holds of a request that is not finished.
     ///
     /// ```
-    /// use razidkot::{Buffers, Connection, Held, List, Registry, Service};
+    /// use razidkot::{Buffers, Connection, Held, List, NoJournal, Registry, Service};
     ///
     /// let mut connection = Connection::open();
     /// assert_eq!(connection.held(), Held::Beginning(b""));
     ///
-    /// let mut service = Service::new(Registry::load(b"")?, List::new());
+    /// let mut service = Service::new(Registry::load(b"")?, List::new(), NoJournal);
     /// service.call(&mut connection, b"\x10\xA7\xC0", &mut Buffers::new())?;
     /// assert_eq!(connection.held(), Held::Beginning(b"\x10\xA7\xC0"));
     /// assert_eq!(connection.held().count(), 3, "as the bill says");

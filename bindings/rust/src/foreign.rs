@@ -4,10 +4,10 @@
 //! are proved to read and write nothing but what they are lent, and none has a precondition. What
 //! the header leaves undefined can't come from references: they are valid for their length and
 //! aligned, and what is lent `&mut` overlaps nothing else. A slice of length 0 is not read, so that
-//! its pointer may dangle. `Counters`, `Answer` and `BillAnswer` are `repr(C)`,
+//! its pointer may dangle. `Counters`, `Answer`, `BillAnswer` and `JournalAnswer` are `repr(C)`,
 //! field by field those of the header.
 
-use crate::raw::{Answer, BillAnswer};
+use crate::raw::{Answer, BillAnswer, JournalAnswer};
 use crate::Counters;
 
 unsafe extern "C" {
@@ -31,7 +31,18 @@ unsafe extern "C" {
         counters: &mut Counters,
         response: *mut u8,
         response_length: usize,
+        journal: *mut u8,
+        journal_length: usize,
     ) -> Answer;
+    fn razidkot_journal_begin(state: *mut u8, length: usize) -> u32;
+    fn razidkot_journal_read(
+        state: *mut u8,
+        state_length: usize,
+        registry: *mut u8,
+        registry_length: usize,
+        chunk: *const u8,
+        chunk_length: usize,
+    ) -> JournalAnswer;
     fn razidkot_bill(
         out: *mut u8,
         out_length: usize,
@@ -69,6 +80,7 @@ pub fn call(
     list: &[u8],
     counters: &mut Counters,
     response: &mut [u8],
+    journal: &mut [u8],
 ) -> Answer {
     unsafe {
         razidkot_call(
@@ -83,6 +95,25 @@ pub fn call(
             counters,
             response.as_mut_ptr(),
             response.len(),
+            journal.as_mut_ptr(),
+            journal.len(),
+        )
+    }
+}
+
+pub fn journal_begin(state: &mut [u8]) -> u32 {
+    unsafe { razidkot_journal_begin(state.as_mut_ptr(), state.len()) }
+}
+
+pub fn journal_read(state: &mut [u8], registry: &mut [u8], chunk: &[u8]) -> JournalAnswer {
+    unsafe {
+        razidkot_journal_read(
+            state.as_mut_ptr(),
+            state.len(),
+            registry.as_mut_ptr(),
+            registry.len(),
+            chunk.as_ptr(),
+            chunk.len(),
         )
     }
 }

@@ -70,7 +70,7 @@ fn request_length(request: &[u8]) -> u64 {
 #[cfg(test)]
 mod tests {
     use super::Held;
-    use crate::{Buffers, Connection, List, Registry, Service};
+    use crate::{Buffers, Connection, List, NoJournal, Registry, Service};
 
     /// A Ping with this header size and these lengths of body and auth bytes; zeros fill it up.
     fn request(header: u16, content: u32, auth: u16) -> Vec<u8> {
@@ -88,7 +88,7 @@ mod tests {
     /// The connection behind these bytes, and the bill's `held` of it.
     fn behind(bytes: &[u8]) -> (Connection, u64) {
         let registry = Registry::load(b"").expect("a roster of nobody");
-        let mut service = Service::new(registry, List::new());
+        let mut service = Service::new(registry, List::new(), NoJournal);
         let (mut connection, mut buffers) = (Connection::open(), Buffers::new());
         let mut rest = bytes;
         while !rest.is_empty() {

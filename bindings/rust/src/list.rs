@@ -1,6 +1,7 @@
 //! The list of keys that every site is handed: document 02, "Keys we ship"; docs/LAYOUT.md.
 
-use crate::{raw, Counters, CONNECTION_SIZE, LEAST_RESPONSE_BUFFER, REGISTRY_SIZE};
+use crate::{raw, Counters, CONNECTION_SIZE, REGISTRY_SIZE};
+use crate::{LEAST_JOURNAL_BUFFER, LEAST_RESPONSE_BUFFER};
 use std::fmt;
 
 /// How many keys a list may have.
@@ -114,8 +115,9 @@ fn record(tag: u8, value: &[u8], bytes: &mut Vec<u8>) -> Option<()> {
 fn is_taken(list: &[u8]) -> bool {
     let (connection, registry) = (&mut [0; CONNECTION_SIZE], &mut [0; REGISTRY_SIZE]);
     let response = &mut [0; LEAST_RESPONSE_BUFFER];
+    let journal = &mut [0; LEAST_JOURNAL_BUFFER];
     let counters = &mut Counters::default();
-    let judged = raw::call(b"", connection, registry, list, counters, response);
+    let judged = raw::call(b"", connection, registry, list, counters, response, journal);
     judged.result().is_ok()
 }
 

@@ -1,9 +1,10 @@
-//! The same functions on any memory, for callers that keep registry, connection and list themselves.
-//! Memory of a wrong size or content is refused, and stays as it was.
+//! The same functions on any memory, for callers that keep registry, connection, list and journal
+//! themselves. Memory of a wrong size or content is refused, and stays as it was.
 
-use crate::{foreign, Counters, Refusal, RosterFault};
+use crate::{foreign, Counters, JournalFault, Refusal, RosterFault};
 
-/// The memory of a connection has another size than [`CONNECTION_SIZE`](crate::CONNECTION_SIZE).
+/// The memory of a connection has another size than [`CONNECTION_SIZE`](crate::CONNECTION_SIZE), or
+/// that of a journal's reader another than [`JOURNAL_STATE_SIZE`](crate::JOURNAL_STATE_SIZE).
 #[derive(Clone, Copy, Debug, PartialEq, Eq)]
 pub struct WrongSize;
 
@@ -47,12 +48,15 @@ pub fn open_connection(memory: &mut [u8]) -> Result<(), WrongSize> {
 #[derive(Clone, Copy, Debug, PartialEq, Eq)]
 #[repr(C)]
 pub struct Answer {
-    /// 0 for a call that is taken, else the digit of C1 to C6.
+    /// 0 for a call that is taken, else the digit of C1 to C7.
     pub code: u32,
     /// Bytes of the chunk; 0 if the call is not taken.
     pub taken: usize,
     /// Bytes of response; 0 if none is due yet or the call is not taken.
     pub written: usize,
+    /// Bytes of record; 0 but for an import or destroy that was served. Put them on disk before the
+    /// response is sent.
+    pub recorded: usize,
 }
 
 impl Answer {
@@ -66,22 +70,26 @@ impl Answer {
 }
 
 /// [`Service::call`](crate::Service::call) on any memory. The response is written to the front of
-/// `response`, and bytes past it stay. The response buffer and the chunk are judged before connection,
-/// registry, counters and list.
+/// `response` and the record to the front of `journal`; bytes past them stay. The response buffer and
+/// the chunk are judged before connection, registry, counters and list, and the journal's buffer after
+/// them.
 ///
 /// ```
 /// use razidkot::{raw, Counters, Refusal, CONNECTION_SIZE, REGISTRY_SIZE};
 ///
 /// let (mut connection, mut registry) = ([0; CONNECTION_SIZE], [0; REGISTRY_SIZE]);
-/// connection[0] = 3; // No such kind.
+/// let (mut response, mut journal) = ([0; 1_024], [0; 1_024]);
 /// let mut counters = Counters::default();
-/// let response = &mut [0; 1_024];
-/// let answer = raw::call(b"", &mut connection, &mut registry, b"", &mut counters, response);
-/// assert_eq!(answer.result(), Err(Refusal::ConnectionIllFormed));
-/// connection[0] = 0;
+/// let mut judge = |kind, list: &[u8], journal: &mut [u8]| {
+///     connection[0] = kind;
+///     let (connection, registry) = (&mut connection, &mut registry);
+///     raw::call(b"", connection, registry, list, &mut counters, &mut response, journal).result()
+/// };
+/// assert_eq!(judge(3, b"", &mut journal), Err(Refusal::ConnectionIllFormed)); // No such kind.
 /// let name = b"\x01\x01\x00k"; // And no data behind it.
-/// let answer = raw::call(b"", &mut connection, &mut registry, name, &mut counters, response);
-/// assert_eq!(answer.result(), Err(Refusal::ListIllFormed));
+/// assert_eq!(judge(0, name, &mut journal), Err(Refusal::ListIllFormed));
+/// assert_eq!(judge(0, b"", &mut journal[1..]), Err(Refusal::JournalBufferTooSmall));
+/// assert_eq!(judge(0, b"", &mut journal).map(|answer| answer.recorded), Ok(0));
 /// ```
 pub fn call(
     chunk: &[u8],
@@ -90,8 +98,92 @@ pub fn call(
     list: &[u8],
     counters: &mut Counters,
     response: &mut [u8],
+    journal: &mut [u8],
 ) -> Answer {
-    foreign::call(chunk, connection, registry, list, counters, response)
+    foreign::call(
+        chunk, connection, registry, list, counters, response, journal,
+    )
+}
+
+/// Makes `state` a journal's reader that has read nothing, whatever it held.
+///
+/// ```
+/// use razidkot::{raw, JOURNAL_STATE_SIZE};
+///
+/// let mut state = [0xEE; JOURNAL_STATE_SIZE];
+/// assert_eq!(raw::journal_begin(&mut state), Ok(()));
+/// assert_eq!(raw::journal_begin(&mut state[1..]), Err(raw::WrongSize));
+/// ```
+pub fn journal_begin(state: &mut [u8]) -> Result<(), WrongSize> {
+    match foreign::journal_begin(state) {
+        0 => Ok(()),
+        _ => Err(WrongSize),
+    }
+}
+
+/// What reading a journal says, as it comes from the archive: the header's `razidkot_journal_answer`.
+#[derive(Clone, Copy, Debug, PartialEq, Eq)]
+#[repr(C)]
+pub struct JournalAnswer {
+    /// 0 where the bytes so far end with a record, 1 to 3 for J1 to J3, 4 where they end within a
+    /// record, 5 for an ill-formed registry, 6 for an ill-formed state.
+    pub code: u32,
+    /// Bytes of the chunk; 0 if nothing is read.
+    pub taken: usize,
+    /// Bytes of the records that are carried out; 0 if nothing is read.
+    pub kept: u64,
+}
+
+/// What the bytes of a journal so far are.
+#[derive(Clone, Copy, Debug, PartialEq, Eq)]
+pub enum JournalEnd {
+    /// Whole records.
+    AtRecord,
+    /// Whole records, and the beginning of another.
+    WithinRecord,
+    /// Whole records, and one that is refused. Nothing behind it is read.
+    Refused(JournalFault),
+}
+
+/// Why nothing of a journal is read, in the order in which it is judged.
+#[derive(Clone, Copy, Debug, PartialEq, Eq)]
+pub enum NotRead {
+    /// As C4 of a call.
+    RegistryIllFormed,
+    /// The state has another size than [`JOURNAL_STATE_SIZE`](crate::JOURNAL_STATE_SIZE), or no
+    /// reader in it.
+    StateIllFormed,
+}
+
+impl JournalAnswer {
+    /// What the bytes so far are; else why nothing is read.
+    pub fn result(self) -> Result<JournalEnd, NotRead> {
+        match self.code {
+            0 => Ok(JournalEnd::AtRecord),
+            4 => Ok(JournalEnd::WithinRecord),
+            5 => Err(NotRead::RegistryIllFormed),
+            6 => Err(NotRead::StateIllFormed),
+            code => Ok(JournalEnd::Refused(JournalFault::ALL[code as usize - 1])),
+        }
+    }
+}
+
+/// [`JournalReader::read`](crate::JournalReader::read) on any memory: reads on in a journal, and carries
+/// out in `registry` each record that ends in this chunk. The registry is judged on every call, so
+/// that long chunks are quicker: 64 KiB, say.
+///
+/// ```
+/// use razidkot::{raw, JOURNAL_STATE_SIZE, REGISTRY_SIZE};
+///
+/// let (mut state, mut registry) = ([0; JOURNAL_STATE_SIZE], [0; REGISTRY_SIZE]);
+/// raw::load_roster(b"\x01\x01\x00b", &mut registry).expect("a good roster");
+/// raw::journal_begin(&mut state).expect("a state of the right size");
+/// let answer = raw::journal_read(&mut state, &mut registry, b"\x02\x09\x00\x00");
+/// assert_eq!(answer.result(), Ok(raw::JournalEnd::WithinRecord));
+/// assert_eq!((answer.taken, answer.kept), (4, 0));
+/// ```
+pub fn journal_read(state: &mut [u8], registry: &mut [u8], chunk: &[u8]) -> JournalAnswer {
+    foreign::journal_read(state, registry, chunk)
 }
 
 /// Why there is no bill, in the order in which it is judged.

@@ -2,7 +2,7 @@
 
 use std::fmt;
 
-/// Why a call is not taken: the papers' C1 to C6, the first that applies.
+/// Why a call is not taken: the papers' C1 to C7, the first that applies.
 #[derive(Clone, Copy, Debug, PartialEq, Eq)]
 #[repr(u8)]
 pub enum Refusal {
@@ -20,20 +20,23 @@ pub enum Refusal {
     CounterTooHigh = 5,
     /// C6: an ill-formed list. [`List::from_bytes`](crate::List::from_bytes) says why.
     ListIllFormed = 6,
+    /// C7: fewer than [`LEAST_JOURNAL_BUFFER`](crate::LEAST_JOURNAL_BUFFER) bytes.
+    JournalBufferTooSmall = 7,
 }
 
 impl Refusal {
     /// Every refusal, in the papers' order.
-    pub const ALL: [Refusal; 6] = [
+    pub const ALL: [Refusal; 7] = [
         Refusal::ResponseBufferTooSmall,
         Refusal::ChunkTooLong,
         Refusal::ConnectionIllFormed,
         Refusal::RegistryIllFormed,
         Refusal::CounterTooHigh,
         Refusal::ListIllFormed,
+        Refusal::JournalBufferTooSmall,
     ];
 
-    /// The digit of C1 to C6.
+    /// The digit of C1 to C7.
     pub fn number(self) -> u8 {
         self as u8
     }

@@ -1,7 +1,8 @@
 //! The registry: an application for each roster line, and the public keys of each.
 
 use crate::application::{applications, Application};
-use crate::{raw, Counters, CONNECTION_SIZE, LEAST_RESPONSE_BUFFER, REGISTRY_SIZE};
+use crate::{raw, Counters, CONNECTION_SIZE, REGISTRY_SIZE};
+use crate::{LEAST_JOURNAL_BUFFER, LEAST_RESPONSE_BUFFER};
 use std::fmt;
 
 /// A registry of public keys, well formed always: only calls change it.
@@ -49,6 +50,7 @@ impl Registry {
         let mut memory = Box::<[u8]>::from(bytes);
         let connection = &mut [0; CONNECTION_SIZE];
         let response = &mut [0; LEAST_RESPONSE_BUFFER];
+        let journal = &mut [0; LEAST_JOURNAL_BUFFER];
         // An empty chunk alters nothing; all else is as it should be, so that no other code is said.
         let judged = raw::call(
             b"",
@@ -57,6 +59,7 @@ impl Registry {
             b"",
             &mut Counters::default(),
             response,
+            journal,
         );
         match judged.result() {
             Ok(_) => Ok(Registry { memory }),

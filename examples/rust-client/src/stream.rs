@@ -1,12 +1,12 @@
 //! The other end, in the same program: a stream to the service. What is written to it is handed to
 //! calls, and their responses are there to be read.
 
-use razidkot::{Buffers, Connection, List, Registry, RosterFault, Service};
+use razidkot::{Buffers, Connection, List, NoJournal, Registry, RosterFault, Service};
 use std::collections::VecDeque;
 use std::io::{self, Read, Write};
 
 pub struct Stream {
-    service: Service,
+    service: Service<NoJournal>,
     connection: Connection,
     responses: VecDeque<u8>,
 }
@@ -14,7 +14,7 @@ pub struct Stream {
 impl Stream {
     pub fn open(roster: &[u8]) -> Result<Stream, RosterFault> {
         Ok(Stream {
-            service: Service::new(Registry::load(roster)?, List::new()),
+            service: Service::new(Registry::load(roster)?, List::new(), NoJournal),
             connection: Connection::open(),
             responses: VecDeque::new(),
         })

@@ -1,7 +1,8 @@
 //! How a connection ended, and what was lost with it.
 
 use crate::Say;
-use razidkot::Refusal;
+use razidkot::CallError;
+use std::convert::Infallible;
 use std::fmt;
 use std::io;
 
@@ -33,7 +34,7 @@ pub enum Fault {
     Read(io::Error),
     /// So many bytes had been read and were not taken.
     NotTaken {
-        refusal: Refusal,
+        error: CallError<Infallible>,
         bytes: usize,
     },
 }
@@ -71,7 +72,7 @@ impl fmt::Display for Fault {
     fn fmt(&self, out: &mut fmt::Formatter) -> fmt::Result {
         match self {
             Fault::Read(error) => write!(out, "nothing more can be read: {error}"),
-            Fault::NotTaken { refusal, bytes } => write!(out, "{refusal}, {bytes} bytes lost"),
+            Fault::NotTaken { error, bytes } => write!(out, "{error}, {bytes} bytes lost"),
         }
     }
 }

@@ -67,8 +67,8 @@ impl Peer<'_> {
             let answer = self
                 .shared
                 .call(connection, rest, left, &mut buffers)
-                .map_err(|refusal| Fault::NotTaken {
-                    refusal,
+                .map_err(|error| Fault::NotTaken {
+                    error,
                     bytes: left.len(),
                 })?;
             if let Some(response) = answer.response {

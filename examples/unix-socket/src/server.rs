@@ -3,7 +3,7 @@
 use crate::address::{self, Address, SocketError};
 use crate::listener::{Listener, Sum};
 use crate::{Capture, CaptureError, Captured, Say, Shared};
-use razidkot::{Counters, List, ListFault, Registry, RosterFault, Service};
+use razidkot::{Counters, List, ListFault, NoJournal, Registry, RosterFault, Service};
 use std::fmt;
 use std::io;
 use std::net::Shutdown;
@@ -74,7 +74,7 @@ impl Server {
     pub fn start(settings: Settings) -> Result<Server, StartError> {
         let registry = Registry::load(settings.roster).map_err(StartError::Roster)?;
         let list = List::from_bytes(settings.list).map_err(StartError::List)?;
-        let shared = Arc::new(Shared::new(Service::new(registry, list)));
+        let shared = Arc::new(Shared::new(Service::new(registry, list, NoJournal)));
         let no_socket = |error| StartError::Socket(settings.socket.to_path_buf(), error);
         let (listener, address) =
             address::listen(settings.socket, settings.say).map_err(no_socket)?;

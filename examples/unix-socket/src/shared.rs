@@ -1,7 +1,8 @@
 //! One service and one capture for all connections.
 
 use crate::{Capture, Captured, Rest};
-use razidkot::{Answer, Buffers, Connection, Counters, Refusal, Service};
+use razidkot::{Answer, Buffers, CallError, Connection, Counters, NoJournal, Service};
+use std::convert::Infallible;
 use std::sync::{Mutex, MutexGuard};
 
 /// All that connections share, behind one lock, so that each call is whole: no other connection sees
@@ -11,13 +12,13 @@ pub struct Shared {
 }
 
 struct Locked {
-    service: Service,
+    service: Service<NoJournal>,
     capture: Option<Capture>,
 }
 
 impl Shared {
     /// Nothing is captured yet.
-    pub fn new(service: Service) -> Shared {
+    pub fn new(service: Service<NoJournal>) -> Shared {
         Shared {
             locked: Mutex::new(Locked {
                 service,
@@ -42,7 +43,7 @@ impl Shared {
         rest: &mut Rest,
         chunk: &[u8],
         buffers: &'a mut Buffers,
-    ) -> Result<Answer<'a>, Refusal> {
+    ) -> Result<Answer<'a>, CallError<Infallible>> {
         let locked = &mut *self.lock();
         let answer = locked.service.call(connection, chunk, buffers)?;
         rest.add(&chunk[..answer.taken]);

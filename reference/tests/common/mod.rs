@@ -16,7 +16,7 @@ pub mod lists;
 pub mod vectors;
 
 use reference::{
-    call_with_journal, load_roster, Counters, Refusal, Status, Taken, CONNECTION_SIZE, MAX_CHUNK,
+    call, load_roster, Counters, Refusal, Status, Taken, CONNECTION_SIZE, MAX_CHUNK,
     MIN_JOURNAL_BUFFER, MIN_RESPONSE_BUFFER, REGISTRY_SIZE,
 };
 
@@ -419,7 +419,7 @@ impl Service {
     }
 
     pub fn call(&mut self, chunk: &[u8]) -> Result<Taken, Refusal> {
-        call_with_journal(
+        call(
             chunk,
             &mut self.connection,
             &mut self.registry,

@@ -4,7 +4,8 @@ use super::labels::{self, Field, Headers};
 use super::text::{line_of, steps, without_names, Example, Line, Step};
 use super::wanted::Wanted;
 use super::Fault;
-use razidkot::{Buffers, Connection, Counters, List, Registry, Service, Status, LONGEST_CHUNK};
+use razidkot::LONGEST_CHUNK;
+use razidkot::{Buffers, Connection, Counters, List, NoJournal, Registry, Service, Status};
 use razidkot_client::{Output, Reader, Reading, Response};
 use razidkot_tests::lent::Lent;
 use std::collections::{BTreeSet, VecDeque};
@@ -20,7 +21,7 @@ pub struct Setting {
 
 pub struct Play<'a> {
     setting: &'a Setting,
-    service: Service,
+    service: Service<NoJournal>,
     connection: Connection,
     /// What is sent and not yet handed over: several requests may share a chunk.
     unsent: Vec<u8>,
@@ -113,7 +114,7 @@ impl<'a> Play<'a> {
         let registry = Registry::load(&setting.roster).map_err(|fault| fault.to_string())?;
         Ok(Play {
             setting,
-            service: Service::new(registry, List::new()),
+            service: Service::new(registry, List::new(), NoJournal),
             connection: Connection::open(),
             unsent: Vec::new(),
             ends: VecDeque::new(),
@@ -146,7 +147,7 @@ impl<'a> Play<'a> {
         let loaded = Registry::load(&joined(&parsed(lines)?));
         let registry = loaded.map_err(|fault| fault.to_string())?;
         let counters = self.service.counters().clone();
-        self.service = Service::new(registry, self.service.list().clone());
+        self.service = Service::new(registry, self.service.list().clone(), NoJournal);
         *self.service.counters_mut() = counters;
         Ok(())
     }
@@ -213,7 +214,7 @@ impl<'a> Play<'a> {
         let (mut rest, mut buffers) = (chunk, Buffers::new());
         while !rest.is_empty() {
             let answer = self.service.call(&mut self.connection, rest, &mut buffers);
-            let answer = answer.map_err(|refusal| refusal.to_string())?;
+            let answer = answer.map_err(|error| error.to_string())?;
             let taken = self.service.counters().taken;
             let response = answer.response.map(|response| (taken, response.to_vec()));
             self.responses.extend(response);
