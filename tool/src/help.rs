@@ -5,7 +5,7 @@ use std::ffi::OsStr;
 use std::io::Write;
 
 const TOP: &str = "\
-razidkot: roster files, lists of keys, a key service's client, and captured streams
+razidkot: roster files, lists of keys, a key service's client, captured streams, and journals
 
   razidkot roster make NAME.. [-o FILE]         write a roster file
   razidkot roster show FILE                     print a roster file's names
@@ -13,6 +13,7 @@ razidkot: roster files, lists of keys, a key service's client, and captured stre
   razidkot list show FILE                       print a list's keys
   razidkot ask SOCKET OPERATION ..              ask a key service on a Unix socket
   razidkot capture show FILE --roster FILE      print a captured stream request by request
+  razidkot journal show FILE [--roster FILE]    print a journal record by record
 
 Each command has a --help of its own. `--` ends the options, for names that begin with a dash.
 The status is 0 if all is well, 1 if something failed or was refused, 2 if the command line is
@@ -187,8 +188,33 @@ many bytes came behind a close. Refused requests do not change the program's sta
   --list FILE       the list of keys that the service had; none if not said
 ";
 
+const JOURNAL: &str = "\
+razidkot journal show FILE [--roster FILE]     print a journal record by record
+";
+
+const JOURNAL_SHOW: &str = "\
+razidkot journal show FILE [--roster FILE]
+
+Prints a line for each record of the journal in FILE, which a key service writes for each import
+and destroy that it serves:
+
+  offset, length, CRC (good or bad), operation, application, the key's name in quotes; of an import
+  also bytes of data, bits, and whether the key may be exported and used to verify
+
+The operation is `tag-N` where no operation has that tag. The application is the name in quotes, or
+`line-N` where no roster says it. `unread` is what a record is too short for. Behind a record with a
+bad CRC the next one is shown from where its length says, which may be bad too. `cut` is a record at
+the end that is not whole: a power cut leaves one, and the service drops it.
+
+With a roster, a last line says what the service would restore, and the first record that it would
+refuse: J1 for a bad CRC, J2 for what is no import or destroy, J3 for a line that is not in use or
+what Import or Destroy would refuse. The program's status is 0 whatever the records are.
+
+  --roster FILE     the roster file that the service had
+";
+
 /// The words of each command, and its help.
-const TEXTS: [(&str, &str); 17] = [
+const TEXTS: [(&str, &str); 19] = [
     ("", TOP),
     ("roster", ROSTER),
     ("roster make", ROSTER_MAKE),
@@ -206,6 +232,8 @@ const TEXTS: [(&str, &str); 17] = [
     ("ask verify", ASK_VERIFY),
     ("capture", CAPTURE),
     ("capture show", CAPTURE_SHOW),
+    ("journal", JOURNAL),
+    ("journal show", JOURNAL_SHOW),
 ];
 
 /// Prints the help of the command that these words begin.

@@ -1,6 +1,5 @@
 //! The program `razidkot`: roster files and lists of keys made and shown, a key service asked over a
-//! Unix socket by the proved client, and captured streams shown request by request by the proved
-//! service. What is here reads files and the command line, and prints; nothing of it is proved.
+//! Unix socket by the proved client, and captured streams and journals shown by the proved service. What is here reads files and the command line, and prints; nothing of it is proved.
 
 mod arguments;
 mod ask;
@@ -9,6 +8,7 @@ mod failure;
 mod hash;
 mod help;
 mod input;
+mod journal;
 pub mod key;
 mod list;
 mod output;
@@ -35,6 +35,7 @@ pub fn run(words: impl IntoIterator<Item = OsString>, out: &mut dyn Write) -> Re
         Some("list") => list::run(arguments, out),
         Some("ask") => ask::run(arguments, out),
         Some("capture") => capture::run(arguments, out),
+        Some("journal") => journal::run(arguments, out),
         _ => Err(Failure::unknown("", "command", &command)),
     }
 }

@@ -6,7 +6,7 @@ use common::{ended, program, razidkot, sample};
 use std::fs::File;
 
 /// The words of each command, and how its help begins.
-const COMMANDS: [(&[&str], &str); 19] = [
+const COMMANDS: [(&[&str], &str); 21] = [
     (&[], "razidkot: "),
     (&["roster"], "razidkot roster make NAME.. [-o FILE] "),
     (
@@ -53,6 +53,11 @@ const COMMANDS: [(&[&str], &str); 19] = [
         &["capture", "show"],
         "razidkot capture show FILE --roster FILE [--list FILE]\n",
     ),
+    (&["journal"], "razidkot journal show FILE [--roster FILE] "),
+    (
+        &["journal", "show"],
+        "razidkot journal show FILE [--roster FILE]\n",
+    ),
 ];
 
 #[test]
@@ -79,6 +84,7 @@ fn the_help_of_all_names_each_command() {
         "list show",
         "ask",
         "capture show",
+        "journal show",
     ] {
         assert!(text.contains(&format!("razidkot {command} ")), "{command}");
     }
@@ -97,7 +103,7 @@ fn the_help_of_all_names_each_command() {
 }
 
 /// A command line, what is said of it, and whose help to read.
-const NOT_UNDERSTOOD: [(&str, &str, &str); 53] = [
+const NOT_UNDERSTOOD: [(&str, &str, &str); 58] = [
     ("", "a command is missing", ""),
     ("keys", "unknown command keys", ""),
     ("keys --help", "unknown command keys", ""),
@@ -235,6 +241,19 @@ const NOT_UNDERSTOOD: [(&str, &str, &str); 53] = [
         "g is one word too many",
         " capture show",
     ),
+    ("journal", "a command is missing", " journal"),
+    ("journal hide", "unknown command hide", " journal"),
+    ("journal show", "FILE is missing", " journal show"),
+    (
+        "journal show f g",
+        "g is one word too many",
+        " journal show",
+    ),
+    (
+        "journal show f --list g",
+        "--list is no option here",
+        " journal show",
+    ),
 ];
 
 #[test]
@@ -254,13 +273,14 @@ fn two_dashes_end_the_options() {
 #[test]
 fn a_full_standard_output_is_said() {
     let (roster, stream) = (sample("servers.roster"), sample("day.stream"));
-    let list = sample("servers.list");
+    let (list, journal) = (sample("servers.list"), sample("day.journal"));
     let lines = [
         words!["roster", "show", roster],
         words!["roster", "make", "a"],
         words!["list", "show", list],
         words!["list", "make", "k", roster],
         words!["capture", "show", stream, "--roster", roster],
+        words!["journal", "show", journal],
         words!["--help"],
     ];
     for line in lines {
