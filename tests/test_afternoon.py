@@ -30,10 +30,17 @@ NEEDED = [
     "razidkot ask keys.socket export ",
     "razidkot ask keys.socket export release-2027 ",
     "razidkot ask keys.socket destroy release-2027 ",
-    "kill ",
+    "kill $!",
     "razidkot-bill ",
+    "unix-socket --journal ",
+    "razidkot ask keys.socket import ",
+    "kill -KILL $!",
+    "unix-socket --journal ",
+    "razidkot ask keys.socket export ",
+    "razidkot journal show ",
+    "kill -TERM $!",
 ]
-LEAST_STEPS = 36
+LEAST_STEPS = 48
 MARK = "--- the status is"
 # Minutes, for a machine that has other work; the afternoon takes seconds.
 LONGEST = 240
@@ -156,6 +163,14 @@ class Readme(Afternoon):
         bill = printed["razidkot-bill keys.roster keys.stream keys.list"]
         self.assertTrue(bill[0].startswith("taken "), bill)
         self.assertEqual(printed["kill $! && wait $!"], bill)
+
+    def test_the_key_is_there_after_the_server_was_killed(self):
+        commands = [command for command, _ in steps_of(self.text)]
+        printed = dict(steps_of(self.text))
+        self.assertEqual(printed["cmp again.der key.der && echo the same key"], ["the same key"])
+        killed = commands.index("kill -KILL $!; wait $! 2>killed.log")
+        between = commands[killed : commands.index("cmp again.der key.der && echo the same key")]
+        self.assertFalse([command for command in between if " import " in command])
 
     def test_a_signature_is_good_and_then_bad(self):
         steps = steps_of(self.text)

@@ -11,6 +11,7 @@ use std::fs;
 use std::io::{Read, Write};
 use std::os::unix::net::{UnixListener, UnixStream};
 use std::path::{Path, PathBuf};
+use std::sync::mpsc;
 use std::thread::{self, JoinHandle};
 use std::time::Duration;
 use unix_socket::{Server, Settings};
@@ -43,9 +44,11 @@ impl Service {
             socket: &socket,
             roster: &roster,
             list,
+            journal: None,
             capture: None,
             patience: TOO_LONG,
             say: |_| (),
+            stop: mpsc::channel().0,
         })
         .expect("a free path");
         Service { socket, server }

@@ -13,14 +13,18 @@ SIGINT comes. Then it serves what has arrived, removes SOCKET, and prints the
 bill of all connections on standard output. Messages go to standard error.
 
   --list FILE     the keys that every application has besides its own
+  --journal FILE  keep imported keys: restore them from FILE, and sync every change
+                  to it before it is answered. FILE.roster is a copy of ROSTER,
+                  which may get more names at its end, and no other change
   --capture FILE  append every answered request to FILE, for `bill ROSTER FILE
                   LIST`; without --list, LIST is an empty file, as /dev/null is
   --stdin         stop at the end of standard input too, which is not read else
   --help          print this
 
 A SOCKET that nobody listens at is replaced. The status is 0 after a stop, 1 if
-the server can't start or the capture or the bill can't be written whole, and 2
-for other arguments than these.
+the server can't start or the journal, the capture or the bill can't be written
+whole, and 2 for other arguments than these. A journal that can't be written
+stops the server.
 ";
 
 pub enum Asked {
@@ -33,6 +37,7 @@ pub struct Arguments {
     pub socket: PathBuf,
     pub roster: PathBuf,
     pub list: Option<PathBuf>,
+    pub journal: Option<PathBuf>,
     pub capture: Option<PathBuf>,
     pub stdin: bool,
 }
@@ -47,6 +52,7 @@ pub enum Fault {
 }
 
 const CAPTURE: &str = "--capture";
+const JOURNAL: &str = "--journal";
 const LIST: &str = "--list";
 
 /// Options may stand anywhere; behind `--` there are none.
@@ -61,6 +67,9 @@ pub fn read(given: impl Iterator<Item = OsString>) -> Result<Asked, Fault> {
             b"--" => files.extend(given.by_ref()),
             option if is_option(option, CAPTURE) => {
                 arguments.capture = Some(file(CAPTURE, &argument, &mut given)?);
+            }
+            option if is_option(option, JOURNAL) => {
+                arguments.journal = Some(file(JOURNAL, &argument, &mut given)?);
             }
             option if is_option(option, LIST) => {
                 arguments.list = Some(file(LIST, &argument, &mut given)?);

@@ -44,6 +44,7 @@ pub struct Capture {
     file: File,
     begin: u64,
     end: u64,
+    restored: usize,
     fault: Option<io::Error>,
     rests: Rests,
     say: Say,
@@ -67,6 +68,8 @@ pub struct Captured {
     /// Connections whose rests were left out, and their bytes.
     pub connections: u64,
     pub bytes: u64,
+    /// Keys that the server began with, and `bill` does not.
+    pub restored: usize,
     /// Why nothing was written behind `end`, though there was more.
     pub fault: Option<io::Error>,
 }
@@ -82,8 +85,9 @@ pub enum CaptureError {
 }
 
 impl Capture {
-    /// Goes on behind what the file has, which is made if it is not there.
-    pub fn open(path: &Path, say: Say) -> Result<Capture, CaptureError> {
+    /// Goes on behind what the file has, which is made if it is not there. The server begins with so
+    /// many keys.
+    pub fn open(path: &Path, restored: usize, say: Say) -> Result<Capture, CaptureError> {
         // A pipe that nobody reads would keep it waiting.
         if path.metadata().is_ok_and(|found| !found.is_file()) {
             return Err(CaptureError::NoFile);
@@ -104,6 +108,7 @@ impl Capture {
             file,
             begin,
             end: begin,
+            restored,
             fault: None,
             rests: Rests::default(),
             say,
@@ -161,6 +166,7 @@ impl Capture {
             end: self.end,
             connections: rests.connections,
             bytes: rests.bytes,
+            restored: self.restored,
             fault: self.fault.or(synced.err()),
         }
     }
@@ -174,6 +180,7 @@ impl fmt::Display for Captured {
             end,
             connections,
             bytes,
+            restored,
             fault,
         } = self;
         let path = path.display();
@@ -181,11 +188,16 @@ impl fmt::Display for Captured {
         if let Some(error) = fault {
             return write!(out, ", and not all that was taken: {error}");
         }
-        match connections {
-            0 => write!(out, ", with the same bill"),
+        if *connections > 0 {
+            let left_out = format!("{connections} connections, {bytes} bytes, are left out");
+            write!(out, "; the ends of {left_out}")?;
+        }
+        match (connections, restored) {
+            (0, 0) => write!(out, ", with the same bill"),
+            (_, 0) => Ok(()),
             _ => write!(
                 out,
-                "; the ends of {connections} connections, {bytes} bytes, are left out"
+                "; a bill of it begins without the {restored} keys that were restored"
             ),
         }
     }

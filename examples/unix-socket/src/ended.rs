@@ -2,7 +2,6 @@
 
 use crate::Say;
 use razidkot::CallError;
-use std::convert::Infallible;
 use std::fmt;
 use std::io;
 
@@ -34,7 +33,7 @@ pub enum Fault {
     Read(io::Error),
     /// So many bytes had been read and were not taken.
     NotTaken {
-        error: CallError<Infallible>,
+        error: CallError<io::Error>,
         bytes: usize,
     },
 }

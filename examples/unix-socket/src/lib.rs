@@ -3,13 +3,15 @@
 //!
 //! Many connections share one [`razidkot::Service`], behind a lock that each call holds for its own
 //! length ([`Shared`]). A thread accepts ([`Server`]), and a thread for each connection
-//! reads, calls and writes ([`serve`]). Nothing is swallowed: what an error of the socket cost is
+//! reads, calls and writes ([`serve`]). With a journal, keys are there again after a power cut
+//! ([`JournalFile`]). Nothing is swallowed: what an error of the socket cost is
 //! said ([`Say`]), and [`Totals`] adds up.
 #![forbid(unsafe_code)]
 
 mod address;
 mod capture;
 mod ended;
+mod journal;
 mod listener;
 mod peer;
 mod say;
@@ -19,6 +21,7 @@ mod shared;
 pub use address::SocketError;
 pub use capture::{Capture, CaptureError, Captured, Rest};
 pub use ended::{Ended, Fault, Undelivered};
+pub use journal::{keys_of, JournalError, JournalFile, Records};
 pub use peer::serve;
 pub use say::{say_on_stderr, Say};
 pub use server::{Server, Settings, StartError, Totals};

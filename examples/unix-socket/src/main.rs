@@ -12,7 +12,7 @@ use std::fs;
 use std::io::{self, Write};
 use std::path::{self, Path};
 use std::process::ExitCode;
-use std::sync::mpsc::{self, Receiver};
+use std::sync::mpsc::{self, Sender};
 use std::thread;
 use std::time::Duration;
 use unix_socket::{say_on_stderr as say, Server, Settings, StartError, Totals};
@@ -41,14 +41,17 @@ fn main() -> ExitCode {
 fn run(arguments: &Arguments) -> Result<(), String> {
     let roster = read(&arguments.roster)?;
     let list = arguments.list.as_deref().map_or(Ok(Vec::new()), read)?;
-    let stop = await_stop(arguments.stdin).map_err(|error| format!("no signals: {error}"))?;
+    let (sender, stop) = mpsc::channel();
+    await_stop(arguments.stdin, &sender).map_err(|error| format!("no signals: {error}"))?;
     let server = Server::start(Settings {
         socket: &arguments.socket,
         roster: &roster,
         list: &list,
+        journal: arguments.journal.as_deref(),
         capture: arguments.capture.as_deref(),
         patience: PATIENCE,
         say,
+        stop: sender,
     });
     let server = server.map_err(|error| match (&error, &arguments.list) {
         (StartError::Roster(_), _) => format!("{}: {error}", arguments.roster.display()),
@@ -66,9 +69,9 @@ fn read(file: &Path) -> Result<Vec<u8>, String> {
     fs::read(file).map_err(|error| format!("{}: {error}", file.display()))
 }
 
-/// What will say why to stop. It is to be called before any other thread is started.
-fn await_stop(stdin: bool) -> io::Result<Receiver<String>> {
-    let (sender, receiver) = mpsc::channel();
+/// Has `stop` told of a signal. It is to be called before any other thread is started.
+fn await_stop(stdin: bool, stop: &Sender<String>) -> io::Result<()> {
+    let sender = stop.clone();
     let signals = StopSignals::block()?;
     let of_signals = sender.clone();
     thread::Builder::new().spawn(move || {
@@ -87,7 +90,7 @@ fn await_stop(stdin: bool) -> io::Result<Receiver<String>> {
             sender.send(why)
         })?;
     }
-    Ok(receiver)
+    Ok(())
 }
 
 /// Prints the bill, says the rest, and fails where the bill or the capture is not whole.
@@ -109,14 +112,21 @@ fn report(totals: &Totals) -> Result<(), String> {
         // Else it would be lost.
         totals.bill.lines().for_each(|line| say(&line));
     }
-    match &totals.captured {
-        Some(captured) if captured.fault.is_some() => printed.and(Err(captured.to_string())),
+    let captured = match &totals.captured {
+        Some(captured) if captured.fault.is_some() => Err(captured.to_string()),
         Some(captured) => {
             say(captured);
-            printed
+            Ok(())
         }
-        None => printed,
-    }
+        None => Ok(()),
+    };
+    let journal = match &totals.journal_fault {
+        Some(fault) => Err(format!(
+            "{fault}; the last change is not answered, though counted"
+        )),
+        None => Ok(()),
+    };
+    journal.and(printed).and(captured)
 }
 
 fn print(text: &str) -> Result<(), String> {

@@ -2,20 +2,22 @@
 
 use crate::address::{self, Address, SocketError};
 use crate::listener::{Listener, Sum};
-use crate::{Capture, CaptureError, Captured, Say, Shared};
-use razidkot::{Counters, List, ListFault, NoJournal, Registry, RosterFault, Service};
+use crate::{keys_of, Capture, CaptureError, Captured, Say, Shared};
+use crate::{JournalError, JournalFile, Records};
+use razidkot::{Counters, List, ListFault, Registry, RosterFault, Service};
 use std::fmt;
 use std::io;
 use std::net::Shutdown;
 use std::os::fd::OwnedFd;
 use std::os::unix::net::UnixStream;
 use std::path::{Path, PathBuf};
+use std::sync::mpsc::Sender;
 use std::sync::{Arc, OnceLock};
 use std::thread::{self, JoinHandle};
 use std::time::{Duration, Instant};
 
 /// What a server is started with.
-#[derive(Clone, Copy, Debug)]
+#[derive(Clone, Debug)]
 pub struct Settings<'a> {
     /// Where it listens.
     pub socket: &'a Path,
@@ -23,6 +25,8 @@ pub struct Settings<'a> {
     pub roster: &'a [u8],
     /// The bytes of a list of keys that every application has; none for no such keys.
     pub list: &'a [u8],
+    /// Where it keeps its keys; without, they are lost when it stops.
+    pub journal: Option<&'a Path>,
     /// Where it appends the requests it answers.
     pub capture: Option<&'a Path>,
     /// A peer that takes nothing of a response for so long gets no more of them, and a stop takes
@@ -30,6 +34,8 @@ pub struct Settings<'a> {
     pub patience: Duration,
     /// Where its messages go.
     pub say: Say,
+    /// Told why, when it can answer no more: its journal can't be written.
+    pub stop: Sender<String>,
 }
 
 /// A running server. One that is dropped and not stopped runs on to the end of the program, without
@@ -56,6 +62,9 @@ pub struct Totals {
     /// Responses that could not be sent.
     pub undelivered: u64,
     pub captured: Option<Captured>,
+    /// What the journal failed with. The last request that changed keys was then not answered, though it
+    /// is counted.
+    pub journal_fault: Option<String>,
 }
 
 /// Why a server is not started.
@@ -63,24 +72,37 @@ pub struct Totals {
 pub enum StartError {
     Roster(RosterFault),
     List(ListFault),
+    Journal(PathBuf, JournalError),
     Socket(PathBuf, SocketError),
     Capture(PathBuf, CaptureError),
     Thread(io::Error),
 }
 
 impl Server {
-    /// Serves with a registry of the roster's applications and no keys but the list's. Of two faulty
-    /// files the roster is said, as `bill` does.
+    /// Serves with a registry of the roster's applications, the keys of the journal and those of the
+    /// list. Of two faulty files the roster is said, as `bill` does.
     pub fn start(settings: Settings) -> Result<Server, StartError> {
         let registry = Registry::load(settings.roster).map_err(StartError::Roster)?;
         let list = List::from_bytes(settings.list).map_err(StartError::List)?;
-        let shared = Arc::new(Shared::new(Service::new(registry, list, NoJournal)));
+        let (records, registry) = match settings.journal {
+            Some(path) => {
+                let no_journal = |error| StartError::Journal(path.to_path_buf(), error);
+                let opened = JournalFile::open(path, settings.roster, registry, settings.say);
+                let (journal, registry) = opened.map_err(no_journal)?;
+                (Records::Kept(journal), registry)
+            }
+            None => (Records::Dropped, registry),
+        };
+        let restored = keys_of(&registry);
+        let service = Service::new(registry, list, records);
+        let shared = Arc::new(Shared::new(service, settings.stop));
         let no_socket = |error| StartError::Socket(settings.socket.to_path_buf(), error);
         let (listener, address) =
             address::listen(settings.socket, settings.say).map_err(no_socket)?;
         if let Some(path) = settings.capture {
             let no_capture = |error| StartError::Capture(path.to_path_buf(), error);
-            shared.capture(Capture::open(path, settings.say).map_err(no_capture)?);
+            let capture = Capture::open(path, restored, settings.say);
+            shared.capture(capture.map_err(no_capture)?);
         }
         let socket = listener.try_clone();
         let socket = socket.map_err(|error| no_socket(SocketError::Failed(error)))?;
@@ -119,6 +141,7 @@ impl Server {
             unfinished: sum.unfinished,
             undelivered: sum.undelivered,
             captured: self.shared.end_capture(),
+            journal_fault: self.shared.journal_fault(),
         }
     }
 }
@@ -128,6 +151,7 @@ impl fmt::Display for StartError {
         match self {
             StartError::Roster(fault) => write!(out, "{fault}: {}", reason(*fault)),
             StartError::List(fault) => write!(out, "{fault}"),
+            StartError::Journal(path, error) => write!(out, "{}: {error}", path.display()),
             StartError::Socket(path, error) => write!(out, "{}: {error}", path.display()),
             StartError::Capture(path, error) => write!(out, "{}: {error}", path.display()),
             StartError::Thread(error) => write!(out, "no thread to accept clients: {error}"),

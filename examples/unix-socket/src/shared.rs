@@ -1,8 +1,9 @@
-//! One service and one capture for all connections.
+//! One service, with its journal, and one capture for all connections.
 
-use crate::{Capture, Captured, Rest};
-use razidkot::{Answer, Buffers, CallError, Connection, Counters, NoJournal, Service};
-use std::convert::Infallible;
+use crate::{Capture, Captured, Records, Rest};
+use razidkot::{Answer, Buffers, CallError, Connection, Counters, Service};
+use std::io;
+use std::sync::mpsc::Sender;
 use std::sync::{Mutex, MutexGuard};
 
 /// All that connections share, behind one lock, so that each call is whole: no other connection sees
@@ -12,17 +13,22 @@ pub struct Shared {
 }
 
 struct Locked {
-    service: Service<NoJournal>,
+    service: Service<Records>,
     capture: Option<Capture>,
+    stop: Sender<String>,
+    /// What the journal failed with.
+    fault: Option<String>,
 }
 
 impl Shared {
-    /// Nothing is captured yet.
-    pub fn new(service: Service<NoJournal>) -> Shared {
+    /// Nothing is captured yet. `stop` is told why, if the journal fails.
+    pub fn new(service: Service<Records>, stop: Sender<String>) -> Shared {
         Shared {
             locked: Mutex::new(Locked {
                 service,
                 capture: None,
+                stop,
+                fault: None,
             }),
         }
     }
@@ -36,16 +42,18 @@ impl Shared {
     /// before the response is sent, so that a slow peer holds no other one up.
     ///
     /// A request is captured under the lock of the call that answers it, so that requests are
-    /// captured in the order in which they changed the registry.
+    /// captured in the order in which they changed the registry. Its record is on disk by then: all
+    /// other connections wait for it, since what they are answered may rest on it.
     pub fn call<'a>(
         &self,
         connection: &mut Connection,
         rest: &mut Rest,
         chunk: &[u8],
         buffers: &'a mut Buffers,
-    ) -> Result<Answer<'a>, CallError<Infallible>> {
+    ) -> Result<Answer<'a>, CallError<io::Error>> {
         let locked = &mut *self.lock();
-        let answer = locked.service.call(connection, chunk, buffers)?;
+        let answer = locked.service.call(connection, chunk, buffers);
+        let answer = answer.inspect_err(|error| locked.note(error))?;
         rest.add(&chunk[..answer.taken]);
         // A bad start is answered too, and would close the captured stream in front of all others.
         if answer.response.is_some() && !connection.is_closed() {
@@ -69,6 +77,11 @@ impl Shared {
         self.lock().capture.take().map(Capture::finish)
     }
 
+    /// What the journal failed with, if it did.
+    pub fn journal_fault(&self) -> Option<String> {
+        self.lock().fault.clone()
+    }
+
     /// The counters between two calls.
     pub fn counters(&self) -> Counters {
         self.lock().service.counters().clone()
@@ -85,5 +98,17 @@ impl Shared {
 
     fn lock(&self) -> MutexGuard<'_, Locked> {
         self.locked.lock().expect("no call panics")
+    }
+}
+
+impl Locked {
+    /// A journal that fails stops the server: its memory is ahead of the disk.
+    fn note(&mut self, error: &CallError<io::Error>) {
+        if let CallError::NotRecorded(error) = error {
+            let why = format!("the journal can't be written: {error}");
+            self.fault = Some(why.clone());
+            // Without a receiver nobody waits for it, and calls are refused all the same.
+            let _ = self.stop.send(why);
+        }
     }
 }

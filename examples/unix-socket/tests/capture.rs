@@ -15,6 +15,7 @@ use std::fs;
 use std::io::Read;
 use std::path::Path;
 use std::process::Command;
+use std::sync::mpsc;
 use std::thread;
 use unix_socket::{Captured, Server, Settings, Totals};
 
@@ -30,9 +31,11 @@ fn start_with_list(folder: &Folder, list: &[u8]) -> Server {
         socket: &folder.socket(),
         roster: &roster(),
         list,
+        journal: None,
         capture: Some(&folder.at("capture")),
         patience: TOO_LONG,
         say: |_| {},
+        stop: mpsc::channel().0,
     });
     server.expect("a server")
 }

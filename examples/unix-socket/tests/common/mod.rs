@@ -13,6 +13,7 @@ use std::io::{ErrorKind, Read, Write};
 use std::net::Shutdown;
 use std::os::unix::net::UnixStream;
 use std::path::{Path, PathBuf};
+use std::sync::mpsc;
 use std::thread;
 use std::time::Duration;
 use unix_socket::{Server, Settings, Totals};
@@ -44,9 +45,11 @@ pub fn start_with_patience(test: &str, patience: Duration) -> (Server, PathBuf) 
         socket: &path,
         roster: &roster(),
         list: b"",
+        journal: None,
         capture: None,
         patience,
         say: |_| {},
+        stop: mpsc::channel().0,
     });
     (server.expect("a free path"), path)
 }
