@@ -6,6 +6,7 @@ mod calls;
 mod check;
 #[cfg(feature = "client")]
 mod client;
+mod journals;
 mod lists;
 #[cfg(all(openssl, feature = "signatures"))]
 #[allow(unsafe_code)]

@@ -1,7 +1,7 @@
 //! What is timed: rows of operations, each for several programs that do the same.
 
 use crate::registries::{ALIKE, ALL, FULL, ONE_KEY};
-use crate::{bills, calls, check, lists, searches};
+use crate::{bills, calls, check, journals, lists, searches};
 use std::time::Duration;
 
 /// The operations of most rows' turns. Programs take turns, so that a slow moment of the machine is not one
@@ -32,6 +32,7 @@ pub fn all() -> Vec<Row> {
         .chain(calls)
         .chain(lists::rows())
         .chain(bills::rows())
+        .chain(journals::rows())
         .chain(client())
         .chain(signatures())
         .collect()
