@@ -4,11 +4,11 @@
 use razidkot::{Connection, List, NoJournal, Service};
 use razidkot::{JournalFault, JournalReader, RefusedJournal, Registry, Restored};
 use razidkot::{JOURNAL_STATE_SIZE, REGISTRY_SIZE};
-use razidkot_tests::ask::record;
+use razidkot_tests::ask::{record, registry_of};
 use razidkot_tests::generate::{registry, Damage, Filling, Random};
 use razidkot_tests::journals::*;
-use razidkot_tests::layout::{line_at, name_at, Key, LINES};
-use razidkot_tests::lent::Lent;
+use razidkot_tests::layout::{line_at, name_at, used_places, Key, Place, LINES};
+use razidkot_tests::lent::{Lengths, Lent};
 use razidkot_tests::requests::{applications, filling, requests};
 use razidkot_tests::run::{for_seeds, Outcomes};
 use razidkot_tests::shipped::{own_names, some_list};
@@ -186,6 +186,43 @@ fn the_sample_stream_writes_the_sample_journal() {
     let service = Service::new(restored.registry, List::new(), NoJournal);
     let bill = service.bill(&Connection::open());
     assert_eq!(bill.as_bytes(), read("restored.bill"));
+}
+
+/// 64 keys, imported and destroyed by compiled calls over and over, and read back in flat memory.
+#[test]
+fn a_million_imports_and_destroys_of_64_keys_are_read_back() {
+    const RECORDS: usize = 1_000_000;
+    let names: Vec<_> = (b'0'..b'8').map(|name| vec![name]).collect();
+    let start = registry_of(&names);
+    let requests: Vec<[Vec<u8>; 2]> = Place::all()
+        .map(|Place { line, slot }| {
+            let key = key(&[b'a' + slot as u8]);
+            [import(&names[line], &key), destroy(&names[line], &key.name)]
+        })
+        .collect();
+    let mut lent = Lent::fresh(&start, b"");
+    lent.renew_buffers(Lengths::LEAST, 0);
+    let mut reading = Reading::begin(&start);
+    let (mut chunk, mut length) = (Vec::new(), 0);
+    let rounds = (0..2)
+        .cycle()
+        .flat_map(|which| requests.iter().map(move |pair| &pair[which]));
+    // So many that the last round imports.
+    for request in rounds.take(RECORDS) {
+        let answer = lent.call_proved(request);
+        assert!(answer.code == 0 && answer.recorded > 0, "{answer:?}");
+        chunk.extend(&lent.journal()[..answer.recorded]);
+        if chunk.len() >= 65_536 {
+            length += chunk.len();
+            assert_eq!(reading.read_proved(&chunk).taken, chunk.len());
+            chunk.clear();
+        }
+    }
+    length += chunk.len();
+    let answer = reading.read_both(&chunk);
+    assert_eq!((answer.code, answer.kept), (AT_RECORD, length as u64));
+    assert_eq!(used_places(&reading.registry).len(), 64);
+    assert!(reading.registry == lent.registry);
 }
 
 // ---- damage

@@ -13,6 +13,7 @@ use std::collections::BTreeMap;
 use std::fs::{self, File};
 use std::io::{self, Write};
 use std::path::{Path, PathBuf};
+use std::process::Command;
 use std::sync::atomic::{AtomicUsize, Ordering};
 use std::thread;
 use std::time::Duration;
@@ -375,6 +376,65 @@ fn a_record_that_cant_be_written_is_not_answered_and_stops_the_server() {
     assert_eq!(status, 1140, "what was not answered is not kept");
     assert_eq!(client.ask(import(&next, &data)), 0, "there is room again");
     program.stop("TERM");
+}
+
+// ---- synced before it is answered
+
+/// Runs the server with tests/preload.c before the C library, and with these settings.
+fn start_noted(folder: &Folder, settings: &str) -> Program {
+    let library = folder.at("preload.so");
+    let source = Path::new(env!("CARGO_MANIFEST_DIR")).join("tests/preload.c");
+    let mut compiler = Command::new("cc");
+    compiler.args(["-shared", "-fPIC", "-Wall", "-Wextra", "-Werror", "-o"]);
+    let done = compiler.arg(&library).arg(source).arg("-ldl").status();
+    assert!(done.expect("a C compiler").success());
+    let (library, notes) = (library.display(), folder.at("notes"));
+    let notes = notes.display();
+    let exports = format!("export LD_PRELOAD={library} NOTES={notes} {settings}");
+    start_limited(&exports, folder)
+}
+
+/// What was written to and synced since the last look.
+fn noted(folder: &Folder, seen: &mut usize) -> Vec<String> {
+    let text = fs::read_to_string(folder.at("notes")).expect("notes");
+    let lines: Vec<_> = text.lines().skip(*seen).map(String::from).collect();
+    *seen += lines.len();
+    lines
+}
+
+#[test]
+fn a_record_is_written_and_synced_before_its_response_is_sent() {
+    let folder = Folder::new("synced");
+    let program = start_noted(&folder, "");
+    let seen = &mut 0;
+    // The journal; its roster's copy, whole before it has its name; the folder, which has both.
+    let start = ["sync file", "write file", "sync file", "sync folder"];
+    assert_eq!(noted(&folder, seen), start);
+    let mut client = scanner(&folder);
+    let recorded = ["write file", "sync file", "write socket"];
+    let answered = ["write socket"];
+    assert_eq!(client.ask(import(b"a", b"data")), 0);
+    assert_eq!(noted(&folder, seen), recorded);
+    assert_eq!(client.ask(import(b"a", b"data")), 1139);
+    assert_eq!(noted(&folder, seen), answered);
+    assert_eq!(client.export(b"a"), b"data");
+    assert_eq!(noted(&folder, seen), answered);
+    assert_eq!(client.ask(Operation::DestroyKey { name: b"a" }), 0);
+    assert_eq!(noted(&folder, seen), recorded);
+    program.stop("TERM");
+}
+
+#[test]
+fn a_record_that_cant_be_synced_is_not_answered_and_stops_the_server() {
+    let folder = Folder::new("unsynced");
+    let mut program = start_noted(&folder, "FAIL=1");
+    let mut client = scanner(&folder);
+    assert_eq!(client.ask(Operation::Ping), 0);
+    let mut reader = client.send(import(b"a", b"data"));
+    let answer = client.receive(&mut reader).map_err(|error| error.kind());
+    assert_eq!(answer, Err(io::ErrorKind::UnexpectedEof));
+    program.wait_for("unix-socket: stopping: the journal can't be written: ");
+    assert_eq!(program.end().status.code(), Some(1));
 }
 
 // ---- killed under load
