@@ -84,15 +84,7 @@ impl Server {
     pub fn start(settings: Settings) -> Result<Server, StartError> {
         let registry = Registry::load(settings.roster).map_err(StartError::Roster)?;
         let list = List::from_bytes(settings.list).map_err(StartError::List)?;
-        let (records, registry) = match settings.journal {
-            Some(path) => {
-                let no_journal = |error| StartError::Journal(path.to_path_buf(), error);
-                let opened = JournalFile::open(path, settings.roster, registry, settings.say);
-                let (journal, registry) = opened.map_err(no_journal)?;
-                (Records::Kept(journal), registry)
-            }
-            None => (Records::Dropped, registry),
-        };
+        let (records, registry) = restore(&settings, registry)?;
         let restored = keys_of(&registry);
         let service = Service::new(registry, list, records);
         let shared = Arc::new(Shared::new(service, settings.stop));
@@ -144,6 +136,17 @@ impl Server {
             journal_fault: self.shared.journal_fault(),
         }
     }
+}
+
+/// The registry with the journal's keys, and where records go from now on.
+fn restore(settings: &Settings, registry: Registry) -> Result<(Records, Registry), StartError> {
+    let Some(path) = settings.journal else {
+        return Ok((Records::Dropped, registry));
+    };
+    let no_journal = |error| StartError::Journal(path.to_path_buf(), error);
+    let opened = JournalFile::open(path, settings.roster, registry, settings.say);
+    let (journal, registry) = opened.map_err(no_journal)?;
+    Ok((Records::Kept(journal), registry))
 }
 
 impl fmt::Display for StartError {
