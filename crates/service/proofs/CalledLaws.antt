@@ -1,4 +1,4 @@
--- A call as the code says it, from the code of C1 to C6 and from what serving it has done.
+-- A call as the code says it, from the code of C1 to C7 and from what serving it has done.
 use Prim.Native.Nat.{ℕ}
 use mathlib.Core.Path.{_≡_, refl, sym, ap, subst, _∙_}
 use mathlib.Core.Option.{Option, none, some, Option·map}

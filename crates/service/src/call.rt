@@ -1,4 +1,4 @@
-// A call: refused by C1 to C6 ("When a call is not taken"; document 02, "Keys we ship"), or served, and counted.
+// A call: refused by C1 to C7 ("When a call is not taken"; document 02, 5 and 8), or served, and counted.
 use crate::CallAnswer;
 use crate::Code;
 use crate::Handled;

@@ -1,4 +1,4 @@
-// The call: refused by C1 to C6 ("When a call is not taken"; document 02, "Keys we ship"), or served and counted.
+// The call: refused by C1 to C7 ("When a call is not taken"; document 02, 5 and 8), or served and counted.
 use counters::Counters;
 use counters::Increments;
 
@@ -6,7 +6,7 @@ pub mod call;
 pub mod refusals;
 pub mod serve;
 
-// Why a call is not taken: C1 to C6.
+// Why a call is not taken: C1 to C7.
 pub enum Refusal {
     ResponseBufferTooSmall,
     ChunkTooLong,

@@ -1,4 +1,4 @@
-// C1 to C6 ("When a call is not taken"; document 02, "Keys we ship").
+// C1 to C7 ("When a call is not taken"; document 02, 5 and 8).
 use crate::Code;
 use crate::Refusal;
 use counters::Counters;
@@ -16,7 +16,7 @@ pub const JOURNAL_LEAST: usize = 1024;
 
 pub const CHUNK_MOST: usize = 65536;
 
-// Which of C1 to C6 a call falls under, if any: the first that applies.
+// Which of C1 to C7 a call falls under, if any: the first that applies.
 pub fn judge_call(
     chunk: &[u8],
     connection: &[u8],
