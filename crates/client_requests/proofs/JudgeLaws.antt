@@ -10,13 +10,13 @@ use lib.ListN.{length, getD}
 use lib.Dec.{ltb, eqb}
 use Rattle.wire.specs.Choice.{firstOf}
 use Rattle.wire.specs.Request.{contentMost}
-use Rattle.wire.proofs.TestLaws.{none-at}
+use Rattle.wire.proofs.TestLaws.{none-at, first-behind}
 use Rattle.keys.specs.Names.{keyNameMost, legalName}
 use Rattle.keys.specs.Key.{Key, legalData, importBits}
 use Rattle.messages.specs.Protobuf.{protobuf}
 use Rattle.messages.specs.Operations.{Operation, ping, importKey, destroyKey, verifySignature, operationBody}
 use Rattle.messages.proofs.WriteLaws.{verify-body-least}
-use Rattle.client_requests.specs.Writing.{Sender, requestBufferLeast, hashSize, legalSender, legalKeyName, legalKeyData, legalKeyBits, legalHash, legalBody, writeTests}
+use Rattle.client_requests.specs.Writing.{Sender, requestBufferLeast, hashSize, legalSender, keyNameTest, legalBody, fieldTests, writeTests}
 use Rattle.client_requests.specs.code.Judged.{judgedAs, firstRefusal}
 use Rattle.client_requests.specs.declared.WriteRefusal.{WriteRefusal}
 use Rattle.client_requests.specs.declared.WriteRefusal.the-variants.{BufferTooSmall, ApplicationNameIllegal, KeyNameIllegal, DataIllegal, BitsIllegal, HashIllegal, BodyTooLong}
@@ -53,9 +53,6 @@ module _ (out : List ℕ) (sender : Sender) where
   senderTests : Tests
   senderTests = (ltb (length out) requestBufferLeast, BufferTooSmall) ∷ (not (legalSender sender), ApplicationNameIllegal) ∷ []
 
-  nameTest : (name : List ℕ) → Tests
-  nameTest name = (not (legalName keyNameMost name), KeyNameIllegal) ∷ []
-
   pub sender-judged : firstRefusal (alone (ltb (length out) requestBufferLeast) BufferTooSmall) (alone (not (legalSender sender)) ApplicationNameIllegal)
       ≡ judgedAs (firstOf (writeTests out sender ping))
   unfolding writeTests firstOf
@@ -63,32 +60,32 @@ module _ (out : List ℕ) (sender : Sender) where
 
   pub name-judged : (name : List ℕ) → firstRefusal (judgedAs (firstOf (writeTests out sender ping))) (alone (not (legalName keyNameMost name)) KeyNameIllegal)
       ≡ judgedAs (firstOf (writeTests out sender (destroyKey name)))
-  unfolding writeTests firstOf senderTests nameTest
-  name-judged name = joined senderTests (nameTest name)
+  unfolding writeTests firstOf senderTests
+  name-judged name = joined senderTests (keyNameTest name ∷ [])
 
   pub key-judged : (key : Key)
       → firstRefusal (judgedAs (firstOf (writeTests out sender (destroyKey (key .name))))) (firstRefusal (alone (not (legalData (key .bytes))) DataIllegal) (alone (not (importBits (key .bits))) BitsIllegal))
       ≡ judgedAs (firstOf (writeTests out sender (importKey key)))
-  unfolding writeTests firstOf senderTests nameTest
+  unfolding writeTests firstOf senderTests
   key-judged key =
       let bytes : Tests = (not (legalData (key .bytes)), DataIllegal) ∷ [] in
       let bits : Tests = (not (importBits (key .bits)), BitsIllegal) ∷ [] in
-      ap (firstRefusal (judgedAs (firstOf (senderTests ++ nameTest (key .name))))) (joined bytes bits)
-      ∙ joined (senderTests ++ nameTest (key .name)) (bytes ++ bits)
+      ap (firstRefusal (judgedAs (firstOf (senderTests ++ (keyNameTest (key .name) ∷ []))))) (joined bytes bits)
+      ∙ joined (senderTests ++ (keyNameTest (key .name) ∷ [])) (bytes ++ bits)
 
   pub verify-judged : (name hash signature : List ℕ)
-      → firstRefusal (judgedAs (firstOf (writeTests out sender (destroyKey name)))) (firstRefusal (alone (not (eqb (length hash) hashSize)) HashIllegal) (alone (not (legalBody (verifySignature name hash signature))) BodyTooLong))
+      → firstRefusal (judgedAs (firstOf (writeTests out sender (destroyKey name)))) (firstRefusal (alone (not (eqb (length hash) hashSize)) HashIllegal) (alone (not (legalBody name hash signature)) BodyTooLong))
       ≡ judgedAs (firstOf (writeTests out sender (verifySignature name hash signature)))
-  unfolding writeTests firstOf senderTests nameTest
+  unfolding writeTests firstOf senderTests
   verify-judged name hash signature =
       let size : Tests = (not (eqb (length hash) hashSize), HashIllegal) ∷ [] in
-      let body : Tests = (not (legalBody (verifySignature name hash signature)), BodyTooLong) ∷ [] in
-      ap (firstRefusal (judgedAs (firstOf (senderTests ++ nameTest name)))) (joined size body)
-      ∙ joined (senderTests ++ nameTest name) (size ++ body)
+      let body : Tests = (not (legalBody name hash signature), BodyTooLong) ∷ [] in
+      ap (firstRefusal (judgedAs (firstOf (senderTests ++ (keyNameTest name ∷ []))))) (joined size body)
+      ∙ joined (senderTests ++ (keyNameTest name ∷ [])) (size ++ body)
 
 -- what verify carries is too long by itself
 pub too-long : (name hash signature : List ℕ) → contentMost < length name + length hash + length signature
-    → false ≡ legalBody (verifySignature name hash signature)
+    → false ≡ legalBody name hash signature
 too-long name hash signature h =
     let long : contentMost < length (operationBody protobuf (verifySignature name hash signature)) = omega (arith, verify-body-least name hash signature) in
     sym (lt-leb _ _ long)
@@ -98,24 +95,38 @@ too-long name hash signature h =
 pub record Passed (out : List ℕ) (sender : Sender) (operation : Operation) : Type 0 where
   pub room : requestBufferLeast ≤ length out
   pub legal : legalSender sender ≡ true
-  pub name : legalKeyName operation ≡ true
-  pub bytes : legalKeyData operation ≡ true
-  pub bits : legalKeyBits operation ≡ true
-  pub hash : legalHash operation ≡ true
-  pub body : legalBody operation ≡ true
+  pub fields : firstOf (fieldTests operation) ≡ none
 
 pub passed : (out : List ℕ) (sender : Sender) (operation : Operation) → judgedAs (firstOf (writeTests out sender operation)) ≡ Legal → Passed out sender operation
-unfolding writeTests
+unfolding writeTests firstOf senderTests
 passed out sender operation e =
-    let none′ = told-legal (firstOf (writeTests out sender operation)) e in
-    let at : (k : ℕ) → getD (writeTests out sender operation) k (false, BufferTooSmall) .0 ≡ false
-    = λ k. none-at (writeTests out sender operation) k BufferTooSmall none′ in
+    let tests : Tests = writeTests out sender operation in
+    let none′ : firstOf tests ≡ none = told-legal (firstOf tests) e in
+    let room : ltb (length out) requestBufferLeast ≡ false = none-at tests 0 BufferTooSmall none′ in
+    let legal : not (legalSender sender) ≡ false = none-at tests 1 BufferTooSmall none′ in
+    let first : firstOf (senderTests out sender) ≡ none = rw (room, legal) in
     record {
-      room = ltb-false _ _ (at 0);
-      legal = not-false _ (at 1);
-      name = not-false _ (at 2);
-      bytes = not-false _ (at 3);
-      bits = not-false _ (at 4);
-      hash = not-false _ (at 5);
-      body = not-false _ (at 6);
+      room = ltb-false _ _ room;
+      legal = not-false _ legal;
+      fields = sym (first-behind (senderTests out sender) (fieldTests operation) first) ∙ none′;
     }
+
+-- of what the operation carries
+test-fails : (operation : Operation) (k : ℕ) → firstOf (fieldTests operation) ≡ none → getD (fieldTests operation) k (false, BufferTooSmall) .0 ≡ false
+test-fails operation k e = none-at (fieldTests operation) k BufferTooSmall e
+
+pub name-passed : (name : List ℕ) → firstOf (fieldTests (destroyKey name)) ≡ none → legalName keyNameMost name ≡ true
+name-passed name e = not-false _ (test-fails (destroyKey name) 0 e)
+
+module _ (key : Key) (e : firstOf (fieldTests (importKey key)) ≡ none) where
+  pub import-name-passed : legalName keyNameMost (key .name) ≡ true
+  import-name-passed = not-false _ (test-fails (importKey key) 0 e)
+
+  pub import-data-passed : legalData (key .bytes) ≡ true
+  import-data-passed = not-false _ (test-fails (importKey key) 1 e)
+
+  pub import-bits-passed : importBits (key .bits) ≡ true
+  import-bits-passed = not-false _ (test-fails (importKey key) 2 e)
+
+pub body-passed : (name hash signature : List ℕ) → firstOf (fieldTests (verifySignature name hash signature)) ≡ none → legalBody name hash signature ≡ true
+body-passed name hash signature e = not-false _ (test-fails (verifySignature name hash signature) 2 e)

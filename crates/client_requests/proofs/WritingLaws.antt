@@ -23,12 +23,12 @@ use Rattle.messages.specs.Format.{messageBytes}
 use Rattle.messages.specs.Protobuf.{protobuf}
 use Rattle.messages.specs.Operations.{Operation, ping, listProviders, listOpcodes, importKey, destroyKey, exportPublicKey, verifySignature, opcodeOf, providerOf, operationBody}
 use Rattle.messages.proofs.WriteLaws.{provider-body-short, bytes-body-short, key-body-short}
-use Rattle.client_requests.specs.Writing.{Sender, senderOf, authTypeOf, authOf, legalSender, legalKeyName, legalKeyData, legalKeyBits, legalBody, requestAround, requestFor, writeTests, writeOutcome}
+use Rattle.client_requests.specs.Writing.{Sender, senderOf, authTypeOf, authOf, legalSender, fieldTests, requestAround, requestFor, writeTests, writeOutcome}
 use Rattle.client_requests.specs.code.Judged.{judgedAs}
 use Rattle.client_requests.specs.declared.WriteRefusal.{WriteRefusal}
 use Rattle.client_requests.specs.declared.Written.the-variants.{Bytes, Refused}
 use Rattle.client_requests.specs.declared.judge.Judged.the-variants.{Legal, Refused as Forbidden}
-use Rattle.client_requests.proofs.JudgeLaws.{told-refused, told-legal, Passed, passed}
+use Rattle.client_requests.proofs.JudgeLaws.{told-refused, told-legal, Passed, passed, name-passed, import-name-passed, import-data-passed, import-bits-passed, body-passed}
 
 -- ---- the sender's auth bytes
 
@@ -48,21 +48,23 @@ auth-short (some name) e = legal-short applicationNameMost name e
 
 -- ---- how long a legal body is at most
 
-pub body-short :
-    (operation : Operation) → legalKeyName operation ≡ true → legalKeyData operation ≡ true → legalKeyBits operation ≡ true → legalBody operation ≡ true
-    → length (operationBody protobuf operation) ≤ contentMost
+pub body-short : (operation : Operation) → firstOf (fieldTests operation) ≡ none → length (operationBody protobuf operation) ≤ contentMost
 unfolding operationBody messageBytes
-body-short ping n d b w = omega arith
-body-short listProviders n d b w = omega arith
-body-short (listOpcodes provider) n d b w = omega (arith, provider-body-short provider)
-body-short (importKey key) n d b w = omega (arith, key-body-short key (legal-short keyNameMost (key .name) n) (legal-data (key .bytes) d) (legal-bits (key .bits) (import-legal (key .bits) b)))
-body-short (destroyKey name) n d b w = omega (arith, bytes-body-short name (legal-short keyNameMost name n))
-body-short (exportPublicKey name) n d b w = omega (arith, bytes-body-short name (legal-short keyNameMost name n))
-body-short (verifySignature name hash signature) n d b w = leb-true _ _ w
+body-short ping e = omega arith
+body-short listProviders e = omega arith
+body-short (listOpcodes provider) e = omega (arith, provider-body-short provider)
+body-short (importKey key) e =
+    let name = legal-short keyNameMost (key .name) (import-name-passed key e) in
+    let bytes = legal-data (key .bytes) (import-data-passed key e) in
+    let bits = legal-bits (key .bits) (import-legal (key .bits) (import-bits-passed key e)) in
+    omega (arith, key-body-short key name bytes bits)
+body-short (destroyKey name) e = omega (arith, bytes-body-short name (legal-short keyNameMost name (name-passed name e)))
+body-short (exportPublicKey name) e = omega (arith, bytes-body-short name (legal-short keyNameMost name (name-passed name e)))
+body-short (verifySignature name hash signature) e = leb-true _ _ (body-passed name hash signature e)
 
 module _ {out : List ℕ} {sender : Sender} {operation : Operation} (p : Passed out sender operation) where
   pub passed-short : length (operationBody protobuf operation) ≤ contentMost
-  passed-short = body-short operation (p .name) (p .bytes) (p .bits) (p .body)
+  passed-short = body-short operation (p .fields)
 
   pub written-short : {d e : List ℕ} {r : ℕ} → Wrote (operationBody protobuf operation) d e r → r ≤ contentMost
   written-short w = omega (arith, w .count, passed-short)

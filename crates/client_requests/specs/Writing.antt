@@ -63,65 +63,29 @@ abbrev pub legalSender : Sender → Bool
 legalSender none = true
 legalSender (some name) = legalName applicationNameMost name
 
--- of an operation on a key
-abbrev pub legalKeyName : Operation → Bool
-legalKeyName ping = true
-legalKeyName listProviders = true
-legalKeyName (listOpcodes provider) = true
-legalKeyName (importKey key) = legalName keyNameMost (key .name)
-legalKeyName (destroyKey name) = legalName keyNameMost name
-legalKeyName (exportPublicKey name) = legalName keyNameMost name
-legalKeyName (verifySignature name hash signature) = legalName keyNameMost name
+abbrev pub keyNameTest : (name : List ℕ) → Bool × WriteRefusal
+keyNameTest name = (not (legalName keyNameMost name), KeyNameIllegal)
 
--- of Import
-abbrev pub legalKeyData : Operation → Bool
-legalKeyData ping = true
-legalKeyData listProviders = true
-legalKeyData (listOpcodes provider) = true
-legalKeyData (importKey key) = legalData (key .bytes)
-legalKeyData (destroyKey name) = true
-legalKeyData (exportPublicKey name) = true
-legalKeyData (verifySignature name hash signature) = true
+-- verify's body as it would be written; those of the others are short
+abbrev pub legalBody : (name hash signature : List ℕ) → Bool
+legalBody name hash signature = leb (length (operationBody protobuf (verifySignature name hash signature))) contentMost
 
-abbrev pub legalKeyBits : Operation → Bool
-legalKeyBits ping = true
-legalKeyBits listProviders = true
-legalKeyBits (listOpcodes provider) = true
-legalKeyBits (importKey key) = importBits (key .bits)
-legalKeyBits (destroyKey name) = true
-legalKeyBits (exportPublicKey name) = true
-legalKeyBits (verifySignature name hash signature) = true
-
--- of verify
-abbrev pub legalHash : Operation → Bool
-legalHash ping = true
-legalHash listProviders = true
-legalHash (listOpcodes provider) = true
-legalHash (importKey key) = true
-legalHash (destroyKey name) = true
-legalHash (exportPublicKey name) = true
-legalHash (verifySignature name hash signature) = eqb (length hash) hashSize
-
--- as it would be written; the bodies of the others are short
-abbrev pub legalBody : Operation → Bool
-legalBody ping = true
-legalBody listProviders = true
-legalBody (listOpcodes provider) = true
-legalBody (importKey key) = true
-legalBody (destroyKey name) = true
-legalBody (exportPublicKey name) = true
-legalBody (verifySignature name hash signature) = leb (length (operationBody protobuf (verifySignature name hash signature))) contentMost
+-- of what each operation carries
+abbrev pub fieldTests : Operation → List (Bool × WriteRefusal)
+fieldTests ping = []
+fieldTests listProviders = []
+fieldTests (listOpcodes provider) = []
+fieldTests (importKey key) = keyNameTest (key .name) ∷ (not (legalData (key .bytes)), DataIllegal) ∷ (not (importBits (key .bits)), BitsIllegal) ∷ []
+fieldTests (destroyKey name) = keyNameTest name ∷ []
+fieldTests (exportPublicKey name) = keyNameTest name ∷ []
+fieldTests (verifySignature name hash signature) =
+    keyNameTest name ∷ (not (eqb (length hash) hashSize), HashIllegal) ∷ (not (legalBody name hash signature), BodyTooLong) ∷ []
 
 unfoldable pub writeTests : (out : List ℕ) → Sender → Operation → List (Bool × WriteRefusal)
 writeTests out sender operation =
     (ltb (length out) requestBufferLeast, BufferTooSmall)
     ∷ (not (legalSender sender), ApplicationNameIllegal)
-    ∷ (not (legalKeyName operation), KeyNameIllegal)
-    ∷ (not (legalKeyData operation), DataIllegal)
-    ∷ (not (legalKeyBits operation), BitsIllegal)
-    ∷ (not (legalHash operation), HashIllegal)
-    ∷ (not (legalBody operation), BodyTooLong)
-    ∷ []
+    ∷ fieldTests operation
 
 -- ---- WRITING'S WHOLE OUTCOME
 

@@ -40,7 +40,7 @@ fn is_legal_sender(named: bool, application: &[u8]) -> bool
 
 // Whether verify's body is short enough. A field that is too long by itself is told before sizes are added up.
 fn is_legal_body(name: &[u8], hash: &[u8], signature: &[u8]) -> bool
-    ensures { λ r. ⌜ r ≡ legalBody (verifySignature (now (name .entry)) (now (hash .entry)) (now (signature .entry))) ⌝ }
+    ensures { λ r. ⌜ r ≡ legalBody (now (name .entry)) (now (hash .entry)) (now (signature .entry)) ⌝ }
 {
     if BODY_MOST < name.len() {
         return false;

@@ -18,6 +18,7 @@ use Rattle.messages.specs.Protobuf.{protobuf}
 use Rattle.messages.specs.Operations.{Operation, ping, listProviders, listOpcodes, importKey, destroyKey, exportPublicKey, verifySignature, inputOf, operationBody}
 use Rattle.messages.proofs.OperationLaws.{asked-back}
 use Rattle.messages.proofs.WriteLaws.{verify-body-least}
+use Rattle.client_requests.proofs.JudgeLaws.{name-passed, import-name-passed, import-data-passed, import-bits-passed}
 use Rattle.client_requests.proofs.WritingLaws.{auth-short, body-short}
 use Rattle.client_requests.specs.Writing.{Sender, requestFor}
 use Rattle.stream.specs.Frame.{contentMost, authMost, legalStart, oversized, whole, next}
@@ -28,19 +29,19 @@ use Rattle.conversation.specs.Claims.{Writable, applicationFor, Requests
 -- ---- the body is short, and the values fit
 
 short-body : (sender : Sender) (operation : Operation) → Writable sender operation → length (operationBody protobuf operation) ≤ contentMost
-short-body sender operation w = body-short operation (w .name-legal) (w .data-legal) (w .bits-legal) (w .body-legal)
+short-body sender operation w = body-short operation (w .fields-legal)
 
 fits : (sender : Sender) (operation : Operation) → Writable sender operation → AllFit (protobuf .lengthMost) (inputOf operation)
 fits sender ping w = tt
 fits sender listProviders w = tt
 fits sender (listOpcodes provider) w = (w .small, tt)
 fits sender (importKey key) w =
-    let n = legal-short keyNameMost (key .name) (w .name-legal) in
-    let d = legal-data (key .bytes) (w .data-legal) in
-    let b = legal-bits (key .bits) (import-legal (key .bits) (w .bits-legal)) in
+    let n = legal-short keyNameMost (key .name) (import-name-passed key (w .fields-legal)) in
+    let d = legal-data (key .bytes) (import-data-passed key (w .fields-legal)) in
+    let b = legal-bits (key .bits) (import-legal (key .bits) (import-bits-passed key (w .fields-legal))) in
     (omega arith, (omega arith, (omega arith, (tt, (tt, tt)))))
-fits sender (destroyKey name) w = let n = legal-short keyNameMost name (w .name-legal) in (omega arith, tt)
-fits sender (exportPublicKey name) w = let n = legal-short keyNameMost name (w .name-legal) in (omega arith, tt)
+fits sender (destroyKey name) w = let n = legal-short keyNameMost name (name-passed name (w .fields-legal)) in (omega arith, tt)
+fits sender (exportPublicKey name) w = let n = legal-short keyNameMost name (name-passed name (w .fields-legal)) in (omega arith, tt)
 fits sender (verifySignature name hash signature) w =
     let all = short-body sender (verifySignature name hash signature) w in
     let parts = verify-body-least name hash signature in

@@ -5,16 +5,15 @@ use mathlib.Core.Bool.{Bool}
 use mathlib.Core.Option.{Option, none, some}
 use mathlib.Core.List.{List}
 use native.Mathlib.Omega.{arith}
-use borrow.Author.Tests.{not-false}
 use lib.ListN.{length, take, drop}
 use lib.Seq.{take-append-seam}
 use Rattle.wire.specs.Choice.{firstOf}
 use Rattle.wire.specs.Lists.{over}
-use Rattle.wire.proofs.TestLaws.{none-at}
-use Rattle.client_requests.specs.Writing.{legalSender, legalKeyName, legalKeyData, legalKeyBits, legalHash, legalBody, writeTests, WriteOutcome, writeOutcome}
+use Rattle.client_requests.specs.Writing.{writeTests, WriteOutcome, writeOutcome}
+use Rattle.client_requests.specs.code.Judged.{judgedAs}
 use Rattle.client_requests.specs.declared.WriteRefusal.{WriteRefusal}
-use Rattle.client_requests.specs.declared.WriteRefusal.the-variants.{BufferTooSmall}
 use Rattle.client_requests.specs.declared.Written.the-variants.{Bytes, Refused}
+use Rattle.client_requests.proofs.JudgeLaws.{passed}
 use Rattle.conversation.specs.Conversation.{Ask, written}
 use Rattle.conversation.specs.Claims.{Small, Writable, WroteRequest, RequestsWritten}
 
@@ -23,16 +22,8 @@ module _ (ask : Ask) (small : Small (ask .operation)) (before : List ℕ) where
   tests = writeTests before (ask .sender) (ask .operation)
 
   writable : firstOf tests ≡ none → Writable (ask .sender) (ask .operation)
-  unfolding writeTests
-  writable e = record {
-    sender-legal = not-false (legalSender (ask .sender)) (none-at tests 1 BufferTooSmall e);
-    name-legal = not-false (legalKeyName (ask .operation)) (none-at tests 2 BufferTooSmall e);
-    data-legal = not-false (legalKeyData (ask .operation)) (none-at tests 3 BufferTooSmall e);
-    bits-legal = not-false (legalKeyBits (ask .operation)) (none-at tests 4 BufferTooSmall e);
-    hash-legal = not-false (legalHash (ask .operation)) (none-at tests 5 BufferTooSmall e);
-    body-legal = not-false (legalBody (ask .operation)) (none-at tests 6 BufferTooSmall e);
-    small = small;
-  }
+  unfolding judgedAs
+  writable e = let p = passed before (ask .sender) (ask .operation) (ap judgedAs e) in record { sender-legal = p .legal; fields-legal = p .fields; small = small }
 
   wrote : (n : ℕ) (out : List ℕ) → record { answer = Bytes n; out = out } ≡ writeOutcome before (ask .session) (ask .sender) (ask .operation) → WroteRequest ask n out
   unfolding writeOutcome written

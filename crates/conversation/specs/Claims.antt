@@ -5,6 +5,7 @@ use mathlib.Core.Bool.{true, false}
 use mathlib.Core.Option.{Option, none, some}
 use mathlib.Core.List.{List, [], _∷_, _++_, map, flatten}
 use lib.ListN.{length, take}
+use Rattle.wire.specs.Choice.{firstOf}
 use Rattle.wire.specs.Lists.{oneOf}
 use Rattle.wire.specs.Request.{requestOf, requestBytes}
 use Rattle.reading.specs.Reader.{read}
@@ -26,7 +27,7 @@ use Rattle.stream.specs.Handed.{responsesIn}
 use Rattle.service.specs.Call.{Call, fresh}
 use Rattle.service.specs.Contract.{Ran}
 use Rattle.service.specs.Claims.{Runs, answersIn}
-use Rattle.client_requests.specs.Writing.{Sender, requestFor, legalSender, legalKeyName, legalKeyData, legalKeyBits, legalHash, legalBody, writeOutcome}
+use Rattle.client_requests.specs.Writing.{Sender, requestFor, legalSender, fieldTests, writeOutcome}
 use Rattle.client_requests.specs.declared.Written.the-variants.{Bytes}
 use Rattle.client_responses.specs.Reading.{Asked, providerFor, Reply, found, responseReader}
 use Rattle.client_responses.specs.State.{stateBytes, waiting, said}
@@ -48,11 +49,7 @@ Small (verifySignature name hash signature) = Unit {0}
 -- a request that is not refused
 pub record Writable (sender : Sender) (operation : Operation) : Type 0 where
   pub sender-legal : legalSender sender ≡ true
-  pub name-legal : legalKeyName operation ≡ true
-  pub data-legal : legalKeyData operation ≡ true
-  pub bits-legal : legalKeyBits operation ≡ true
-  pub hash-legal : legalHash operation ≡ true
-  pub body-legal : legalBody operation ≡ true
+  pub fields-legal : firstOf (fieldTests operation) ≡ none
   pub small : Small operation
 
 -- the application that the service finds for a sender

@@ -9,7 +9,7 @@ use Rattle.messages.specs.Operations.{Operation, destroyKey, operationBody}
 use Rattle.client_requests.specs.Writing.{Sender, senderOf, writeTests}
 use Rattle.client_requests.specs.code.Judged.{judgedAs}
 use Rattle.client_requests.specs.declared.judge.Judged.the-variants.{Legal}
-use Rattle.client_requests.proofs.JudgeLaws.{Passed, passed}
+use Rattle.client_requests.proofs.JudgeLaws.{Passed, passed, name-passed}
 use Rattle.client_requests.proofs.WritingLaws.{written-short, refused-outcome, body-outcome}
 use Rattle.client_requests.proofs.write.write_destroy.Statement.{statement}
 use Rattle.client_requests.proofs.write.write_destroy.Tie as tie
@@ -48,7 +48,7 @@ part-write-bytes-body-end : tie.Need-part-write-bytes-body-end
 part-write-bytes-body-end c = search needs
 
 write-bytes-body-requires : tie.Need-write-bytes-body-requires
-write-bytes-body-requires c κs = let p = passes (c .before) in omega (arith, p .room, legal-short keyNameMost _ (p .name))
+write-bytes-body-requires c κs = let p = passes (c .before) in omega (arith, p .room, legal-short keyNameMost _ (name-passed _ (p .fields)))
 
 write-around-requires : tie.Need-write-around-requires
 unfolding operationBody

@@ -4,13 +4,14 @@ use native.Mathlib.Omega.{arith}
 use borrow.Author.Needs.{needs}
 use Rattle.wire.specs.Choice.{firstOf}
 use Rattle.keys.specs.Names.{keyNameMost}
+use Rattle.keys.specs.Key.{Key}
 use Rattle.keys.proofs.NameLaws.{legal-short}
 use Rattle.keys.proofs.KeyLaws.{legal-data}
 use Rattle.messages.specs.Operations.{Operation, importKey}
 use Rattle.client_requests.specs.Writing.{Sender, senderOf, writeTests}
 use Rattle.client_requests.specs.code.Judged.{judgedAs}
 use Rattle.client_requests.specs.declared.judge.Judged.the-variants.{Legal}
-use Rattle.client_requests.proofs.JudgeLaws.{Passed, passed}
+use Rattle.client_requests.proofs.JudgeLaws.{Passed, passed, import-name-passed, import-data-passed}
 use Rattle.client_requests.proofs.WritingLaws.{written-short, refused-outcome, body-outcome}
 use Rattle.client_requests.proofs.write.write_import.Statement.{statement}
 use Rattle.client_requests.proofs.write.write_import.Tie as tie
@@ -18,8 +19,11 @@ use Rattle.client_requests.proofs.write.write_import.Tie as tie
 abbrev start : tie.After-enum-told → tie.Start
 start c = c .before .before .before .before .before .before .before .before
 
+abbrev keyOf : tie.Start → Key
+keyOf s = record { name = s .args .name .now; bytes = s .args .bytes .now; bits = s .args .bits; exportAllowed = s .args .exported; verifyAllowed = s .args .verified }
+
 abbrev operation : tie.Start → Operation
-operation s = importKey (record { name = s .args .name .now; bytes = s .args .bytes .now; bits = s .args .bits; exportAllowed = s .args .exported; verifyAllowed = s .args .verified })
+operation s = importKey (keyOf s)
 
 abbrev sender : tie.Start → Sender
 sender s = senderOf (s .args .named) (s .args .application .now)
@@ -49,7 +53,10 @@ part-write-key-body-end : tie.Need-part-write-key-body-end
 part-write-key-body-end c = search needs
 
 write-key-body-requires : tie.Need-write-key-body-requires
-write-key-body-requires c κs = let p = passes (c .before) in omega (arith, p .room, legal-short keyNameMost _ (p .name), legal-data _ (p .bytes))
+write-key-body-requires c κs =
+    let p = passes (c .before) in
+    let key = keyOf (start (c .before)) in
+    omega (arith, p .room, legal-short keyNameMost _ (import-name-passed key (p .fields)), legal-data _ (import-data-passed key (p .fields)))
 
 write-around-requires : tie.Need-write-around-requires
 write-around-requires c κs =
