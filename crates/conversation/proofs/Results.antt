@@ -4,9 +4,9 @@ use mathlib.Core.Path.{_≡_, refl, sym, subst}
 use Prim.Native.Nat.{ℕ, _*_, _^_, _≤_, _<_}
 use mathlib.Core.Bool.{Bool, true, false, not}
 use mathlib.Core.Option.{Option, none, some}
-use mathlib.Core.List.{List, []}
+use mathlib.Core.List.{List}
 use native.Mathlib.Omega.{arith}
-use borrow.Author.Tests.{eqb-true}
+use borrow.Author.Tests.{eqb-true, eqb-false}
 use lib.ListN.{length, getD}
 use lib.Dec.{ltb, eqb, lit<}
 use Rattle.wire.specs.Choice.{firstOf}
@@ -24,21 +24,20 @@ use Rattle.rsa.specs.Signature.{verification}
 use Rattle.rsa.specs.declared.verify.Outcome.{Outcome}
 use Rattle.rsa.specs.declared.verify.Outcome.the-variants.{ValidSignature, InvalidSignature, InvalidKey}
 use Rattle.registry.specs.Slots.{Entry, free}
-use Rattle.registry.specs.Registry.{slotNamed, addUse}
+use Rattle.registry.specs.Registry.{addUse}
 use Rattle.registry.specs.WellFormed.{wellFormedRegistry}
 use Rattle.registry.specs.declared.Line.{Line}
-use Rattle.registry.specs.declared.Found.{Found}
-use Rattle.registry.specs.declared.Found.the-variants.{At, Nothing}
 use Rattle.registry.proofs.SlotLaws.{ShortEntry}
 use Rattle.registry.proofs.WellFormedLaws.{slots-short}
 use Rattle.shipped.specs.Shipped.{ListedKey, keysIn}
 use Rattle.lookup.specs.Lookup.{Source, own, listed, keyOf, keyNamed}
 use Rattle.judgement.specs.Status.{statusNumber}
-use Rattle.judgement.specs.Operations.{Result, success, refuse, importable, performImport, destroyOf, performDestroy, counted, exportOf, performExport, hashSize, checked, verifyWith, performVerify, performListOpcodes, perform, operated}
+use Rattle.judgement.specs.Operations.{Result, success, refuse, performImport, destroyOf, performDestroy, counted, exportOf, performExport, hashSize, checked, verifyWith, performVerify, performListOpcodes, perform, operated}
 use Rattle.judgement.specs.Judgement.{applicationOf, refusals, askersSlots, resultOf}
 use Rattle.judgement.specs.declared.Status.{Status}
 use Rattle.judgement.proofs.SourceLaws.{source-short}
 use Rattle.judgement.specs.declared.Status.the-variants.{DeserializingBodyFailed}
+use Rattle.judgement.proofs.ImportLaws.{import-ends}
 use Rattle.judgement.proofs.JudgementLaws.{asks as asks-line}
 use Rattle.conversation.proofs.Answered.{Sound, notServed, served}
 
@@ -76,19 +75,8 @@ module _ (slots : List Entry) (list : List ℕ) where
 
   sound-import : (key : Key) → SoundFor (importKey key) (performImport key slots keys)
   unfolding performImport success statusNumber
-  sound-import key = go (importable key) refl
-    where
-      third : importable key ≡ true → keyNamed (key .name) slots keys ≡ none → (f : Found) → slotNamed [] slots ≡ f → SoundFor (importKey key) (performImport key slots keys)
-      third v n Nothing e = rw (v, n, e, performImport) (refused _ _ (lit< tt))
-      third v n (At slot) e = rw (v, n, e, performImport) (served refl ofImport tt)
-
-      second : importable key ≡ true → (o : Option Source) → keyNamed (key .name) slots keys ≡ o → SoundFor (importKey key) (performImport key slots keys)
-      second v (some source) e = rw (v, e, performImport) (refused _ _ (lit< tt))
-      second v none e = third v e (slotNamed [] slots) refl
-
-      go : (t : Bool) → importable key ≡ t → SoundFor (importKey key) (performImport key slots keys)
-      go false e = rw (e, performImport) (refused _ _ (lit< tt))
-      go true e = second e (keyNamed (key .name) slots keys) refl
+  sound-import key = import-ends importBits slots keys key (SoundFor (importKey key)) (λ status z. refused _ status (omega (arith, eqb-false (statusNumber status) 0 z)))
+      (λ slot t n e. served refl ofImport tt)
 
   sound-destroying : (name : List ℕ) (source : Source) → SoundFor (destroyKey name) (destroyOf source)
   unfolding destroyOf success statusNumber

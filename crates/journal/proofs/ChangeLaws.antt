@@ -2,7 +2,7 @@
 use mathlib.Core.Path.{_≡_, refl, sym, ap, subst, _∙_}
 use mathlib.Core.Bool.{Bool, true, false, true≢false, false≢true}
 use mathlib.Core.Option.{Option, none, some}
-use mathlib.Core.List.{List, []}
+use mathlib.Core.List.{List}
 use Prim.Native.Nat.{ℕ, _+_, _-_, _≤_, _<_, min}
 use native.Mathlib.Omega.{arith}
 use borrow.Author.Tests.{eqb-true, eqb-false}
@@ -14,28 +14,27 @@ use Rattle.wire.specs.Lists.{every}
 use Rattle.wire.proofs.TestLaws.{every-at}
 use Rattle.wire.proofs.ListLaws.{part-of-part}
 use Rattle.keys.specs.Names.{legalName, keyNameMost}
-use Rattle.keys.specs.Key.{Key}
+use Rattle.keys.specs.Key.{Key, importBits}
 use Rattle.keys.proofs.NameLaws.{legal-short}
 use Rattle.messages.specs.Protobuf.{protobuf}
 use Rattle.messages.specs.Operations.{Operation, ping, listProviders, listOpcodes, importKey, destroyKey, exportPublicKey, verifySignature, operationOf}
 use Rattle.registry.specs.Names.{nameIn}
 use Rattle.registry.specs.Slots.{Entry, free, nameOf, slotSize, keyTests, wellFormedSlot}
-use Rattle.registry.specs.Registry.{lineCount, slotCount, slotsOf, slotNamed, Change, unchanged, fill, clear, addUse, place}
+use Rattle.registry.specs.Registry.{lineCount, slotCount, slotsOf, Change, unchanged, fill, clear, addUse, place}
 use Rattle.registry.specs.WellFormed.{wellFormedRegistry}
 use Rattle.registry.specs.declared.Line.{Line}
 use Rattle.registry.specs.declared.Slot.{Slot}
-use Rattle.registry.specs.declared.Found.{Found}
-use Rattle.registry.specs.declared.Found.the-variants.{At, Nothing}
 use Rattle.registry.proofs.SlotLaws.{name-of, key-slot}
 use Rattle.registry.proofs.RegistryLaws.{found-name, slot-there}
 use Rattle.registry.proofs.WellFormedLaws.{slot-good}
 use Rattle.shipped.specs.Shipped.{ListedKey, keysIn}
 use Rattle.lookup.specs.Lookup.{Source, own, listed, keyNamed}
 use Rattle.judgement.specs.Status.{statusNumber}
-use Rattle.judgement.specs.Operations.{Result, success, refuse, importable, performImport, destroyOf, performDestroy, performListOpcodes, perform, operated}
+use Rattle.judgement.specs.Operations.{Result, success, refuse, performImport, destroyOf, performDestroy, performListOpcodes, perform, operated}
 use Rattle.judgement.specs.Judgement.{applicationOf, askersSlots, resultOf}
 use Rattle.judgement.specs.declared.Status.the-variants.{DeserializingBodyFailed}
 use Rattle.judgement.proofs.SourceLaws.{own-there}
+use Rattle.judgement.proofs.ImportLaws.{import-ends}
 use Rattle.judgement.proofs.AskerLaws.{served-passes}
 use Rattle.judgement.proofs.Results.{served-status, by-result}
 use Rattle.journal.specs.Record.{Act, importing, destroying}
@@ -69,22 +68,9 @@ rests-none slots line (clear slot) e = absurd (true≢false (ap isFill e))
 
 module _ (slots : List Entry) (keys : List ListedKey) (line : Line) where
   import-act : (key : Key) → isServed (performImport key slots keys) ≡ true → some (importing line key) ≡ actOfChange slots line (performImport key slots keys .change)
-  unfolding performImport refuse success statusNumber actOfChange
-  import-act key s = first (importable key) refl
-    where
-      third : importable key ≡ true → keyNamed (key .name) slots keys ≡ none → (f : Found) → slotNamed [] slots ≡ f
-          → some (importing line key) ≡ actOfChange slots line (performImport key slots keys .change)
-      third v n Nothing e = absurd (false≢true (rw (v, n, e, performImport) at s))
-      third v n (At slot) e = rw (v, n, e, performImport)
-
-      second : importable key ≡ true → (o : Option Source) → keyNamed (key .name) slots keys ≡ o
-          → some (importing line key) ≡ actOfChange slots line (performImport key slots keys .change)
-      second v (some source) e = absurd (false≢true (rw (v, e, performImport) at s))
-      second v none e = third v e (slotNamed [] slots) refl
-
-      first : (t : Bool) → importable key ≡ t → some (importing line key) ≡ actOfChange slots line (performImport key slots keys .change)
-      first false e = absurd (false≢true (rw (e, performImport) at s))
-      first true e = second e (keyNamed (key .name) slots keys) refl
+  unfolding performImport refuse success actOfChange
+  import-act key = import-ends importBits slots keys key (λ (x : Result). isServed x ≡ true → some (importing line key) ≡ actOfChange slots line (x .change))
+      (λ status z s. absurd (false≢true (sym z ∙ s))) (λ slot t n e s. refl)
 
   destroy-act : (name : List ℕ) → isServed (performDestroy name slots keys) ≡ true → some (destroying line name) ≡ actOfChange slots line (performDestroy name slots keys .change)
   unfolding performDestroy destroyOf refuse success statusNumber actOfChange

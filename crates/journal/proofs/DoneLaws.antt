@@ -1,13 +1,13 @@
 -- An import or a destroy carried out on a registry, the list of keys that we ship left aside, case by case.
 use mathlib.Core.Path.{_≡_, refl, sym, ap, _∙_}
-use mathlib.Core.Bool.{true, false}
+use mathlib.Core.Bool.{Bool, true, false, _&&_}
 use mathlib.Core.Option.{none, some}
 use mathlib.Core.List.{List, []}
 use Prim.Native.Nat.{ℕ}
 use lib.ListN.{getD}
 use lib.Dec.{eqb}
 use Rattle.keys.specs.Names.{legalName, keyNameMost}
-use Rattle.keys.specs.Key.{Key}
+use Rattle.keys.specs.Key.{Key, legalBits}
 use Rattle.messages.specs.Operations.{nothing}
 use Rattle.registry.specs.Slots.{Entry, free, held}
 use Rattle.registry.specs.Registry.{slotNamed, Change, fill, clear, changed}
@@ -18,12 +18,11 @@ use Rattle.shipped.specs.Shipped.{listedNamed}
 use Rattle.lookup.specs.Lookup.{own, ownIn, listedIn, keyNamed}
 use Rattle.lookup.proofs.LookupLaws.{own-named, none-own}
 use Rattle.judgement.specs.Status.{statusNumber}
-use Rattle.judgement.specs.Operations.{Result, success, refuse, importable, performImport, destroyOf, performDestroy}
+use Rattle.judgement.specs.Operations.{Result, success, refuse, withinBounds, importBy, destroyOf, performDestroy}
 use Rattle.judgement.specs.declared.Status.{Status}
-use Rattle.judgement.specs.declared.Status.the-variants.{PsaErrorInvalidArgument, PsaErrorAlreadyExists, PsaErrorDoesNotExist, PsaErrorInsufficientStorage}
+use Rattle.judgement.specs.declared.Status.the-variants.{PsaErrorInvalidArgument, PsaErrorNotSupported, PsaErrorAlreadyExists, PsaErrorDoesNotExist, PsaErrorInsufficientStorage}
 use Rattle.judgement.proofs.SourceLaws.{held-there}
-use Rattle.judgement.proofs.Results.{importable-name}
-use Rattle.judgement.proofs.DecidedLaws.{bad-key, name-taken, no-slot, imported}
+use Rattle.judgement.proofs.ImportLaws.{bounded-name, Taken, out-of-bounds, other-bits, name-taken, no-slot, imported}
 use Rattle.journal.specs.code.Done.{Done, doneOn}
 
 -- ---- which key a legal name stands for
@@ -92,19 +91,24 @@ module _ (g : List ℕ) (line : Line) where
 
   module _ (key : Key) (slots : List Entry) where
     abbrev done : Done
-    done = doneOn g line (performImport key slots [])
+    done = doneOn g line (importBy legalBits key slots [])
 
-    pub import-bad : importable key ≡ false → record { served = false; registry = g } ≡ done
-    import-bad e = refused-done _ PsaErrorInvalidArgument (unfold statusNumber in refl) (bad-key slots [] key e)
+    pub import-bad : withinBounds key && legalBits (key .bits) ≡ false → record { served = false; registry = g } ≡ done
+    import-bad e = go (withinBounds key) refl e
+      where
+        go : (t : Bool) → withinBounds key ≡ t → t && legalBits (key .bits) ≡ false → record { served = false; registry = g } ≡ done
+        go false w b = refused-done _ PsaErrorInvalidArgument (unfold statusNumber in refl) (out-of-bounds legalBits slots [] key w)
+        go true w b = refused-done _ PsaErrorNotSupported (unfold statusNumber in refl) (other-bits legalBits slots [] key w b)
 
-    pub import-taken : importable key ≡ true → (slot : Slot) → slotNamed (key .name) slots ≡ At slot → record { served = false; registry = g } ≡ done
-    import-taken e slot w =
-        let (k, there) = name-held (key .name) slots (importable-name key e) slot w in
-        refused-done _ PsaErrorAlreadyExists (unfold statusNumber in refl) (name-taken slots [] key e (own slot k) there)
+    module _ (t : Taken legalBits key) where
+      pub import-taken : (slot : Slot) → slotNamed (key .name) slots ≡ At slot → record { served = false; registry = g } ≡ done
+      import-taken slot w =
+          let (k, there) = name-held (key .name) slots (bounded-name key (t .bounds)) slot w in
+          refused-done _ PsaErrorAlreadyExists (unfold statusNumber in refl) (name-taken legalBits slots [] key t (own slot k) there)
 
-    pub import-full : importable key ≡ true → slotNamed (key .name) slots ≡ Nothing → slotNamed [] slots ≡ Nothing → record { served = false; registry = g } ≡ done
-    import-full e w f = refused-done _ PsaErrorInsufficientStorage (unfold statusNumber in refl) (no-slot slots [] key e (name-free (key .name) slots w) f)
+      module _ (w : slotNamed (key .name) slots ≡ Nothing) where
+        pub import-full : slotNamed [] slots ≡ Nothing → record { served = false; registry = g } ≡ done
+        import-full f = refused-done _ PsaErrorInsufficientStorage (unfold statusNumber in refl) (no-slot legalBits slots [] key t (name-free (key .name) slots w) f)
 
-    pub import-done : importable key ≡ true → slotNamed (key .name) slots ≡ Nothing → (slot : Slot) → slotNamed [] slots ≡ At slot
-        → record { served = true; registry = changed g line (fill slot key) } ≡ done
-    import-done e w slot f = success-done _ (fill slot key) (imported slots [] key e (name-free (key .name) slots w) slot f)
+        pub import-done : (slot : Slot) → slotNamed [] slots ≡ At slot → record { served = true; registry = changed g line (fill slot key) } ≡ done
+        import-done slot f = success-done _ (fill slot key) (imported legalBits slots [] key t (name-free (key .name) slots w) slot f)

@@ -11,21 +11,18 @@ use Rattle.wire.specs.Choice.{if_then_else_}
 use Rattle.wire.specs.Numbers.{field}
 use Rattle.wire.proofs.TestLaws.{and-left, and-right, some≢none, either}
 use Rattle.keys.specs.Names.{legalName, keyNameMost}
-use Rattle.keys.specs.Key.{Key}
+use Rattle.keys.specs.Key.{Key, legalBits}
 use Rattle.registry.specs.Slots.{Entry}
-use Rattle.registry.specs.Registry.{lineCount, slotsOf, slotNamed, changed}
+use Rattle.registry.specs.Registry.{lineCount, slotsOf, changed}
 use Rattle.registry.specs.WellFormed.{wellFormedRegistry}
 use Rattle.registry.specs.declared.Line.{Line}
-use Rattle.registry.specs.declared.Found.{Found}
-use Rattle.registry.specs.declared.Found.the-variants.{At, Nothing}
 use Rattle.registry.proofs.RegistryLaws.{Used}
 use Rattle.registry.proofs.WellFormedLaws.{Allowed, stays, fills, clears, change-kept}
 use Rattle.judgement.specs.Status.{statusNumber}
 use Rattle.lookup.specs.Lookup.{Source, own, listed, keyNamed}
-use Rattle.judgement.specs.Operations.{Result, success, refuse, importable, performImport, destroyOf, performDestroy}
-use Rattle.judgement.proofs.SourceLaws.{own-there, none-there}
-use Rattle.judgement.proofs.Results.{importable-name}
-use Rattle.judgement.proofs.JudgementLaws.{importable-legal}
+use Rattle.judgement.specs.Operations.{Result, success, refuse, importBy, destroyOf, performDestroy}
+use Rattle.judgement.proofs.SourceLaws.{own-there}
+use Rattle.judgement.proofs.ImportLaws.{bounded-legal, import-ends, new-there}
 use Rattle.reading.specs.Reader.{Step}
 use Rattle.reading.proofs.ReaderLaws.{always}
 use Rattle.records.specs.Records.{recordLength}
@@ -36,22 +33,10 @@ use Rattle.journal.specs.Replay.{inUse, carriedOut, replay, Judged, good
 use Rattle.journal.specs.Reader.{Kept, reading, afterRecord, afterByte, journal, readJournal}
 
 module _ (slots : List Entry) where
-  import-allowed : (key : Key) → Allowed slots (performImport key slots [] .change)
-  unfolding performImport refuse success
-  import-allowed key = first (importable key) refl
-    where
-      third : importable key ≡ true → keyNamed (key .name) slots [] ≡ none → (f : Found) → slotNamed [] slots ≡ f → Allowed slots (performImport key slots [] .change)
-      third v n Nothing e = rw (v, n, e, performImport) stays
-      third v n (At slot) e =
-          rw (v, n, e, performImport) (fills (importable-legal key v) (none-there (key .name) slots [] (importable-name key v) n) e)
-
-      second : importable key ≡ true → (o : Option Source) → keyNamed (key .name) slots [] ≡ o → Allowed slots (performImport key slots [] .change)
-      second v (some source) e = rw (v, e, performImport) stays
-      second v none e = third v e (slotNamed [] slots) refl
-
-      first : (t : Bool) → importable key ≡ t → Allowed slots (performImport key slots [] .change)
-      first false e = rw (e, performImport) stays
-      first true e = second e (keyNamed (key .name) slots []) refl
+  import-allowed : (key : Key) → Allowed slots (importBy legalBits key slots [] .change)
+  unfolding refuse success
+  import-allowed key = import-ends legalBits slots [] key (λ (x : Result). Allowed slots (x .change)) (λ status z. stays)
+      (λ slot t n e. fills (bounded-legal key (t .bounds) (t .bits)) (new-there legalBits slots [] key t n) e)
 
   destroy-allowed : (name : List ℕ) → Allowed slots (performDestroy name slots [] .change)
   unfolding performDestroy destroyOf refuse success

@@ -17,14 +17,14 @@ use Rattle.wire.proofs.ListLaws.{length-part}
 use Rattle.wire.proofs.BlockLaws.{block-at}
 use Rattle.wire.proofs.BufferLaws.{lent}
 use Rattle.records.specs.Records.{Record}
-use Rattle.keys.specs.Key.{Key}
+use Rattle.keys.specs.Key.{Key, legalBits}
 use Rattle.registry.specs.Names.{nameIn}
 use Rattle.registry.specs.Registry.{lineCount, lineSize, registrySize, linesIn, namesIn, lineAt, slotsOf, changed}
 use Rattle.registry.specs.WellFormed.{isUsed}
 use Rattle.registry.specs.code.Check.{keyFrom}
 use Rattle.registry.specs.declared.Line.{Line}
 use Rattle.judgement.specs.Status.{statusNumber}
-use Rattle.judgement.specs.Operations.{Result, performImport, performDestroy}
+use Rattle.judgement.specs.Operations.{Result, importBy, performDestroy}
 use Rattle.journal.specs.declared.Fault.the-variants.{NotAllowed}
 use Rattle.journal.specs.Record.{Act, importing, destroying, lineIn, nameAt, keyIn, importTests, valueMost, actIn}
 use Rattle.journal.specs.Replay.{inUse, carriedOut, replay, faultNumber, good, bad, judgeAct}
@@ -157,9 +157,9 @@ module _ (g v : List ℕ) where
         → d ≡ doneOn g (lineIn v) (performDestroy (drop 1 v) (slotsOf g (lineIn v)) [])
     destroy-is d e = e ∙ ap₂ (λ (l : Line) (name : List ℕ). doneOn g l (performDestroy name (slotsOf g l) [])) line-is (lent 1 v)
 
-    pub import-is : (key : Key) → key ≡ keyIn v → (d : Done) → d ≡ doneOn g (record { 0 = n }) (performImport key (slotsOf g (record { 0 = n })) [])
-        → d ≡ doneOn g (lineIn v) (performImport (keyIn v) (slotsOf g (lineIn v)) [])
-    import-is key k d e = e ∙ ap₂ (λ (l : Line) (k : Key). doneOn g l (performImport k (slotsOf g l) [])) line-is k
+    pub import-is : (key : Key) → key ≡ keyIn v → (d : Done) → d ≡ doneOn g (record { 0 = n }) (importBy legalBits key (slotsOf g (record { 0 = n })) [])
+        → d ≡ doneOn g (lineIn v) (importBy legalBits (keyIn v) (slotsOf g (lineIn v)) [])
+    import-is key k d e = e ∙ ap₂ (λ (l : Line) (k : Key). doneOn g l (importBy legalBits k (slotsOf g l) [])) line-is k
 
   module _ (there : actIn (record { tag = 3; value = v }) ≡ some (destroying (lineIn v) (drop 1 v))) where
     pub destroy-unused : inUse g (lineIn v) ≡ false → record { fault = 3; registry = g } ≡ left g (record { tag = 3; value = v })
@@ -172,9 +172,9 @@ module _ (g v : List ℕ) where
 
   module _ (there : actIn (record { tag = 2; value = v }) ≡ some (importing (lineIn v) (keyIn v))) where
     pub import-unused : inUse g (lineIn v) ≡ false → record { fault = 3; registry = g } ≡ left g (record { tag = 2; value = v })
-    import-unused u = left-unused g _ (lineIn v) (performImport (keyIn v) (slotsOf g (lineIn v)) []) _ there (unfold replay in refl) u
+    import-unused u = left-unused g _ (lineIn v) (importBy legalBits (keyIn v) (slotsOf g (lineIn v)) []) _ there (unfold replay in refl) u
 
     pub import-left : inUse g (lineIn v) ≡ true → (t : Bool) (after : List ℕ)
-        → record { served = t; registry = after } ≡ doneOn g (lineIn v) (performImport (keyIn v) (slotsOf g (lineIn v)) [])
+        → record { served = t; registry = after } ≡ doneOn g (lineIn v) (importBy legalBits (keyIn v) (slotsOf g (lineIn v)) [])
         → record { fault = if t then 0 else 3; registry = after } ≡ left g (record { tag = 2; value = v })
-    import-left u t after q = left-done g _ (lineIn v) (performImport (keyIn v) (slotsOf g (lineIn v)) []) _ there (unfold replay in refl) u (record { served = t; registry = after }) q
+    import-left u t after q = left-done g _ (lineIn v) (importBy legalBits (keyIn v) (slotsOf g (lineIn v)) []) _ there (unfold replay in refl) u (record { served = t; registry = after }) q

@@ -13,16 +13,15 @@ use Rattle.wire.specs.Numbers.{littleEndianOf}
 use Rattle.wire.specs.Request.{Request}
 use Rattle.wire.proofs.TestLaws.{some≢none, either}
 use Rattle.keys.specs.Names.{legalName, keyNameMost}
-use Rattle.keys.specs.Key.{Key, importBits}
+use Rattle.keys.specs.Key.{Key, legalBits, importBits}
+use Rattle.keys.proofs.KeyLaws.{import-legal}
 use Rattle.keys.proofs.NameLaws.{legal-short}
 use Rattle.messages.specs.Protobuf.{protobuf}
 use Rattle.messages.specs.Operations.{Operation, ping, listProviders, listOpcodes, importKey, destroyKey, exportPublicKey, verifySignature, operationOf}
 use Rattle.registry.specs.Slots.{Entry}
-use Rattle.registry.specs.Registry.{namesIn, slotsOf, slotNamed, Change, unchanged, fill, clear, addUse, changed}
+use Rattle.registry.specs.Registry.{namesIn, slotsOf, Change, unchanged, fill, clear, addUse, changed}
 use Rattle.registry.specs.WellFormed.{isUsed}
 use Rattle.registry.specs.declared.Line.{Line}
-use Rattle.registry.specs.declared.Found.{Found}
-use Rattle.registry.specs.declared.Found.the-variants.{At, Nothing}
 use Rattle.registry.proofs.SlotLaws.{short-name, short-data}
 use Rattle.registry.proofs.RegistryLaws.{Used}
 use Rattle.shipped.specs.Shipped.{ListedKey, keysIn, listedNamed}
@@ -32,12 +31,12 @@ use Rattle.rsa.specs.Signature.{verification}
 use Rattle.rsa.specs.declared.verify.Outcome.{Outcome}
 use Rattle.rsa.specs.declared.verify.Outcome.the-variants.{ValidSignature, InvalidSignature, InvalidKey}
 use Rattle.judgement.specs.Status.{statusNumber}
-use Rattle.judgement.specs.Operations.{Result, success, refuse, importable, performImport, destroyOf, performDestroy, counted, exportOf, performExport, hashSize, checked, verifyWith, performVerify, performListOpcodes, perform, operated}
+use Rattle.judgement.specs.Operations.{Result, success, refuse, importBy, performImport, destroyOf, performDestroy, counted, exportOf, performExport, hashSize, checked, verifyWith, performVerify, performListOpcodes, perform, operated}
 use Rattle.judgement.specs.Judgement.{applicationOf, askersSlots, resultOf}
 use Rattle.judgement.specs.declared.Status.the-variants.{DeserializingBodyFailed}
-use Rattle.judgement.proofs.SourceLaws.{own-there, own-held, none-there}
-use Rattle.judgement.proofs.Results.{importable-name}
-use Rattle.judgement.proofs.JudgementLaws.{asks, importable-legal}
+use Rattle.judgement.proofs.SourceLaws.{own-there, own-held}
+use Rattle.judgement.proofs.ImportLaws.{bounded-legal, Taken, imported, import-ends, new-there}
+use Rattle.judgement.proofs.JudgementLaws.{asks}
 use Rattle.judgement.proofs.AskerLaws.{served-passes}
 use Rattle.journal.specs.Record.{Act, importing, destroying, valueOf, valueMost}
 use Rattle.journal.specs.Replay.{inUse, carriedOut, replay}
@@ -113,26 +112,22 @@ module _ (slots : List Entry) (keys : List ListedKey) where
 
   -- ---- an import or a destroy that is served needs none of the keys that we ship
 
-  pub import-fills : (key : Key) → isServed (performImport key slots keys) ≡ true
-      → (performImport key slots [] ≡ performImport key slots keys) × (importable key ≡ true)
-  unfolding performImport refuse statusNumber
-  import-fills key s = first (importable key) refl
+  pub import-taken : (takes : ℕ → Bool) (key : Key) → isServed (importBy takes key slots keys) ≡ true → Taken takes key
+  unfolding refuse
+  import-taken takes key = import-ends takes slots keys key (λ (x : Result). isServed x ≡ true → Taken takes key)
+      (λ status z s. absurd (false≢true (sym z ∙ s))) (λ slot t n e s. t)
+
+  -- what Import took, it took by 01's rule of bits
+  pub import-replayed : (key : Key) → isServed (performImport key slots keys) ≡ true → importBy legalBits key slots [] ≡ performImport key slots keys
+  unfolding performImport refuse
+  import-replayed key = import-ends importBits slots keys key (λ (x : Result). isServed x ≡ true → importBy legalBits key slots [] ≡ x)
+      (λ status z s. absurd (false≢true (sym z ∙ s))) (λ slot t n e s. imported legalBits slots [] key (wider t) (alone t n) slot e)
     where
-      third : importable key ≡ true → keyNamed (key .name) slots keys ≡ none → (f : Found) → slotNamed [] slots ≡ f
-          → performImport key slots [] ≡ performImport key slots keys
-      third v n f e =
-          let alone : keyNamed (key .name) slots [] ≡ none =
-          none-own (key .name) slots [] (none-there (key .name) slots keys (importable-name key v) n) ∙ (unfold listedIn listedNamed in refl) in
-          rw (v, n, alone, performImport)
+      wider : Taken importBits key → Taken legalBits key
+      wider t = record { bounds = t .bounds; bits = import-legal (key .bits) (t .bits) }
 
-      second : importable key ≡ true → (o : Option Source) → keyNamed (key .name) slots keys ≡ o
-          → performImport key slots [] ≡ performImport key slots keys
-      second v (some source) e = absurd (false≢true (rw (v, e, performImport) at s))
-      second v none e = third v e (slotNamed [] slots) refl
-
-      first : (t : Bool) → importable key ≡ t → (performImport key slots [] ≡ performImport key slots keys) × (importable key ≡ true)
-      first false e = absurd (false≢true (rw (e, performImport) at s))
-      first true e = (second e (keyNamed (key .name) slots keys) refl, e)
+      alone : Taken importBits key → keyNamed (key .name) slots keys ≡ none → keyNamed (key .name) slots [] ≡ none
+      alone t n = none-own (key .name) slots [] (new-there importBits slots keys key t n) ∙ (unfold listedIn listedNamed in refl)
 
   pub destroy-clears : (name : List ℕ) → isServed (performDestroy name slots keys) ≡ true
       → (performDestroy name slots [] ≡ performDestroy name slots keys) × (legalName keyNameMost name ≡ true)
@@ -174,23 +169,9 @@ module _ (g : List ℕ) where
   unfolding carriedOut
   carried line x u s = rw (u, s, carriedOut)
 
-  fill-told : (key : Key) (slots : List Entry) → recorded (performImport key slots [] .change) ≡ performImport key slots [] .change
-  unfolding performImport refuse success recorded
-  fill-told key slots = first (importable key) refl
-    where
-      third : importable key ≡ true → keyNamed (key .name) slots [] ≡ none → (f : Found) → slotNamed [] slots ≡ f
-          → recorded (performImport key slots [] .change) ≡ performImport key slots [] .change
-      third v n Nothing e = rw (v, n, e, performImport)
-      third v n (At slot) e = rw (v, n, e, performImport)
-
-      second : importable key ≡ true → (o : Option Source) → keyNamed (key .name) slots [] ≡ o
-          → recorded (performImport key slots [] .change) ≡ performImport key slots [] .change
-      second v (some source) e = rw (v, e, performImport)
-      second v none e = third v e (slotNamed [] slots) refl
-
-      first : (t : Bool) → importable key ≡ t → recorded (performImport key slots [] .change) ≡ performImport key slots [] .change
-      first false e = rw (e, performImport)
-      first true e = second e (keyNamed (key .name) slots []) refl
+  fill-told : (key : Key) (slots : List Entry) → recorded (importBy legalBits key slots [] .change) ≡ importBy legalBits key slots [] .change
+  unfolding refuse success recorded
+  fill-told key slots = import-ends legalBits slots [] key (λ (x : Result). recorded (x .change) ≡ x .change) (λ status z. refl) (λ slot t n e. refl)
 
   clear-told : (name : List ℕ) (slots : List Entry) → recorded (performDestroy name slots [] .change) ≡ performDestroy name slots [] .change
   unfolding performDestroy destroyOf refuse success recorded
@@ -218,8 +199,8 @@ module _ (g : List ℕ) where
     line-served listProviders s = refl
     line-served (listOpcodes provider) s = ap (λ c. some (changed g line c)) (sym (opcodes-rest provider))
     line-served (importKey key) s =
-        let (alone, v) = import-fills slots keys key s in
-        carried line (performImport key slots []) u (ap isServed alone ∙ s)
+        let alone = import-replayed slots keys key s in
+        carried line (importBy legalBits key slots []) u (ap isServed alone ∙ s)
         ∙ ap (λ c. some (changed g line c)) (sym (fill-told key slots) ∙ ap (λ (x : Result). recorded (x .change)) alone)
     line-served (destroyKey name) s =
         let (alone, v) = destroy-clears slots keys name s in
@@ -242,7 +223,8 @@ served-carried r line x after e = go (inUse r line) (isServed x) e
 pub replay-short : (r : List ℕ) (act : Act) (after : List ℕ) → replay r act ≡ some after → length (valueOf act) ≤ valueMost
 unfolding replay valueOf littleEndianOf
 replay-short r (importing line key) after e =
-    let legal = importable-legal key (import-fills (slotsOf r line) [] key (served-carried r line _ after e) .1) in
+    let t = import-taken (slotsOf r line) [] legalBits key (served-carried r line _ after e) in
+    let legal = bounded-legal key (t .bounds) (t .bits) in
     omega (arith, short-name key legal, short-data key legal, length-append (key .name) (key .bytes))
 replay-short r (destroying line name) after e =
     omega (arith, legal-short keyNameMost name (destroy-clears (slotsOf r line) [] name (served-carried r line _ after e) .1))

@@ -8,11 +8,12 @@ use lib.ListN.{take, getD}
 use lib.Dec.{ltb, eqb}
 use Rattle.wire.specs.Choice.{if_then_else_}
 use Rattle.wire.specs.Numbers.{field}
+use Rattle.keys.specs.Key.{legalBits}
 use Rattle.registry.specs.Registry.{lineCount, namesIn, slotsOf, changed}
 use Rattle.registry.specs.WellFormed.{isUsed}
 use Rattle.registry.specs.declared.Line.{Line}
 use Rattle.judgement.specs.Status.{statusNumber}
-use Rattle.judgement.specs.Operations.{Result, performImport, performDestroy}
+use Rattle.judgement.specs.Operations.{Result, importBy, performDestroy}
 use Rattle.records.specs.Records.{recordLength, recordIn}
 use Rattle.crc.specs.Crc.{crc32}
 use Rattle.journal.specs.declared.Fault.{Fault}
@@ -27,9 +28,9 @@ unfoldable pub carriedOut : (registry : List ℕ) → Line → Result → Option
 carriedOut registry line r =
     if inUse registry line && eqb (statusNumber (r .status)) 0 then some (changed registry line (r .change)) else none
 
--- the list of keys that we ship is left aside
+-- the list of keys that we ship is left aside, and bits are by 01's rule: records from before "No more odd key lengths" are read
 unfoldable pub replay : (registry : List ℕ) → Act → Option (List ℕ)
-replay registry (importing line key) = carriedOut registry line (performImport key (slotsOf registry line) [])
+replay registry (importing line key) = carriedOut registry line (importBy legalBits key (slotsOf registry line) [])
 replay registry (destroying line name) = carriedOut registry line (performDestroy name (slotsOf registry line) [])
 
 -- J1, J2, J3

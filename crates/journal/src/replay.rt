@@ -1,7 +1,7 @@
 // A whole record carried out on the registry, as Import or Destroy does it, or refused (document 02, "Surviving a power cut").
 use keys::DATA_MOST;
 use keys::KEY_NAME_MOST;
-use keys::bits::are_import_bits;
+use keys::bits::are_legal_bits;
 use keys::data::is_legal_data;
 use keys::names::is_legal;
 use registry::Found;
@@ -14,12 +14,14 @@ use registry::find::find_slot;
 use wire::number::read_u16;
 use wire::number::wide;
 ghost use mathlib.Core.Path.{_≡_};
+ghost use mathlib.Core.Bool.{_&&_};
 ghost use mathlib.Core.List.{[]};
 ghost use Prim.Native.Nat.{_≤_, _<_};
 ghost use lib.ListN.{length};
+ghost use Rattle.keys.specs.Key.{legalBits};
 ghost use Rattle.registry.specs.Registry.{lineCount, registrySize, slotsOf};
 ghost use Rattle.registry.specs.code.Check.{keyFrom};
-ghost use Rattle.judgement.specs.Operations.{performImport, performDestroy, importable};
+ghost use Rattle.judgement.specs.Operations.{importBy, performDestroy, withinBounds};
 ghost use Rattle.journal.specs.Record.{valueMost, actIn};
 ghost use Rattle.journal.specs.Replay.{inUse, judgeAct};
 ghost use Rattle.journal.specs.code.Done.{doneOn, leftBy};
@@ -33,9 +35,9 @@ const WRONG_LAYOUT: u8 = 2;
 
 const NOT_ALLOWED: u8 = 3;
 
-// Whether Import allows the key.
+// Whether Import took the key by 01's rule of bits: a registry may hold it.
 fn is_importable(name: &[u8], bytes: &[u8], bits: u16, exported: bool, verified: bool) -> bool
-    ensures { λ r. ⌜ r ≡ importable (keyFrom (now (name .entry)) (now (bytes .entry)) bits exported verified) ⌝ }
+    ensures { λ r. ⌜ r ≡ (withinBounds (keyFrom (now (name .entry)) (now (bytes .entry)) bits exported verified) && legalBits bits) ⌝ }
 {
     if !is_legal(name, KEY_NAME_MOST) {
         return false;
@@ -43,10 +45,10 @@ fn is_importable(name: &[u8], bytes: &[u8], bits: u16, exported: bool, verified:
     if !is_legal_data(bytes.len()) {
         return false;
     }
-    are_import_bits(bits as usize)
+    are_legal_bits(bits as usize)
 }
 
-// Imports a key, if Import would; all other bytes of the registry stay.
+// Imports a key, if Import would by 01's rule of bits; all other bytes of the registry stay.
 fn import_key(
     registry: &mut [u8],
     line: Line,
@@ -57,7 +59,7 @@ fn import_key(
     verified: bool,
 ) -> bool
     requires { ⌜ (length (now registry) ≡ registrySize) × (line .0 < lineCount) ⌝ }
-    ensures { λ r. ⌜ record { served = r; registry = now (registry .exit) } ≡ doneOn (now (registry .entry)) line (performImport (keyFrom (now (name .entry)) (now (bytes .entry)) bits exported verified) (slotsOf (now (registry .entry)) line) []) ⌝ }
+    ensures { λ r. ⌜ record { served = r; registry = now (registry .exit) } ≡ doneOn (now (registry .entry)) line (importBy legalBits (keyFrom (now (name .entry)) (now (bytes .entry)) bits exported verified) (slotsOf (now (registry .entry)) line) []) ⌝ }
 {
     if !is_importable(name, bytes, bits, exported, verified) {
         return false;

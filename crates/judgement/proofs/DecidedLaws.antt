@@ -1,8 +1,8 @@
 -- Laws of decisions: for each way an operation can end, what the rules make of it, from the facts that the code has there.
 use mathlib.Core.Path.{_≡_, refl, sym, ap, _∙_, subst}
-use mathlib.Core.Bool.{Bool, true, false, and-true}
+use mathlib.Core.Bool.{Bool, true, false}
 use mathlib.Core.Option.{none, some}
-use mathlib.Core.List.{List, []}
+use mathlib.Core.List.{List}
 use Prim.Native.Nat.{ℕ, _≤_, _<_}
 use native.Mathlib.Omega.{arith}
 use borrow.Author.Tests.{eq-eqb, ne-eqb, lt-ltb, le-ltb}
@@ -11,12 +11,11 @@ use lib.Dec.{eqb}
 use Rattle.wire.proofs.ListLaws.{length-part}
 use Rattle.wire.proofs.TestLaws.{some≢none}
 use Rattle.keys.specs.Names.{legalName, keyNameMost}
-use Rattle.keys.specs.Key.{Key, legalData, importBits}
+use Rattle.keys.specs.Key.{Key, importBits}
 use Rattle.registry.specs.Slots.{Entry, free, held}
-use Rattle.registry.specs.Registry.{slotCount, slotsOf, slotNamed, unchanged, fill, clear}
+use Rattle.registry.specs.Registry.{slotCount, slotsOf, unchanged, fill, clear}
 use Rattle.registry.specs.declared.Line.{Line}
 use Rattle.registry.specs.declared.Slot.{Slot}
-use Rattle.registry.specs.declared.Found.the-variants.{At, Nothing as Missing}
 use Rattle.keys.proofs.NameLaws.{legal-short}
 use Rattle.keys.proofs.KeyLaws.{legal-data, legal-bits}
 use Rattle.registry.proofs.SlotLaws.{Legal}
@@ -34,17 +33,18 @@ use Rattle.messages.specs.Operations as message
 use Rattle.messages.specs.Placed.{keyIn}
 use Rattle.messages.specs.declared.ask.KeyPlaces.{KeyPlaces}
 use Rattle.judgement.specs.Status.{statusNumber}
-use Rattle.judgement.specs.Operations.{Result, success, refuse, importable, performImport, destroyOf, performDestroy, counted, exportOf, performExport, hashSize, checked, verifyWith, performVerify, performListOpcodes, perform, operated}
+use Rattle.judgement.specs.Operations.{Result, success, refuse, destroyOf, performDestroy, counted, exportOf, performExport, hashSize, checked, verifyWith, performVerify, performListOpcodes, perform, operated}
 use Rattle.judgement.specs.code.Decided.{outputIn, changeOf, resultIn, refusedWith, countedAt, verifier, KeyWithin, KeyParts, SafeOutput, Decided}
 use Rattle.judgement.specs.declared.Status.{Status}
-use Rattle.judgement.specs.declared.Status.the-variants.{Success, ProviderDoesNotExist, DeserializingBodyFailed, PsaErrorNotPermitted, PsaErrorInvalidArgument, PsaErrorNotSupported, PsaErrorAlreadyExists, PsaErrorDoesNotExist, PsaErrorInsufficientStorage}
+use Rattle.judgement.specs.declared.Status.the-variants.{Success, ProviderDoesNotExist, DeserializingBodyFailed, PsaErrorNotPermitted, PsaErrorInvalidArgument, PsaErrorNotSupported, PsaErrorDoesNotExist}
 use Rattle.judgement.specs.declared.Output.{Output}
 use Rattle.judgement.specs.declared.Output.the-variants.{Nothing, Opcodes, Data}
 use Rattle.judgement.specs.declared.Edit.the-variants.{Stays, Fills, Clears}
 use Rattle.judgement.specs.declared.Decision.{Decision}
 use Rattle.judgement.proofs.SourceLaws.{bytes-at, at-own, at-listed, source, at-source, at-alike}
 use Rattle.judgement.proofs.Results.{refused-uncounted}
-use Rattle.judgement.proofs.JudgementLaws.{importable-legal}
+use Rattle.judgement.proofs.ImportLaws.{Taken}
+use Rattle.judgement.proofs.JudgementLaws.{taken-legal}
 
 -- ---- what a decision comes to
 
@@ -127,46 +127,11 @@ pub opcodes-listed : (slots : List Entry) (list : List ℕ) (provider : ℕ) →
 unfolding performListOpcodes outputIn
 opcodes-listed slots list provider h = rw (le-ltb 1 provider h)
 
--- ---- Import
+-- ---- the parts of a key that Import takes
 
--- what of a key is left to be judged, behind each test that passed
-module _ (key : Key) where
-  pub bad-name : legalName keyNameMost (key .name) ≡ false → importable key ≡ false
-  unfolding importable
-  bad-name n = rw n
-
-  module _ (n : legalName keyNameMost (key .name) ≡ true) where
-    pub bad-data : legalData (key .bytes) ≡ false → importable key ≡ false
-    unfolding importable
-    bad-data d = rw (n, d)
-
-    pub bits-left : legalData (key .bytes) ≡ true → importable key ≡ importBits (key .bits)
-    unfolding importable
-    bits-left d = rw (n, d) (and-true _)
-
-module _ (slots : List Entry) (keys : List ListedKey) (key : Key) where
-  pub bad-key : importable key ≡ false → performImport key slots keys ≡ refuse PsaErrorInvalidArgument
-  unfolding performImport
-  bad-key t = rw t
-
-  module _ (t : importable key ≡ true) where
-    pub name-taken : (source : Source) → keyNamed (key .name) slots keys ≡ some source → performImport key slots keys ≡ refuse PsaErrorAlreadyExists
-    unfolding performImport
-    name-taken source e = rw (t, e)
-
-    module _ (new : keyNamed (key .name) slots keys ≡ none) where
-      pub no-slot : slotNamed [] slots ≡ Missing → performImport key slots keys ≡ refuse PsaErrorInsufficientStorage
-      unfolding performImport
-      no-slot e = rw (t, new, e)
-
-      pub imported : (slot : Slot) → slotNamed [] slots ≡ At slot → performImport key slots keys ≡ success nothing (fill slot key)
-      unfolding performImport
-      imported slot e = rw (t, new, e)
-
--- the parts of a key that Import allows
-pub key-parts : (body : List ℕ) (key : KeyPlaces) → KeyWithin (length body) key → importable (keyIn body key) ≡ true → KeyParts (length body) key
+pub key-parts : (body : List ℕ) (key : KeyPlaces) → KeyWithin (length body) key → Taken importBits (keyIn body key) → KeyParts (length body) key
 key-parts body key inside t =
-    let legal : Legal (keyIn body key) = importable-legal (keyIn body key) t in
+    let legal : Legal (keyIn body key) = taken-legal (keyIn body key) t in
     let n = length-part body (key .name .start) (key .name .len) (inside .0) in
     let b = length-part body (key .bytes .start) (key .bytes .len) (inside .1) in
     record {

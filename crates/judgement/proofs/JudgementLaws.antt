@@ -3,16 +3,15 @@
 use mathlib.Core.Path.{_≡_, refl, sym, ap}
 use mathlib.Core.Bool.{Bool, true, false}
 use mathlib.Core.Option.{Option, none, some}
-use mathlib.Core.List.{List, [], _∷_}
+use mathlib.Core.List.{List}
 use Prim.Native.Nat.{ℕ}
 use lib.Dec.{eqb}
 use Rattle.wire.specs.Choice.{if_then_else_}
 use Rattle.wire.specs.Request.{Request, requestOf}
-use Rattle.wire.proofs.TestLaws.{some≢none, every-at, either}
+use Rattle.wire.proofs.TestLaws.{some≢none, either}
 use Rattle.stream.specs.Frame.{oversized}
 use Rattle.stream.specs.Rules.{Verdict, judge}
-use Rattle.keys.specs.Names.{legalName, keyNameMost}
-use Rattle.keys.specs.Key.{Key, legalData, importBits}
+use Rattle.keys.specs.Key.{Key, importBits}
 use Rattle.registry.specs.Slots.{Entry}
 use Rattle.registry.specs.Registry.{namesIn, applicationNamed, unchanged, changed}
 use Rattle.registry.specs.WellFormed.{wellFormedRegistry}
@@ -25,10 +24,11 @@ use Rattle.shipped.specs.Shipped.{ListedKey}
 use Rattle.lookup.specs.Lookup.{Source, own, listed, keyNamed}
 use Rattle.messages.specs.Operations.{Output}
 use Rattle.judgement.specs.Status.{statusNumber}
-use Rattle.judgement.specs.Operations.{Result, success, refuse, importable, counted}
+use Rattle.judgement.specs.Operations.{Result, success, refuse, counted}
 use Rattle.judgement.specs.Counts.{Counts}
 use Rattle.judgement.specs.Judgement.{applicationOf, askersSlots, resultOf, changedBy, verdictOf, refusedEarly, judgement}
 use Rattle.judgement.proofs.SourceLaws.{own-there, own-held}
+use Rattle.judgement.proofs.ImportLaws.{Taken, bounded-legal}
 use Rattle.judgement.proofs.Results.{served-status, by-result}
 
 -- ---- the application that asks
@@ -43,11 +43,8 @@ asks r q line e = go (eqb (q .authType) 0) e
 
 -- ---- the registry after a request
 
-pub importable-legal : (key : Key) → importable key ≡ true → Legal key
-unfolding importable
-importable-legal key e =
-    let tests : List Bool = legalName keyNameMost (key .name) ∷ legalData (key .bytes) ∷ importBits (key .bits) ∷ [] in
-    record { name = every-at tests 0 e; bytes = every-at tests 1 e; bits = import-legal _ (every-at tests 2 e) }
+pub taken-legal : (key : Key) → Taken importBits key → Legal key
+taken-legal key t = bounded-legal key (t .bounds) (import-legal _ (t .bits))
 
 use-allowed : (slots : List Entry) (keys : List ListedKey) (name : List ℕ) (source : Source) → keyNamed name slots keys ≡ some source
     → (output : Output) → Allowed slots (counted source (success output unchanged) .change)
@@ -60,7 +57,7 @@ unfolding refuse success
 result-allowed list r q = by-result list r q (λ x. Allowed (askersSlots r (applicationOf r q)) (x .change)) (record {
   refused = λ status. stays;
   served = λ output h. stays;
-  imported = λ slot key v n e. fills (importable-legal key v) n e;
+  imported = λ slot key t n e. fills (taken-legal key t) n e;
   destroyed = λ slot name e. clears name e;
   exported = λ source name e. use-allowed _ _ name source e _;
   verified = λ source name e. use-allowed _ _ name source e _;

@@ -1,5 +1,6 @@
 pub mod StatusLaws
 pub mod SourceLaws
+pub mod ImportLaws
 pub mod Results
 pub mod JudgementLaws
 pub mod NamesLaws

@@ -10,12 +10,10 @@ use lib.Dec.{ltb, eqb}
 use Rattle.wire.specs.Choice.{firstOf}
 use Rattle.wire.specs.Request.{Request}
 use Rattle.keys.specs.Names.{legalName, keyNameMost}
-use Rattle.wire.proofs.TestLaws.{every-at}
-use Rattle.keys.specs.Key.{Key, legalData, importBits}
+use Rattle.keys.specs.Key.{Key, importBits}
 use Rattle.registry.specs.Slots.{Entry}
 use Rattle.registry.specs.Registry.{slotNamed, unchanged, fill, clear}
 use Rattle.registry.specs.declared.Slot.{Slot}
-use Rattle.registry.specs.declared.Found.{Found}
 use Rattle.registry.specs.declared.Found.the-variants.{At, Nothing}
 use Rattle.shipped.specs.Shipped.{ListedKey, keysIn}
 use Rattle.lookup.specs.Lookup.{Source, own, listed as shipped, keyOf, keyNamed}
@@ -28,17 +26,18 @@ use Rattle.messages.specs.Operations as message
 use Rattle.messages.specs.Opcodes.{opcodesOf}
 use Rattle.messages.proofs.WriteLaws.{version-short, providers-short, opcodes-short}
 use Rattle.judgement.specs.Status.{statusNumber}
-use Rattle.judgement.specs.Operations.{Result, success, refuse, importable, performImport, destroyOf, performDestroy, counted, exportOf, performExport, hashSize, checked, verifyWith, performVerify, performListOpcodes, perform, operated}
+use Rattle.judgement.specs.Operations.{Result, success, refuse, performImport, destroyOf, performDestroy, counted, exportOf, performExport, hashSize, checked, verifyWith, performVerify, performListOpcodes, perform, operated}
 use Rattle.judgement.specs.Judgement.{applicationOf, refusals, askersSlots, resultOf}
 use Rattle.judgement.specs.declared.Status.{Status}
 use Rattle.judgement.specs.declared.Status.the-variants.{Success}
-use Rattle.judgement.proofs.SourceLaws.{own-there, none-there}
+use Rattle.judgement.proofs.SourceLaws.{own-there}
+use Rattle.judgement.proofs.ImportLaws.{Taken, import-ends, new-there}
 
 -- the ways to end, on these slots and these keys that we ship
 pub record Ends (slots : List Entry) (keys : List ListedKey) (P : Result → Type 0) : Type 0 where
   pub refused : (status : Status) → P (refuse status)
   pub served : (output : Output) → length (message.outputBytes protobuf output) ≤ 6 → P (success output unchanged)
-  pub imported : (slot : Slot) (key : Key) → importable key ≡ true → slotNamed (key .name) slots ≡ Nothing → slotNamed [] slots ≡ At slot
+  pub imported : (slot : Slot) (key : Key) → Taken importBits key → slotNamed (key .name) slots ≡ Nothing → slotNamed [] slots ≡ At slot
       → P (success nothing (fill slot key))
   pub destroyed : (slot : Slot) (name : List ℕ) → slotNamed name slots ≡ At slot → P (success nothing (clear slot))
   pub exported : (source : Source) (name : List ℕ) → keyNamed name slots keys ≡ some source
@@ -69,26 +68,11 @@ module _ (source : Source) where
     | shipped key ↦ refl
   ]
 
-pub importable-name : (key : Key) → importable key ≡ true → legalName keyNameMost (key .name) ≡ true
-unfolding importable
-importable-name key e = every-at (legalName keyNameMost (key .name) ∷ legalData (key .bytes) ∷ importBits (key .bits) ∷ []) 0 e
-
 module _ (slots : List Entry) (keys : List ListedKey) (P : Result → Type 0) (ends : Ends slots keys P) where
   by-import : (key : Key) → P (performImport key slots keys)
   unfolding performImport
-  by-import key = go (importable key) refl
-    where
-      third : importable key ≡ true → keyNamed (key .name) slots keys ≡ none → (f : Found) → slotNamed [] slots ≡ f → P (performImport key slots keys)
-      third v n Nothing e = rw (v, n, e, performImport) (ends .refused _)
-      third v n (At slot) e = rw (v, n, e, performImport) (ends .imported slot key v (none-there (key .name) slots keys (importable-name key v) n) e)
-
-      second : importable key ≡ true → (o : Option Source) → keyNamed (key .name) slots keys ≡ o → P (performImport key slots keys)
-      second v (some source) e = rw (v, e, performImport) (ends .refused _)
-      second v none e = third v e (slotNamed [] slots) refl
-
-      go : (t : Bool) → importable key ≡ t → P (performImport key slots keys)
-      go false e = rw (e, performImport) (ends .refused _)
-      go true e = second e (keyNamed (key .name) slots keys) refl
+  by-import key = import-ends importBits slots keys key P (λ status e. ends .refused status)
+      (λ slot t n e. ends .imported slot key t (new-there importBits slots keys key t n) e)
 
   by-destroying : (name : List ℕ) (source : Source) → keyNamed name slots keys ≡ some source → P (destroyOf source)
   unfolding destroyOf

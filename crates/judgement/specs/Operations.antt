@@ -1,5 +1,5 @@
--- "Operations and their fields"; document 02, "Checking signatures", "Keys we ship", "Use per key": what each operation does with
--- the slots of the application that asks and with the keys that we ship, and what it answers.
+-- "Operations and their fields"; document 02, "Checking signatures", "Keys we ship", "Use per key", "No more odd key lengths": what
+-- each operation does with the slots of the application that asks and with the keys that we ship, and what it answers.
 use Prim.Native.Nat.{ℕ}
 use mathlib.Core.Bool.{Bool, not}
 use mathlib.Core.Option.{none, some}
@@ -43,21 +43,29 @@ performListOpcodes provider =
     if ltb 1 provider then refuse ProviderDoesNotExist
     else success (opcodes (opcodesOf provider)) unchanged
 
-unfoldable pub importable : Key → Bool
-importable key = every (legalName keyNameMost (key .name) ∷ legalData (key .bytes) ∷ importBits (key .bits) ∷ [])
+-- name and data
+unfoldable pub withinBounds : Key → Bool
+withinBounds key = every (legalName keyNameMost (key .name) ∷ legalData (key .bytes) ∷ [])
 
--- out of bounds 1135, a name that is held or listed 1139, all slots in use 1142; the lowest-numbered free slot, which has the
--- empty name, is filled
+-- a name that is held or listed 1139, all slots in use 1142; the lowest-numbered free slot, which has the empty name, is filled
+unfoldable pub placeKey : Key → (slots : List Entry) (keys : List ListedKey) → Result
+placeKey key slots keys = elim (keyNamed (key .name) slots keys) [
+  | some source ↦ refuse PsaErrorAlreadyExists
+  | none ↦ elim (slotNamed [] slots) [
+    | Nothing ↦ refuse PsaErrorInsufficientStorage
+    | At slot ↦ success nothing (fill slot key)
+  ]
+]
+
+-- out of bounds 1135, then 1134 for bits that the rule doesn't take; the journal's reader has another rule than Import
+unfoldable pub importBy : (takes : ℕ → Bool) → Key → (slots : List Entry) (keys : List ListedKey) → Result
+importBy takes key slots keys =
+    if not (withinBounds key) then refuse PsaErrorInvalidArgument
+    else if not (takes (key .bits)) then refuse PsaErrorNotSupported
+    else placeKey key slots keys
+
 unfoldable pub performImport : Key → (slots : List Entry) (keys : List ListedKey) → Result
-performImport key slots keys =
-    if not (importable key) then refuse PsaErrorInvalidArgument
-    else elim (keyNamed (key .name) slots keys) [
-      | some source ↦ refuse PsaErrorAlreadyExists
-      | none ↦ elim (slotNamed [] slots) [
-        | Nothing ↦ refuse PsaErrorInsufficientStorage
-        | At slot ↦ success nothing (fill slot key)
-      ]
-    ]
+performImport key slots keys = importBy importBits key slots keys
 
 -- an own key becomes free; one that we ship stays
 unfoldable pub destroyOf : Source → Result
@@ -97,7 +105,8 @@ checked ValidSignature = success nothing unchanged
 checked InvalidKey = refuse PsaErrorNotSupported
 checked InvalidSignature = refuse PsaErrorInvalidSignature
 
--- 1133 if verify isn't allowed, 1135 for a hash not of 32 bytes, 1134 for bits that Import would not take, then the check's
+-- 1133 if verify isn't allowed, 1135 for a hash not of 32 bytes, 1134 for bits that Import does not take, of an own key from before
+-- or of a listed one, whatever its data; then the check's
 unfoldable pub verifyWith : (hash signature : List ℕ) → Key → Result
 verifyWith hash signature key =
     if not (key .verifyAllowed) then refuse PsaErrorNotPermitted

@@ -27,7 +27,7 @@ ghost use Rattle.messages.specs.Placed.{keyIn};
 ghost use Rattle.registry.specs.Registry.{lineCount, registrySize, slotsOf};
 ghost use Rattle.registry.specs.WellFormed.{wellFormedRegistry};
 ghost use Rattle.shipped.specs.Shipped.{keysIn, wellFormedList};
-ghost use Rattle.judgement.specs.Operations.{operated, performListOpcodes, performImport, performDestroy, performExport, importable};
+ghost use Rattle.judgement.specs.Operations.{operated, performListOpcodes, performImport, performDestroy, performExport, withinBounds};
 ghost use Rattle.judgement.specs.code.Decided.{refusedWith, countedAt, KeyWithin, Decided, DecidedAnywhere};
 
 // A request that is refused: no output, and nothing changes.
@@ -82,10 +82,10 @@ fn list_opcodes(provider: u32) -> Decision
     served(Output::Opcodes(provider))
 }
 
-// Whether Import allows the key.
-fn is_importable(body: &[u8], key: KeyPlaces) -> bool
+// Whether the key's name and data are within Import's bounds.
+fn is_within_bounds(body: &[u8], key: KeyPlaces) -> bool
     requires { ⌜ KeyWithin (length (now body)) key ⌝ }
-    ensures { λ r. ⌜ r ≡ importable (keyIn (now (body .entry)) key) ⌝ }
+    ensures { λ r. ⌜ r ≡ withinBounds (keyIn (now (body .entry)) key) ⌝ }
 {
     let name = key.name;
     let bytes = key.bytes;
@@ -94,10 +94,7 @@ fn is_importable(body: &[u8], key: KeyPlaces) -> bool
     if !is_legal(&body[start..end], KEY_NAME_MOST) {
         return false;
     }
-    if !is_legal_data(bytes.len) {
-        return false;
-    }
-    are_import_bits(key.bits as usize)
+    is_legal_data(bytes.len)
 }
 
 // Import, of a key in its body.
@@ -105,8 +102,11 @@ fn import(registry: &[u8], list: &[u8], line: Line, body: &[u8], key: KeyPlaces)
     requires { ⌜ (length (now registry) ≡ registrySize) × (line .0 < lineCount) × (wellFormedList (now list) ≡ true) × KeyWithin (length (now body)) key ⌝ }
     ensures { λ r. ⌜ Decided (slotsOf (now (registry .entry)) line) (now (list .entry)) (now (body .entry)) (performImport (keyIn (now (body .entry)) key) (slotsOf (now (registry .entry)) line) (keysIn (now (list .entry)))) r ⌝ }
 {
-    if !is_importable(body, key) {
+    if !is_within_bounds(body, key) {
         return refused(Status::PsaErrorInvalidArgument);
+    }
+    if !are_import_bits(key.bits as usize) {
+        return refused(Status::PsaErrorNotSupported);
     }
     let name = key.name;
     let start = name.start;

@@ -4,7 +4,7 @@ use mathlib.Core.Bool.{Bool}
 use mathlib.Core.List.{List, [], _∷_}
 use lib.ListN.{length}
 use lib.Dec.{leb, eqb}
-use Rattle.wire.specs.Lists.{every}
+use Rattle.wire.specs.Lists.{every, oneOf}
 
 pub record Key : Type 0 where
   pub name : List ℕ
@@ -19,7 +19,7 @@ dataMost = 600
 unfoldable pub legalData : List ℕ → Bool
 legalData bytes = every (leb 1 (length bytes) ∷ leb (length bytes) dataMost ∷ [])
 
--- 1,024 to 4,096 in multiples of 8: what a registry may hold
+-- 1,024 to 4,096 in multiples of 8: what a registry and a record of the journal may hold
 abbrev pub bitsLeast : ℕ
 bitsLeast = 1024
 
@@ -29,6 +29,6 @@ bitsMost = 4096
 unfoldable pub legalBits : ℕ → Bool
 legalBits bits = every (leb bitsLeast bits ∷ leb bits bitsMost ∷ eqb (bits % 8) 0 ∷ [])
 
--- Import's own rule
+-- what Import takes (document 02, "No more odd key lengths")
 unfoldable pub importBits : ℕ → Bool
-importBits bits = legalBits bits
+importBits bits = oneOf (2048 ∷ 3072 ∷ 4096 ∷ []) bits

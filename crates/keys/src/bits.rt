@@ -4,7 +4,7 @@ use crate::BITS_MOST;
 ghost use mathlib.Core.Path.{_≡_};
 ghost use Rattle.keys.specs.Key.{legalBits, importBits};
 
-// Whether a key in a registry may have this many bits.
+// Whether a key in a registry, or in a record of the journal, may have this many bits.
 pub fn are_legal_bits(bits: usize) -> bool
     ensures { λ r. ⌜ r ≡ legalBits bits ⌝ }
 {
@@ -17,9 +17,15 @@ pub fn are_legal_bits(bits: usize) -> bool
     bits % 8 == 0
 }
 
-// Whether Import takes a key of this many bits.
+// Whether Import takes a key of this many bits, and verify checks a signature by one (document 02, "No more odd key lengths").
 pub fn are_import_bits(bits: usize) -> bool
     ensures { λ r. ⌜ r ≡ importBits bits ⌝ }
 {
-    are_legal_bits(bits)
+    if bits == 2048 {
+        return true;
+    }
+    if bits == 3072 {
+        return true;
+    }
+    bits == 4096
 }

@@ -8,7 +8,7 @@ pub const KEY_NAME_MOST: usize = 32;
 
 pub const DATA_MOST: usize = 600;
 
-// The bits of a key that a registry may hold: its rule; Import has its own.
+// The bits of a key that a registry may hold; Import takes fewer.
 pub const BITS_LEAST: usize = 1024;
 
 pub const BITS_MOST: usize = 4096;

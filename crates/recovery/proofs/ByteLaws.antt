@@ -15,6 +15,7 @@ use Rattle.wire.specs.Request.{contentLength, headerLength, Request, requestOf}
 use Rattle.wire.proofs.TestLaws.{either}
 use Rattle.wire.proofs.ListLaws.{all-append, all-first, all-last, all-within}
 use Rattle.wire.proofs.NumberLaws.{isByte}
+use Rattle.keys.specs.Key.{legalBits}
 use Rattle.keys.proofs.KeyLaws.{legal-bits}
 use Rattle.messages.specs.Protobuf.{protobuf}
 use Rattle.messages.specs.Operations.{Operation, ping, listProviders, listOpcodes, importKey, destroyKey, exportPublicKey, verifySignature, Asking, inputFields, askingOf, askingBy, asked, operationIn, operationOf}
@@ -40,7 +41,7 @@ use Rattle.stream.proofs.PartsLaws.{parts-joined, rules-from-stream}
 use Rattle.judgement.specs.Status.{statusNumber}
 use Rattle.judgement.specs.Counts.{Counts}
 use Rattle.judgement.specs.Judgement.{applicationOf, resultOf}
-use Rattle.judgement.proofs.JudgementLaws.{importable-legal}
+use Rattle.judgement.proofs.ImportLaws.{bounded-legal}
 use Rattle.crc.specs.Crc.{allOnes, registerAfter, crc32}
 use Rattle.crc.proofs.ResidueLaws.{register-small}
 use Rattle.journal.specs.Record.{Act, importing, destroying, valueOf, tagOf, covered, recordOf}
@@ -48,7 +49,7 @@ use Rattle.journal.specs.Replay.{replay}
 use Rattle.journal.specs.Journalling.{actOf, actAsked, servedAct, recordFor, recordedFor, journalling, recordsIn, journalOf}
 use Rattle.journal.proofs.KeptLaws.{carried-is}
 use Rattle.journal.proofs.LeftLaws.{in-use-below}
-use Rattle.journal.proofs.ReplayLaws.{served-carried, import-fills, replay-short, Alike, replayAny, served-replayed, refused-unrecorded}
+use Rattle.journal.proofs.ReplayLaws.{served-carried, import-taken, replay-short, Alike, replayAny, served-replayed, refused-unrecorded}
 use Rattle.recovery.proofs.RequestLaws.{reply-good}
 
 -- ---- numbers
@@ -86,7 +87,8 @@ module _ (g after : List ℕ) where
   value-bytes (importing line key) (n, b) e =
       let used = carried-is g line _ after e .0 in
       let below : line .0 < 256 = omega (arith, in-use-below g line used) in
-      let legal = importable-legal key (import-fills (slotsOf g line) [] key (served-carried g line _ after e) .1) in
+      let t = import-taken (slotsOf g line) [] legalBits key (served-carried g line _ after e) in
+      let legal = bounded-legal key (t .bounds) (t .bits) in
       let few : length (key .name) < 256 = omega (arith, short-name key legal) in
       let rest : all isByte (flag (key .exportAllowed) ∷ flag (key .verifyAllowed) ∷ length (key .name) ∷ (key .name ++ key .bytes)) ≡ true
       = rw (flag-byte (key .exportAllowed), flag-byte (key .verifyAllowed), byte (length (key .name)) few) (all-append isByte (key .name) (key .bytes) n b) in

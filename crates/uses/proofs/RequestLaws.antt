@@ -37,12 +37,13 @@ use Rattle.rsa.specs.declared.verify.Outcome.{Outcome}
 use Rattle.rsa.specs.declared.verify.Outcome.the-variants.{ValidSignature, InvalidSignature, InvalidKey}
 use Rattle.stream.specs.Frame.{legalStart, oversized}
 use Rattle.judgement.specs.Status.{statusNumber}
-use Rattle.judgement.specs.Operations.{Result, success, refuse, importable, performImport, counted, exportOf, performExport, hashSize, checked, verifyWith, performVerify, performListOpcodes, perform, operated}
+use Rattle.judgement.specs.Operations.{Result, success, refuse, performImport, counted, exportOf, performExport, hashSize, checked, verifyWith, performVerify, performListOpcodes, perform, operated}
 use Rattle.judgement.specs.Counts.{noCounts}
 use Rattle.judgement.specs.Judgement.{applicationOf, refusals, askersSlots, resultOf}
 use Rattle.judgement.specs.declared.Status.{Status}
 use Rattle.judgement.proofs.SourceLaws.{own-there}
-use Rattle.judgement.proofs.JudgementLaws.{importable-legal}
+use Rattle.judgement.proofs.ImportLaws.{import-ends}
+use Rattle.judgement.proofs.JudgementLaws.{taken-legal}
 use Rattle.judgement.proofs.AskerLaws.{Refusing, all-refusing}
 use Rattle.judgement.proofs.VerdictLaws.{ServedFor, untouched, asked-registry}
 use Rattle.uses.specs.Uses.{asked, keyUsed, keyDestroyed, isFor, isServed, isOwn, isUse, destroysKey, registryAfter}
@@ -118,22 +119,9 @@ module _ (slots : List Entry) (keys : List ListedKey) where
   by-source operation name k (listed key) e x still = rests still (ap (isOwn slots) k ∙ listed-other name slots keys key e)
 
   by-import : (key : Key) → Ended slots (some (importKey key)) (performImport key slots keys)
-  unfolding performImport statusNumber success refuse bind keyUsed isOwn
-  by-import key = go (importable key) refl
-    where
-      third : importable key ≡ true → keyNamed (key .name) slots keys ≡ none → (f : Found) → slotNamed [] slots ≡ f
-          → Ended slots (some (importKey key)) (performImport key slots keys)
-      third v n Nothing e = rw (v, n, e, performImport) (refuses refl)
-      third v n (At slot) e = rw (v, n, e, performImport) (imports slot key refl (importable-legal key v) e refl)
-
-      second : importable key ≡ true → (o : Option Source) → keyNamed (key .name) slots keys ≡ o
-          → Ended slots (some (importKey key)) (performImport key slots keys)
-      second v (some source) e = rw (v, e, performImport) (refuses refl)
-      second v none e = third v e (slotNamed [] slots) refl
-
-      go : (t : Bool) → importable key ≡ t → Ended slots (some (importKey key)) (performImport key slots keys)
-      go false e = rw (e, performImport) (refuses refl)
-      go true e = second e (keyNamed (key .name) slots keys) refl
+  unfolding performImport success refuse bind keyUsed isOwn
+  by-import key = import-ends importBits slots keys key (Ended slots (some (importKey key))) (λ status z. refuses z)
+      (λ slot t n e. imports slot key refl (taken-legal key t) e refl)
 
   by-export : (name : List ℕ) → Ended slots (some (exportPublicKey name)) (performExport name slots keys)
   unfolding performExport statusNumber refuse keyUsed

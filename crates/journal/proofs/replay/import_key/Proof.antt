@@ -1,17 +1,18 @@
 -- `journal::replay::import_key` meets its contract.
 use mathlib.Core.Path.{_≡_, sym, ap, _∙_}
-use mathlib.Core.Bool.{true}
+use mathlib.Core.Bool.{true, _&&_}
 use mathlib.Core.List.{List, []}
 use Prim.Native.Nat.{ℕ}
 use borrow.Author.Tests.{not-true, not-false}
-use Rattle.keys.specs.Key.{Key}
+use Rattle.wire.proofs.TestLaws.{and-left, and-right}
+use Rattle.keys.specs.Key.{Key, legalBits}
 use Rattle.registry.specs.Registry.{slotsOf, slotNamed}
 use Rattle.registry.specs.code.Check.{keyFrom}
 use Rattle.registry.specs.declared.Found.the-variants.{Nothing}
 use Rattle.registry.proofs.SlotLaws.{short-name, short-data}
 use Rattle.registry.proofs.RegistryLaws.{slot-below}
-use Rattle.judgement.specs.Operations.{importable}
-use Rattle.judgement.proofs.JudgementLaws.{importable-legal}
+use Rattle.judgement.specs.Operations.{withinBounds}
+use Rattle.judgement.proofs.ImportLaws.{Taken, bounded-legal}
 use Rattle.journal.proofs.DoneLaws.{import-bad, import-taken, import-full, import-done}
 use borrow.Author.Needs.{needs}
 use Rattle.journal.proofs.replay.import_key.Statement.{statement}
@@ -26,8 +27,11 @@ key s = keyFrom (s .args .name .now) (s .args .bytes .now) (s .args .bits) (s .a
 abbrev at-name : tie.After-enum-told → tie.Else1
 at-name c = c .before .before .before .before
 
-allowed : (c : tie.Else1) → importable (key (start c)) ≡ true
-allowed c = sym (c .before .is-importable .ensures) ∙ not-false _ (c .if1 .left)
+allowed : (c : tie.Else1) → Taken legalBits (key (start c))
+allowed c =
+    let k = key (start c) in
+    let both : withinBounds k && legalBits (k .bits) ≡ true = sym (c .before .is-importable .ensures) ∙ not-false _ (c .if1 .left) in
+    record { bounds = and-left (withinBounds k) _ both; bits = and-right (withinBounds k) _ both }
 
 new : (c : tie.After-enum-told)
     → (let s = start (at-name c) in slotNamed (key s .name) (slotsOf (s .args .registry .now) (s .args .line)) ≡ Nothing)
@@ -89,7 +93,7 @@ fill-slot-requires c κs =
     let f = k .before .before in
     let l = at-name (f .before .before .before) in
     let s = start l in
-    let legal = importable-legal (key s) (allowed l) in
+    let legal = bounded-legal (key s) (allowed l .bounds) (allowed l .bits) in
     (s .pre .0, s .pre .1, slot-below (s .args .registry .now) (s .args .line) [] _ (sym (f .find-slot2 .ensures) ∙ k .empty .given .1), short-name (key s) legal, short-data (key s) legal)
 
 same-length-3 : tie.Need-same-length-3

@@ -5,7 +5,7 @@ use borrow.Author.Tests.{not-true, not-false}
 use Rattle.keys.specs.Names.{legalName, keyNameMost}
 use Rattle.keys.specs.Key.{Key, legalData}
 use Rattle.registry.specs.code.Check.{keyFrom}
-use Rattle.judgement.proofs.DecidedLaws.{bad-name, bad-data, bits-left}
+use Rattle.judgement.proofs.ImportLaws.{bad-name, data-left}
 use borrow.Author.Needs.{needs}
 use Rattle.journal.proofs.replay.is_importable.Statement.{statement}
 use Rattle.journal.proofs.replay.is_importable.Tie as tie
@@ -25,7 +25,7 @@ is-legal-requires c κs = search needs
 returns : tie.Need-returns
 returns c =
     let s = c .before .before .before .before in
-    sym (bad-name (key s) (sym (c .before .is-legal .ensures) ∙ not-true _ (c .if1 .taken)))
+    rw (bad-name (key s) (sym (c .before .is-legal .ensures) ∙ not-true _ (c .if1 .taken)))
 
 data-part : (c : tie.After-is-legal-data) → c .is-legal-data .result ≡ legalData (key (start (c .before)) .bytes)
 data-part c = c .is-legal-data .ensures (start (c .before) .args .bytes .now) refl
@@ -36,18 +36,18 @@ is-legal-data-requires c κs = search needs
 returns-2 : tie.Need-returns-2
 returns-2 c =
     let d = c .before in
-    sym (bad-data (key (start (d .before))) (passes (d .before)) (sym (data-part d) ∙ not-true _ (c .if2 .taken)))
+    rw (data-left (key (start (d .before))) (passes (d .before)) ∙ sym (data-part d) ∙ not-true _ (c .if2 .taken))
 
-are-import-bits-requires : tie.Need-are-import-bits-requires
-are-import-bits-requires c κs = search needs
+are-legal-bits-requires : tie.Need-are-legal-bits-requires
+are-legal-bits-requires c κs = search needs
 
 returns-3 : tie.Need-returns-3
 returns-3 c =
     let l = c .before in
     let d = l .before in
-    c .are-import-bits .ensures ∙ sym (bits-left (key (start (d .before))) (passes (d .before)) (sym (data-part d) ∙ not-false _ (l .if2 .left)))
+    rw (data-left (key (start (d .before))) (passes (d .before)) ∙ sym (data-part d) ∙ not-false _ (l .if2 .left)) (c .are-legal-bits .ensures)
 
 pub is-importable-spec : {M : Type 1} → statement M
 is-importable-spec =
     tie.close
-    (tie.spec is-legal-requires returns is-legal-data-requires returns-2 are-import-bits-requires returns-3)
+    (tie.spec is-legal-requires returns is-legal-data-requires returns-2 are-legal-bits-requires returns-3)

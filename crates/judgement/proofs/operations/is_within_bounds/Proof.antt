@@ -1,4 +1,4 @@
--- `judgement::operations::is_importable` meets its contract: what of the key is left to be judged, behind each test that passed.
+-- `judgement::operations::is_within_bounds` meets its contract: the data is left to be judged, behind a name that passed.
 use Prim.Native.Nat.{ℕ, _+_, _-_}
 use mathlib.Core.Path.{_≡_, sym, ap, _∙_}
 use mathlib.Core.Bool.{true}
@@ -10,9 +10,9 @@ use Rattle.wire.proofs.ListLaws.{length-part}
 use Rattle.keys.specs.Names.{legalName, keyNameMost}
 use Rattle.keys.specs.Key.{Key, legalData}
 use Rattle.messages.specs.Placed.{keyIn}
-use Rattle.judgement.proofs.DecidedLaws.{bad-name, bad-data, bits-left}
-use Rattle.judgement.proofs.operations.is_importable.Statement.{statement}
-use Rattle.judgement.proofs.operations.is_importable.Tie as tie
+use Rattle.judgement.proofs.ImportLaws.{bad-name, data-left}
+use Rattle.judgement.proofs.operations.is_within_bounds.Statement.{statement}
+use Rattle.judgement.proofs.operations.is_within_bounds.Tie as tie
 
 abbrev start : tie.After-is-legal → tie.Start
 start c = c .before .before .before .before .before .before
@@ -57,24 +57,10 @@ is-legal-data-requires : tie.Need-is-legal-data-requires
 is-legal-data-requires c κs = search needs
 
 returns-2 : tie.Need-returns-2
-returns-2 c =
-    let d = c .before in
-    sym (bad-data _ (name-passes (d .before)) (sym (data-part d) ∙ not-true _ (c .if2 .taken)))
+returns-2 c = data-part c ∙ sym (data-left _ (name-passes (c .before)))
 
-cast-are-import-bits : tie.Need-cast-are-import-bits
-cast-are-import-bits c = search needs
-
-are-import-bits-requires : tie.Need-are-import-bits-requires
-are-import-bits-requires c κs = search needs
-
-returns-3 : tie.Need-returns-3
-returns-3 c =
-    let l = c .before .before in
-    let d = l .before in
-    c .are-import-bits .ensures ∙ sym (bits-left _ (name-passes (d .before)) (sym (data-part d) ∙ not-false _ (l .if2 .left)))
-
-pub is-importable-spec : {M : Type 1} → statement M
-is-importable-spec =
+pub is-within-bounds-spec : {M : Type 1} → statement M
+is-within-bounds-spec =
     tie.close
     (tie.spec
     add-end
@@ -84,7 +70,4 @@ is-importable-spec =
     is-legal-requires
     returns
     is-legal-data-requires
-    returns-2
-    cast-are-import-bits
-    are-import-bits-requires
-    returns-3)
+    returns-2)
