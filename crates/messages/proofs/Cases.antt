@@ -14,7 +14,7 @@ use Rattle.protobuf.specs.Written.{varintWithin, varint, numberField, bytesFiel
 use Rattle.messages.specs.Message.{bytes, uint32s, octets, numbers}
 use Rattle.messages.specs.Format.{listed, messageBytes, Reading, read, broken, readMessage}
 use Rattle.messages.specs.Protobuf.{packedOf, protobuf}
-use Rattle.messages.specs.Operations.{importKey, verifySignature, operationBody, version, providers, outputBytes}
+use Rattle.messages.specs.Operations.{importKey, verifySignature, operationBody, version, providers, offset, outputBytes}
 use Rattle.messages.specs.Placed.{firstEntries}
 
 -- key `a`, data AA BB, 2,048 bits, export allowed
@@ -25,13 +25,15 @@ pub cases :
     (operationBody protobuf (importKey keyA) ≡ 0x0A ∷ 0x01 ∷ 0x61 ∷ 0x12 ∷ 0x02 ∷ 0xAA ∷ 0xBB ∷ 0x18 ∷ 0x80 ∷ 0x10 ∷ 0x20 ∷ 0x01 ∷ [])
     × (operationBody protobuf (verifySignature (0x61 ∷ []) (0xAA ∷ 0xBB ∷ []) (0xCC ∷ [])) ≡ 0x0A ∷ 0x01 ∷ 0x61 ∷ 0x12 ∷ 0x02 ∷ 0xAA ∷ 0xBB ∷ 0x1A ∷ 0x01 ∷ 0xCC ∷ [])
     × (outputBytes protobuf (version 1 0) ≡ 0x08 ∷ 0x01 ∷ [])
+    × (outputBytes protobuf (offset 0) ≡ [])
+    × (outputBytes protobuf (offset 300) ≡ 0x08 ∷ 0xAC ∷ 0x02 ∷ [])
     × (outputBytes protobuf (providers (0 ∷ 1 ∷ [])) ≡ 0x0A ∷ 0x02 ∷ 0x00 ∷ 0x01 ∷ [])
     × (readMessage protobuf (uint32s ∷ []) (0x0A ∷ 0x01 ∷ 0x07 ∷ 0x0A ∷ 0x02 ∷ 0x00 ∷ 0x01 ∷ []) ≡ read (numbers (0 ∷ 1 ∷ []) ∷ []))
     × (readMessage protobuf (uint32s ∷ []) (0x0A ∷ 0x00 ∷ 0x0A ∷ 0x01 ∷ 0x80 ∷ 0x0A ∷ 0x02 ∷ 0x00 ∷ 0x01 ∷ []) ≡ broken 2)
     × (readMessage protobuf (uint32s ∷ []) (0x08 ∷ 0x01 ∷ []) ≡ read (numbers [] ∷ []))
     × (firstEntries (0x05 ∷ 0x80 ∷ []) ≡ 5 ∷ [])  -- so that this is no empty list's place
 unfolding operationBody outputBytes messageBytes readMessage listed bind packedOf firstEntries scanFrom scanAt varintOf numberAt fixedAt spanAt contentAt fieldAt varintWithin varint numberField bytesField packedField flatMap
-cases = (refl, refl, refl, refl, refl, refl, refl, refl)
+cases = (refl, refl, refl, refl, refl, refl, refl, refl, refl, refl)
 
 -- ---- fields that are skipped, in a body with bytes as its one field
 

@@ -5,11 +5,12 @@ use mathlib.Core.Path.{_≡_, refl, ap}
 use mathlib.Core.Option.{some}
 use mathlib.Core.List.{List, [], _++_, append-nil, map}
 use lib.ListN.{length}
+use borrow.Author.Tests.{ne-eqb}
 use Rattle.protobuf.specs.Written.{numberField, bytesField}
 use Rattle.messages.specs.Message.{Message, kindOf, AllFit, numberOf, octetsOf, numbersOf, valueAt}
 use Rattle.messages.specs.Format.{Format, messageBytes, readMessage}
 use Rattle.messages.specs.Protobuf.{protobuf}
-use Rattle.messages.specs.Operations.{Operation, ping, listProviders, listOpcodes, importKey, destroyKey, exportPublicKey, verifySignature, opcodeOf, inputOf, operationBody, inputFields, askingOf, askingBy, asked, operationIn, operationOf, whenRead, readBody, Output, nothing, version, providers, opcodes, exported, Answers, ofPing, ofListProviders, ofListOpcodes, ofImport, ofDestroy, ofExport, ofVerify, messageOf, outputBytes, outputOf}
+use Rattle.messages.specs.Operations.{Operation, ping, listProviders, listOpcodes, importKey, destroyKey, exportPublicKey, verifySignature, opcodeOf, inputOf, operationBody, inputFields, askingOf, askingBy, asked, operationIn, operationOf, whenRead, readBody, Output, nothing, version, providers, opcodes, exported, Answers, ofPing, ofListProviders, ofListOpcodes, ofImport, ofDestroy, ofExport, ofVerify, offset, Carries, served, notRead, refused, messageOf, outputBytes, outputOf, offsetOf, answerOf}
 use Rattle.messages.proofs.RoundTrip.{Lawful, round-trip}
 use Rattle.messages.proofs.ProtobufLaws.{protobuf-lawful}
 
@@ -43,6 +44,21 @@ module _ (format : Format) (law : Lawful format) where
   output-back opcode (exported data′) ofExport fits = body-back (messageOf (exported data′)) (λ m. exported (octetsOf (valueAt m 1))) (omega arith) fits
   output-back opcode nothing ofVerify fits = body-back [] (λ m. nothing) (omega arith) fits
 
+  pub offset-back : (at : ℕ) → AllFit (format .lengthMost) (messageOf (offset at)) → offsetOf format (outputBytes format (offset at)) ≡ some (offset at)
+  unfolding offsetOf outputBytes
+  offset-back at fits = body-back (messageOf (offset at)) (λ m. offset (numberOf (valueAt m 1))) (omega arith) fits
+
+  none-written : outputBytes format nothing ≡ []
+  unfolding outputBytes messageBytes
+  none-written = refl
+
+  -- what a response carries is read as what it carries, whatever its status
+  pub answer-back : (opcode status : ℕ) (output : Output) → Carries opcode status output → AllFit (format .lengthMost) (messageOf output) → answerOf format opcode status (outputBytes format output) ≡ some output
+  unfolding answerOf
+  answer-back opcode status output (served answers) fits = output-back opcode output answers fits
+  answer-back opcode status (offset at) notRead fits = offset-back at fits
+  answer-back opcode status nothing (refused a b) fits = rw (ne-eqb _ _ a, ne-eqb _ _ b, none-written, answerOf)
+
 -- ---- in Protocol Buffers
 
 -- what is asked is read as what was asked
@@ -68,3 +84,7 @@ version-bytes major minor = ap (λ (l : List ℕ). numberField 1 major ++ l) (ap
 pub exported-bytes : (data′ : List ℕ) → outputBytes protobuf (exported data′) ≡ bytesField 1 data′
 unfolding outputBytes messageBytes
 exported-bytes data′ = append-nil (bytesField 1 data′)
+
+pub offset-bytes : (at : ℕ) → outputBytes protobuf (offset at) ≡ numberField 1 at
+unfolding outputBytes messageBytes
+offset-bytes at = append-nil (numberField 1 at)

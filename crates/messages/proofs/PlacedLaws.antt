@@ -28,7 +28,7 @@ use Rattle.protobuf.proofs.BodyLaws.{body-in}
 use Rattle.messages.specs.Message.{uint32, bytes, uint32s, Value, numbers, numberOf, octetsOf, numbersOf, valueAt, Schema, Message}
 use Rattle.messages.specs.Format.{Field, field, skipped, unreadable, fieldWith, listed, Reading, read, broken, SoFar, turnOf, turnAt, readMessage}
 use Rattle.messages.specs.Protobuf.{ofVarint, packedOf, isOfWire, ofGroup, fieldOf, protobuf}
-use Rattle.messages.specs.Operations.{inputFields, garbled, askingOf, askingBy, asked, Output, nothing, version, providers, opcodes, exported, whenRead, readBody, outputOf}
+use Rattle.messages.specs.Operations.{inputFields, garbled, askingOf, askingBy, asked, Output, nothing, version, providers, opcodes, exported, whenRead, readBody, outputOf, offsetOf, answerOf}
 use Rattle.messages.specs.Placed.{firstEntries, listIn, SpanWithin}
 use Rattle.messages.specs.code.Places.{schemaPlaced, NoLists, valuesOf, five, seen}
 use Rattle.messages.specs.code.ListBody.{listSchema, fieldIn, skippedGroup, skippedField, FieldWithin}
@@ -244,3 +244,25 @@ module _ (opcode : ℕ) (body : List ℕ) where
   pub of-other : (opcode ≡ 1 → ⊥) → (opcode ≡ 8 → ⊥) → (opcode ≡ 9 → ⊥) → (opcode ≡ 6 → ⊥) → (opcode ≡ 3 → ⊥) → (opcode ≡ 7 → ⊥) → (opcode ≡ 5 → ⊥) → Is none
   unfolding outputOf
   of-other a b c d e f g = rw (ne-eqb _ _ a, ne-eqb _ _ b, ne-eqb _ _ c, ne-eqb _ _ d, ne-eqb _ _ e, ne-eqb _ _ f, ne-eqb _ _ g, outputOf)
+
+-- ---- an output, by its status
+
+module _ (opcode status : ℕ) (body : List ℕ) where
+  abbrev Has : Option Output → Type 0
+  Has o = answerOf protobuf opcode status body ≡ o
+
+  pub with-status-0 : status ≡ 0 → Has (outputOf protobuf opcode body)
+  unfolding answerOf
+  with-status-0 e = rw (e, answerOf)
+
+  pub with-status-7 : status ≡ 7 → Has (offsetOf protobuf body)
+  unfolding answerOf
+  with-status-7 e = rw (e, answerOf)
+
+  pub with-no-body : (status ≡ 0 → ⊥) → (status ≡ 7 → ⊥) → length body ≡ 0 → Has (some nothing)
+  unfolding answerOf
+  with-no-body a b e = rw (ne-eqb _ _ a, ne-eqb _ _ b, e, answerOf)
+
+  pub with-a-body : (status ≡ 0 → ⊥) → (status ≡ 7 → ⊥) → (length body ≡ 0 → ⊥) → Has none
+  unfolding answerOf
+  with-a-body a b c = rw (ne-eqb _ _ a, ne-eqb _ _ b, ne-eqb _ _ c, answerOf)

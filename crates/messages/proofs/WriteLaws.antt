@@ -18,9 +18,9 @@ use Rattle.protobuf.proofs.WrittenLaws.{ends, goes-on, varint-short, bytes-fiel
 use Rattle.messages.specs.Message.{octets, numbers}
 use Rattle.messages.specs.Format.{messageBytes}
 use Rattle.messages.specs.Protobuf.{protobuf}
-use Rattle.messages.specs.Operations.{listOpcodes, importKey, verifySignature, operationBody, version, providers, opcodes, exported as exportedData, outputBytes}
+use Rattle.messages.specs.Operations.{listOpcodes, importKey, verifySignature, operationBody, version, providers, opcodes, exported as exportedData, offset, outputBytes}
 use Rattle.messages.specs.Opcodes.{coreOpcodes, keystoreOpcodes, opcodesOf}
-use Rattle.messages.proofs.OperationLaws.{version-bytes, exported-bytes}
+use Rattle.messages.proofs.OperationLaws.{version-bytes, exported-bytes, offset-bytes}
 use Rattle.messages.specs.code.Bodies.{fieldRoom, keyNumbers, bodyMost}
 
 -- ---- a field's length
@@ -164,3 +164,6 @@ opcodes-short provider =
 pub exported-short : (data′ : List ℕ) → length data′ ≤ dataMost → length (outputBytes protobuf (exportedData data′)) ≤ 3 + dataMost
 exported-short data′ h =
     omega (arith, ap length (exported-bytes data′), bytes-field-within 1 data′, one-byte (8 * 1 + 2) (omega arith), two-bytes (length data′) (omega arith))
+
+pub offset-short : (at : ℕ) → length (outputBytes protobuf (offset at)) ≤ fieldRoom
+offset-short at = omega (arith, ap length (offset-bytes at), number-field-within 1 at, varint-short (8 * 1), varint-short at)

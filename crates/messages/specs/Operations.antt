@@ -1,8 +1,10 @@
 -- "Operations and their fields"; document 02, "Checking signatures": what each operation asks and answers, and the fields of its
 -- bodies.
 use Prim.Native.Nat.{ℕ}
+use mathlib.Core.Path.{_≡_}
 use mathlib.Core.Option.{Option, none, some}
 use mathlib.Core.List.{List, [], _∷_}
+use lib.ListN.{length}
 use lib.Dec.{eqb}
 use Rattle.wire.specs.Choice.{if_then_else_}
 use Rattle.keys.specs.Key.{Key}
@@ -124,6 +126,7 @@ pub data Output : Type 0 where
   providers : List ℕ → Output
   opcodes : List ℕ → Output
   exported : (data′ : List ℕ) → Output
+  offset : (at : ℕ) → Output  -- where the body broke (document 02), with status 7
 
 -- the output that each opcode has
 pub data Answers : (opcode : ℕ) → Output → Type 0 where
@@ -135,17 +138,27 @@ pub data Answers : (opcode : ℕ) → Output → Type 0 where
   ofExport : {data′ : List ℕ} → Answers 7 (exported data′)
   ofVerify : Answers 5 nothing
 
+-- the output that each status has
+pub data Carries : (opcode status : ℕ) → Output → Type 0 where
+  served : {opcode : ℕ} {output : Output} → Answers opcode output → Carries opcode 0 output
+  notRead : {opcode at : ℕ} → Carries opcode 7 (offset at)
+  refused : {opcode status : ℕ} → (status ≡ 0 → ⊥) → (status ≡ 7 → ⊥) → Carries opcode status nothing
+
 abbrev pub messageOf : Output → Message
 messageOf nothing = []
 messageOf (version major minor) = number major ∷ number minor ∷ []
 messageOf (providers list) = numbers list ∷ []
 messageOf (opcodes list) = numbers list ∷ []
 messageOf (exported data′) = octets data′ ∷ []
+messageOf (offset at) = number at ∷ []
 
--- the body of a response with status 0
+-- the body of a response with status 0, or with 7
 unfoldable pub outputBytes : Format → Output → List ℕ
 outputBytes format output = messageBytes format (messageOf output)
 
+-- ---- what a response's body is read as
+
+-- with status 0
 unfoldable pub outputOf : Format → (opcode : ℕ) (body : List ℕ) → Option Output
 outputOf format opcode body =
     if eqb opcode 1 then readBody format (uint32 ∷ uint32 ∷ []) body (λ m. version (numberOf (valueAt m 1)) (numberOf (valueAt m 2)))
@@ -155,4 +168,16 @@ outputOf format opcode body =
     else if eqb opcode 3 then readBody format [] body (λ m. nothing)
     else if eqb opcode 7 then readBody format (bytes ∷ []) body (λ m. exported (octetsOf (valueAt m 1)))
     else if eqb opcode 5 then readBody format [] body (λ m. nothing)
+    else none
+
+-- with status 7
+unfoldable pub offsetOf : Format → (body : List ℕ) → Option Output
+offsetOf format body = readBody format (uint32 ∷ []) body (λ m. offset (numberOf (valueAt m 1)))
+
+-- with any status: all but these two have no body
+unfoldable pub answerOf : Format → (opcode status : ℕ) (body : List ℕ) → Option Output
+answerOf format opcode status body =
+    if eqb status 0 then outputOf format opcode body
+    else if eqb status 7 then offsetOf format body
+    else if eqb (length body) 0 then some nothing
     else none

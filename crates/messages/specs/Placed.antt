@@ -8,14 +8,14 @@ use Rattle.wire.specs.Lists.{over}
 use Rattle.protobuf.specs.Varint.{varintAt}
 use Rattle.protobuf.specs.declared.varint.Varint.{Varint}
 use Rattle.protobuf.specs.declared.varint.Varint.the-variants.{Read as readVarint, Unreadable as noVarint}
-use Rattle.messages.specs.Operations.{ping, listProviders, listOpcodes, importKey, destroyKey, exportPublicKey, verifySignature, Asking, asks, garbled, Output, nothing, version, providers, opcodes, exported}
+use Rattle.messages.specs.Operations.{ping, listProviders, listOpcodes, importKey, destroyKey, exportPublicKey, verifySignature, Asking, asks, garbled, Output, nothing, version, providers, opcodes, exported, offset}
 use Rattle.keys.specs.Key.{Key}
 use Rattle.messages.specs.declared.read.Span.{Span}
 use Rattle.messages.specs.declared.ask.KeyPlaces.{KeyPlaces}
 use Rattle.messages.specs.declared.ask.Asked.{Asked}
 use Rattle.messages.specs.declared.ask.Asked.the-variants.{Ping, ListProviders, ListOpcodes, ImportKey, DestroyKey, ExportPublicKey, VerifySignature, Unreadable as notAsked}
 use Rattle.messages.specs.declared.read.Output.{Output as OutputPlaces}
-use Rattle.messages.specs.declared.read.Output.the-variants.{Nothing, Version, Providers, Opcodes, Data}
+use Rattle.messages.specs.declared.read.Output.the-variants.{Nothing, Version, Providers, Opcodes, Data, Offset}
 use Rattle.messages.specs.declared.read.OutputRead.{OutputRead}
 use Rattle.messages.specs.declared.read.OutputRead.the-variants.{Read, Unreadable}
 
@@ -73,6 +73,7 @@ outputIn bytes (Version major minor) = version major minor
 outputIn bytes (Providers span) = providers (listIn bytes span)
 outputIn bytes (Opcodes span) = opcodes (listIn bytes span)
 outputIn bytes (Data span) = exported (spanIn bytes span)
+outputIn bytes (Offset at) = offset at
 
 abbrev pub readIn : (bytes : List ℕ) → OutputRead → Option Output
 readIn bytes (Read output) = some (outputIn bytes output)
@@ -91,7 +92,7 @@ AskedWithin most (ImportKey key) = SpanWithin most (key .name) × SpanWithin mos
 AskedWithin most (DestroyKey name) = SpanWithin most name
 AskedWithin most (ExportPublicKey name) = SpanWithin most name
 AskedWithin most (VerifySignature name hash signature) = SpanWithin most name × SpanWithin most hash × SpanWithin most signature
-AskedWithin most (notAsked at) = Unit {0}
+AskedWithin most (notAsked at) = at ≤ most
 
 abbrev pub OutputWithin : (most : ℕ) → OutputPlaces → Type 0
 OutputWithin most Nothing = Unit {0}
@@ -99,6 +100,7 @@ OutputWithin most (Version major minor) = Unit {0}
 OutputWithin most (Providers span) = SpanWithin most span
 OutputWithin most (Opcodes span) = SpanWithin most span
 OutputWithin most (Data span) = SpanWithin most span
+OutputWithin most (Offset at) = Unit {0}
 
 abbrev pub ReadWithin : (most : ℕ) → OutputRead → Type 0
 ReadWithin most (Read output) = OutputWithin most output

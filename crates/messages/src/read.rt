@@ -23,7 +23,7 @@ ghost use lib.ListN.{length};
 ghost use Rattle.wire.specs.Choice.{isSome};
 ghost use Rattle.messages.specs.Message.{uint32, bytes, numberOf, octetsOf, numbersOf, valueAt};
 ghost use Rattle.messages.specs.Protobuf.{packedOf, protobuf};
-ghost use Rattle.messages.specs.Operations.{nothing, version, exported, readBody, outputOf};
+ghost use Rattle.messages.specs.Operations.{nothing, version, exported, readBody, outputOf, offsetOf, answerOf};
 ghost use Rattle.messages.specs.Placed.{readIn, ReadWithin, readListOutcome};
 ghost use Rattle.messages.specs.code.ListBody.{listSchema, fieldIn, skippedField, FieldWithin, entriesIn, ListWithin};
 
@@ -40,6 +40,7 @@ pub enum Output {
     Providers(Span),
     Opcodes(Span),
     Data(Span),
+    Offset(u32),
 }
 
 pub enum OutputRead {
@@ -195,6 +196,23 @@ fn read_nothing(body: &[u8]) -> OutputRead
     }
 }
 
+// Where a body broke: one uint32 field.
+fn read_offset(body: &[u8]) -> OutputRead
+    ensures { λ r. ⌜ (readIn (now (body .entry)) r ≡ offsetOf protobuf (now (body .entry))) × ReadWithin (length (now (body .entry))) r ⌝ }
+{
+    let schema = Schema {
+        k1: Kind::Uint32,
+        k2: Kind::Unlisted,
+        k3: Kind::Unlisted,
+        k4: Kind::Unlisted,
+        k5: Kind::Unlisted,
+    };
+    match read_body(body, schema) {
+        Body::Message(m) => OutputRead::Read(Output::Offset(m.f1.number)),
+        Body::Unreadable(_) => OutputRead::Unreadable,
+    }
+}
+
 // The output that a response with status 0 has, by the opcode of its request.
 pub fn read_output(opcode: u16, body: &[u8]) -> OutputRead
     ensures { λ r. ⌜ (readIn (now (body .entry)) r ≡ outputOf protobuf opcode (now (body .entry))) × ReadWithin (length (now (body .entry))) r ⌝ }
@@ -225,6 +243,22 @@ pub fn read_output(opcode: u16, body: &[u8]) -> OutputRead
     }
     if opcode == PSA_ASYMMETRIC_VERIFY {
         return read_nothing(body);
+    }
+    OutputRead::Unreadable
+}
+
+// The output that a response has, by its status and the opcode of its request.
+pub fn read_answer(opcode: u16, status: u16, body: &[u8]) -> OutputRead
+    ensures { λ r. ⌜ (readIn (now (body .entry)) r ≡ answerOf protobuf opcode status (now (body .entry))) × ReadWithin (length (now (body .entry))) r ⌝ }
+{
+    if status == 0 {
+        return read_output(opcode, body);
+    }
+    if status == 7 {
+        return read_offset(body);
+    }
+    if body.len() == 0 {
+        return OutputRead::Read(Output::Nothing);
     }
     OutputRead::Unreadable
 }

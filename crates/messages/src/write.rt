@@ -14,7 +14,7 @@ ghost use Rattle.wire.specs.code.Wrote.{Wrote};
 ghost use Rattle.messages.specs.Message.{octets, numbers};
 ghost use Rattle.messages.specs.Format.{messageBytes};
 ghost use Rattle.messages.specs.Protobuf.{protobuf};
-ghost use Rattle.messages.specs.Operations.{listOpcodes, importKey, verifySignature, operationBody, version, outputBytes};
+ghost use Rattle.messages.specs.Operations.{listOpcodes, importKey, verifySignature, operationBody, version, offset, outputBytes};
 ghost use Rattle.messages.specs.code.Bodies.{fieldRoom, bytesBodyRoom, keyNumbers, keyNumbersRoom, keyBodyRoom, verifyBodyRoom, versionBodyRoom};
 
 // A bool as its field's number.
@@ -110,4 +110,12 @@ pub fn write_list_body(out: &mut [u8], list: &[u8]) -> usize
     ensures { λ r. ⌜ Wrote (messageBytes protobuf (numbers (now (list .entry)) ∷ [])) (now (out .entry)) (now (out .exit)) r ⌝ }
 {
     write_bytes_field(out, 1, list)
+}
+
+// Where a body broke.
+pub fn write_offset_body(out: &mut [u8], at: u32) -> usize
+    requires { ⌜ fieldRoom ≤ length (now out) ⌝ }
+    ensures { λ r. ⌜ Wrote (outputBytes protobuf (offset at)) (now (out .entry)) (now (out .exit)) r ⌝ }
+{
+    write_number_field(out, 1, at as u64)
 }

@@ -38,11 +38,12 @@ module _ (k : Schema) (s : List ℕ) where
 
 -- ---- the spans of a message lie within the body
 
-turn-of-in : (n at : ℕ) (t : Step) → StepIn n t → TurnHas (λ _ m. ValuesIn n m) (BodyIn n) (turnOf at t)
-turn-of-in n at (Next m next) h = h
-turn-of-in n at Refuse h = tt
+turn-of-in : (n at : ℕ) (t : Step) → at ≤ n → StepAhead n at t → StepIn n t → TurnHas (λ p m. (p ≤ n) × ValuesIn n m) (BodyIn n) (turnOf at t)
+turn-of-in n at (Next m next) l a h = (a .within, h)
+turn-of-in n at Refuse l a h = l
 
 pub body-in : (k : Schema) (s : List ℕ) → BodyIn (length s) (bodyOf k s)
 body-in k s =
     let n = length s in
-    scan-has (turnAt k s) Message n (λ _ m. ValuesIn n m) (BodyIn n) (λ _ m h. h) (λ at m h. turn-of-in n at (stepAt k s at m) (step-in k s at m h)) 0 allAbsent (omega arith)
+    scan-has (turnAt k s) Message n (λ p m. (p ≤ n) × ValuesIn n m) (BodyIn n) (λ _ m h. h .1)
+    (λ at m h. turn-of-in n at (stepAt k s at m) (h .0) (step-ahead k s at m) (step-in k s at m (h .1))) 0 allAbsent (omega arith, omega arith)

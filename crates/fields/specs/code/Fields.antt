@@ -51,4 +51,4 @@ pub record ValuesIn (n : ℕ) (m : Values) : Type 0 where
 
 abbrev pub BodyIn : (n : ℕ) → Body → Type 0
 BodyIn n (Message m) = ValuesIn n m
-BodyIn n (Unreadable at) = Unit {0}
+BodyIn n (Unreadable at) = at ≤ n

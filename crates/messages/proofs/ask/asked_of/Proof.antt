@@ -1,4 +1,5 @@
 -- `messages::ask::asked_of` meets its contract.
+use native.Mathlib.Omega.{arith}
 use borrow.Author.Needs.{needs}
 use borrow.Author.Tests.{ne-eqb}
 use Rattle.messages.specs.Operations.{inputFields, askingOf}
@@ -69,7 +70,7 @@ returns-8 c =
     let e = c .before .before .before .if4 .left in
     let f = c .before .before .if5 .left in
     let g = c .before .if6 .left in
-    (λ body. rw (ne-eqb _ _ a, ne-eqb _ _ b, ne-eqb _ _ d, ne-eqb _ _ e, ne-eqb _ _ f, ne-eqb _ _ g, ne-eqb _ _ (c .if7 .left), askingOf), λ most within. tt)
+    (λ body. rw (ne-eqb _ _ a, ne-eqb _ _ b, ne-eqb _ _ d, ne-eqb _ _ e, ne-eqb _ _ f, ne-eqb _ _ g, ne-eqb _ _ (c .if7 .left), askingOf), λ most within. omega arith)
 
 pub asked-of-spec : {M : Type 1} → statement M
 asked-of-spec =

@@ -45,7 +45,8 @@ returns-2 : tie.Need-returns-2
 returns-2 c =
     let r = c .before .before .before in
     let s = r .before .before .before .args in
-    (asked-broken (s .opcode) (s .body .now) _ (body-read r ∙ c .before .at .given .1), tt)
+    let e = body-read r ∙ c .before .at .given .1 in
+    (asked-broken (s .opcode) (s .body .now) _ e, rw e at (body-in (schemaPlaced (inputFields (s .opcode))) (s .body .now)))
 
 pub read-operation-spec : {M : Type 1} → statement M
 read-operation-spec =
