@@ -17,8 +17,8 @@ use Rattle.wire.specs.Response.{responseBytes}
 use Rattle.wire.specs.code.Wrote.{Wrote}
 use Rattle.wire.specs.declared.header.Header.{Header}
 use Rattle.wire.proofs.BufferLaws.{wrote-none}
-use Rattle.wire.proofs.TestLaws.{first-has, none-at, first-before, first-behind}
-use Rattle.stream.specs.Frame.{contentMost}
+use Rattle.wire.proofs.TestLaws.{first-has, none-at, first-before, first-behind, or-left}
+use Rattle.stream.specs.Frame.{contentMost, oversized}
 use Rattle.stream.specs.Handed.{handing}
 use Rattle.registry.specs.Slots.{Entry}
 use Rattle.registry.specs.Registry.{applicationNamed, slotsOf, changed}
@@ -27,6 +27,7 @@ use Rattle.shipped.specs.Shipped.{keysIn}
 use Rattle.judgement.specs.Status.{statusNumber}
 use Rattle.messages.specs.Opcodes.{coreOpcodes, opcodesOf}
 use Rattle.judgement.specs.Operations.{Result, refuse, operated}
+use Rattle.messages.specs.Protobuf.{protobuf}
 use Rattle.messages.proofs.OperationLaws.{nothing-bytes}
 use Rattle.judgement.specs.Counts.{Counts, countRefused, count}
 use Rattle.judgement.specs.Judgement.{applicationOf, refusals, askersSlots, resultOf, changedBy, verdictOf, refusedEarly, oversizedStatus, judgement}
@@ -131,7 +132,7 @@ module _ (list registry bytes : List ℕ) where
 
     operated-result : firstOf (authTests registry (requestOf bytes)) ≡ none
         → resultOf list registry (requestOf bytes)
-        ≡ operated (requestOf bytes .opcode) (requestOf bytes .body) (askersSlots registry (applicationOf registry (requestOf bytes))) (keysIn list)
+        ≡ operated protobuf (requestOf bytes .opcode) (requestOf bytes .body) (askersSlots registry (applicationOf registry (requestOf bytes))) (keysIn list)
     unfolding resultOf
     operated-result e = rw (later-tests ∙ e, resultOf)
 
@@ -158,7 +159,7 @@ module _ (list registry bytes : List ℕ) where
 
     pub by-application : (line : Line) → authFound registry bytes ≡ Accepted (Named line)
         → (applicationOf registry (requestOf bytes) ≡ some line)
-        × (resultOf list registry (requestOf bytes) ≡ operated (requestOf bytes .opcode) (requestOf bytes .body) (slotsOf registry line) (keysIn list))
+        × (resultOf list registry (requestOf bytes) ≡ operated protobuf (requestOf bytes .opcode) (requestOf bytes .body) (slotsOf registry line) (keysIn list))
     unfolding askersSlots
     by-application line e =
         let t : Told registry (requestOf bytes) (some line) none = subst (ToldBy registry (requestOf bytes)) e told-found in
@@ -178,6 +179,11 @@ module _ (request : List ℕ) where
   auth-there end long e =
       let n : length request - end ≡ authLength request = omega arith in
       rw (n, e)
+
+  -- its content fits the rules
+  pub content-small : oversized request ≡ false → contentLength request ≤ contentMost
+  unfolding oversized
+  content-small e = ltb-false contentMost (contentLength request) (or-left (ltb contentMost (contentLength request)) _ e)
 
 -- ---- an operation that was carried out
 

@@ -20,7 +20,7 @@ use Rattle.messages.specs.Protobuf.{protobuf}
 use Rattle.messages.specs.Opcodes.{coreOpcodes, keystoreOpcodes, opcodesOf}
 use Rattle.messages.specs.Operations as message
 use Rattle.messages.proofs.OperationLaws.{nothing-bytes}
-use Rattle.messages.proofs.WriteLaws.{version-short, providers-short, opcodes-short, exported-short}
+use Rattle.messages.proofs.WriteLaws.{version-short, providers-short, opcodes-short, offset-short, exported-short}
 use Rattle.registry.specs.Slots.{Entry, free, held}
 use Rattle.registry.specs.Registry.{lineCount, slotsOf}
 use Rattle.registry.specs.WellFormed.{wellFormedRegistry}
@@ -33,7 +33,7 @@ use Rattle.lookup.specs.declared.Place.{Place}
 use Rattle.lookup.specs.declared.Place.the-variants.{Own, Listed, Nothing as Nowhere}
 use Rattle.judgement.specs.code.Decided.{bytesAt, outputIn, outputBytes, outputMost, SafeOutput}
 use Rattle.judgement.specs.declared.Output.{Output}
-use Rattle.judgement.specs.declared.Output.the-variants.{Nothing, Version, Providers, Opcodes, Data}
+use Rattle.judgement.specs.declared.Output.the-variants.{Nothing, Version, Providers, Opcodes, Data, Offset}
 use Rattle.judgement.proofs.SourceLaws.{bytes-at}
 
 pub header-length : (provider session size opcode status : ℕ) → length (responseHeader provider session size opcode status) ≡ 26
@@ -86,6 +86,7 @@ output-short r list w line h Nothing safe = omega (arith, ap length nothing-byte
 output-short r list w line h Version safe = omega (arith, version-short 1 0 (omega arith) (omega arith))
 output-short r list w line h Providers safe = omega (arith, providers-short (0 ∷ 1 ∷ []) refl (omega arith))
 output-short r list w line h (Opcodes provider) safe = omega (arith, opcodes-short provider)
+output-short r list w line h (Offset at) safe = omega (arith, offset-short at)
 output-short r list w line h (Data place) safe =
     omega (arith, exported-short (bytesAt (slotsOf r line) list place) (rw (bytes-at r list line place) at (data-short r list w line h place safe)))
 

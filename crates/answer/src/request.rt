@@ -24,7 +24,7 @@ use wire::header::read_header;
 ghost use mathlib.Core.Bool.{true, false};
 ghost use mathlib.Core.List.{List};
 ghost use mathlib.Core.Path.{_≡_};
-ghost use Prim.Native.Nat.{ℕ, _≤_, _<_};
+ghost use Prim.Native.Nat.{ℕ, _^_, _≤_, _<_};
 ghost use lib.ListN.{length, take};
 ghost use Rattle.wire.specs.Request.{requestLeast, headerLength, requestLength};
 ghost use Rattle.wire.specs.Response.{bufferLeast};
@@ -98,7 +98,7 @@ fn answer_named(
     list: &[u8],
     line: Line,
 ) -> Answered
-    requires { ⌜ (wellFormedRegistry (now registry) ≡ true) × (line .0 < lineCount) × (bufferLeast ≤ length (now out)) × (wellFormedList (now list) ≡ true) × (recordMost ≤ length (now journal)) ⌝ }
+    requires { ⌜ (wellFormedRegistry (now registry) ≡ true) × (line .0 < lineCount) × (bufferLeast ≤ length (now out)) × (wellFormedList (now list) ≡ true) × (recordMost ≤ length (now journal)) × (length (now body) < 2 ^ 32) ⌝ }
     ensures { λ r. ⌜ ResultAnswered h (resultForNamed h (now (body .entry)) (now (registry .entry)) (now (list .entry)) line) (Asker.Named line) (now (out .entry)) (now (out .exit)) r × (now (registry .exit) ≡ changed (now (registry .entry)) line (resultForNamed h (now (body .entry)) (now (registry .entry)) (now (list .entry)) line .change)) × Wrote (recordFor (actOfChange (slotsOf (now (registry .entry)) line) line (resultForNamed h (now (body .entry)) (now (registry .entry)) (now (list .entry)) line .change))) (now (journal .entry)) (now (journal .exit)) (r .recorded) ⌝ }
 {
     let d = perform_operation(h.opcode, body, registry, list, line);
@@ -124,7 +124,7 @@ fn answer_nobody<'a>(
     registry: &'a [u8],
     list: &'a [u8],
 ) -> Answered
-    requires { ⌜ PassedHeader h × (wellFormedRegistry (now registry) ≡ true) × (bufferLeast ≤ length (now out)) × (wellFormedList (now list) ≡ true) ⌝ }
+    requires { ⌜ PassedHeader h × (wellFormedRegistry (now registry) ≡ true) × (bufferLeast ≤ length (now out)) × (wellFormedList (now list) ≡ true) × (length (now body) < 2 ^ 32) ⌝ }
     ensures { λ r. ⌜ ResultAnswered h (resultForNobody h (now (body .entry)) (now (list .entry))) Asker.Nobody (now (out .entry)) (now (out .exit)) r × (r .recorded ≡ 0) ⌝ }
 {
     if h.provider == 1 {

@@ -8,6 +8,7 @@ use messages::opcodes::CORE;
 use messages::opcodes::KEYSTORE;
 use messages::write::write_bytes_body;
 use messages::write::write_list_body;
+use messages::write::write_offset_body;
 use messages::write::write_version_body;
 use registry::Line;
 use wire::bytes::copy_into;
@@ -56,6 +57,7 @@ fn write_output<'a>(
             let data = key_bytes(registry, list, line, place);
             write_bytes_body(out, data)
         }
+        Output::Offset(at) => write_offset_body(out, at),
     }
 }
 

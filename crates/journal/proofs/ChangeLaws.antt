@@ -17,7 +17,7 @@ use Rattle.keys.specs.Names.{legalName, keyNameMost}
 use Rattle.keys.specs.Key.{Key, importBits}
 use Rattle.keys.proofs.NameLaws.{legal-short}
 use Rattle.messages.specs.Protobuf.{protobuf}
-use Rattle.messages.specs.Operations.{Operation, ping, listProviders, listOpcodes, importKey, destroyKey, exportPublicKey, verifySignature, operationOf}
+use Rattle.messages.specs.Operations.{Operation, ping, listProviders, listOpcodes, importKey, destroyKey, exportPublicKey, verifySignature, Asking, asks as asksFor, garbled, asked as asking, operationIn, operationOf}
 use Rattle.registry.specs.Names.{nameIn}
 use Rattle.registry.specs.Slots.{Entry, free, nameOf, slotSize, keyTests, wellFormedSlot}
 use Rattle.registry.specs.Registry.{lineCount, slotCount, slotsOf, Change, unchanged, fill, clear, addUse, place}
@@ -30,9 +30,8 @@ use Rattle.registry.proofs.WellFormedLaws.{slot-good}
 use Rattle.shipped.specs.Shipped.{ListedKey, keysIn}
 use Rattle.lookup.specs.Lookup.{Source, own, listed, keyNamed}
 use Rattle.judgement.specs.Status.{statusNumber}
-use Rattle.judgement.specs.Operations.{Result, success, refuse, performImport, destroyOf, performDestroy, performListOpcodes, perform, operated}
+use Rattle.judgement.specs.Operations.{Result, success, refuse, refuseAt, performImport, destroyOf, performDestroy, performListOpcodes, perform, operated}
 use Rattle.judgement.specs.Judgement.{applicationOf, askersSlots, resultOf}
-use Rattle.judgement.specs.declared.Status.the-variants.{DeserializingBodyFailed}
 use Rattle.judgement.proofs.SourceLaws.{own-there}
 use Rattle.judgement.proofs.ImportLaws.{import-ends}
 use Rattle.judgement.proofs.AskerLaws.{served-passes}
@@ -111,16 +110,17 @@ module _ (list r : List ℕ) (q : Request) where
   by-asker (some line) operation s = operation-act (askersSlots r (some line)) (keysIn list) line operation s
 
   served-act : isServed x ≡ true → actAsked asker (operationOf protobuf (q .opcode) (q .body)) ≡ actOfAsker (askersSlots r asker) asker (x .change)
-  served-act s = second (operationOf protobuf (q .opcode) (q .body)) refl
+  unfolding operationOf
+  served-act s = second (asking protobuf (q .opcode) (q .body)) refl
     where
-      is : x ≡ operated (q .opcode) (q .body) (askersSlots r asker) (keysIn list)
+      is : x ≡ operated protobuf (q .opcode) (q .body) (askersSlots r asker) (keysIn list)
       is = unfold resultOf in rw (served-passes list r q (eqb-true _ _ s), resultOf)
 
-      second : (o : Option Operation) → operationOf protobuf (q .opcode) (q .body) ≡ o → actAsked asker o ≡ actOfAsker (askersSlots r asker) asker (x .change)
-      second none w =
-          let y : x ≡ refuse DeserializingBodyFailed = is ∙ (unfold operated in rw (w, operated)) in
-          absurd (true≢false (sym s ∙ ap isServed y ∙ (unfold refuse statusNumber in refl)))
-      second (some operation) w =
+      second : (a : Asking) → asking protobuf (q .opcode) (q .body) ≡ a → actAsked asker (operationIn a) ≡ actOfAsker (askersSlots r asker) asker (x .change)
+      second (garbled at) w =
+          let y : x ≡ refuseAt at = is ∙ (unfold operated in rw (w, operated)) in
+          absurd (true≢false (sym s ∙ ap isServed y ∙ (unfold refuseAt statusNumber in refl)))
+      second (asksFor operation) w =
           let y : x ≡ perform operation (askersSlots r asker) (keysIn list) = is ∙ (unfold operated in rw (w, operated)) in
           by-asker asker operation (ap isServed (sym y) ∙ s)
           ∙ ap (λ (z : Result). actOfAsker (askersSlots r asker) asker (z .change)) (sym y)
@@ -129,9 +129,10 @@ module _ (list r : List ℕ) (q : Request) where
   Kept y = (statusNumber (y .status) ≡ 0 → ⊥) → y .change ≡ unchanged
 
   unserved-still : Kept x
-  unfolding Kept refuse success statusNumber
+  unfolding Kept refuse refuseAt success statusNumber
   unserved-still = by-result list r q Kept (record {
     refused = λ status h. refl;
+    broken = λ at h. refl;
     served = λ output h n. refl;
     imported = λ slot key v n e h. absurd (h refl);
     destroyed = λ slot name e h. absurd (h refl);

@@ -17,7 +17,7 @@ use Rattle.keys.specs.Key.{Key, legalBits, importBits}
 use Rattle.keys.proofs.KeyLaws.{import-legal}
 use Rattle.keys.proofs.NameLaws.{legal-short}
 use Rattle.messages.specs.Protobuf.{protobuf}
-use Rattle.messages.specs.Operations.{Operation, ping, listProviders, listOpcodes, importKey, destroyKey, exportPublicKey, verifySignature, operationOf}
+use Rattle.messages.specs.Operations.{Operation, ping, listProviders, listOpcodes, importKey, destroyKey, exportPublicKey, verifySignature, Asking, asks as asksFor, garbled, asked as asking, operationIn, operationOf}
 use Rattle.registry.specs.Slots.{Entry}
 use Rattle.registry.specs.Registry.{namesIn, slotsOf, Change, unchanged, fill, clear, addUse, changed}
 use Rattle.registry.specs.WellFormed.{isUsed}
@@ -31,9 +31,8 @@ use Rattle.rsa.specs.Signature.{verification}
 use Rattle.rsa.specs.declared.verify.Outcome.{Outcome}
 use Rattle.rsa.specs.declared.verify.Outcome.the-variants.{ValidSignature, InvalidSignature, InvalidKey}
 use Rattle.judgement.specs.Status.{statusNumber}
-use Rattle.judgement.specs.Operations.{Result, success, refuse, importBy, performImport, destroyOf, performDestroy, counted, exportOf, performExport, hashSize, checked, verifyWith, performVerify, performListOpcodes, perform, operated}
+use Rattle.judgement.specs.Operations.{Result, success, refuse, refuseAt, importBy, performImport, destroyOf, performDestroy, counted, exportOf, performExport, hashSize, checked, verifyWith, performVerify, performListOpcodes, perform, operated}
 use Rattle.judgement.specs.Judgement.{applicationOf, askersSlots, resultOf}
-use Rattle.judgement.specs.declared.Status.the-variants.{DeserializingBodyFailed}
 use Rattle.judgement.proofs.SourceLaws.{own-there, own-held}
 use Rattle.judgement.proofs.ImportLaws.{bounded-legal, Taken, imported, import-ends, new-there}
 use Rattle.judgement.proofs.JudgementLaws.{asks}
@@ -256,17 +255,18 @@ module _ (list g r : List ℕ) (a : Alike g r) where
 
     request-served : isServed x ≡ true
         → replayAny g (actAsked asked (operationOf protobuf (q .opcode) (q .body))) ≡ some (changedFor g asked (x .change))
-    request-served s = second (operationOf protobuf (q .opcode) (q .body)) refl
+    unfolding operationOf
+    request-served s = second (asking protobuf (q .opcode) (q .body)) refl
       where
-        is : x ≡ operated (q .opcode) (q .body) (askersSlots r asked) (keysIn list)
+        is : x ≡ operated protobuf (q .opcode) (q .body) (askersSlots r asked) (keysIn list)
         is = unfold resultOf in rw (served-passes list r q (eqb-true _ _ s), resultOf)
 
-        second : (o : Option Operation) → operationOf protobuf (q .opcode) (q .body) ≡ o
-            → replayAny g (actAsked asked o) ≡ some (changedFor g asked (x .change))
-        second none w =
-            let y : x ≡ refuse DeserializingBodyFailed = is ∙ (unfold operated in rw (w, operated)) in
-            absurd (true≢false (sym s ∙ ap isServed y ∙ (unfold refuse statusNumber in refl)))
-        second (some operation) w =
+        second : (a : Asking) → asking protobuf (q .opcode) (q .body) ≡ a
+            → replayAny g (actAsked asked (operationIn a)) ≡ some (changedFor g asked (x .change))
+        second (garbled at) w =
+            let y : x ≡ refuseAt at = is ∙ (unfold operated in rw (w, operated)) in
+            absurd (true≢false (sym s ∙ ap isServed y ∙ (unfold refuseAt statusNumber in refl)))
+        second (asksFor operation) w =
             let y : x ≡ perform operation (askersSlots r asked) (keysIn list) = is ∙ (unfold operated in rw (w, operated)) in
             asker-served asked operation (asks r q) (ap isServed (sym y) ∙ s)
             ∙ ap (λ (z : Result). some (changedFor g asked (z .change))) (sym y)

@@ -12,10 +12,10 @@ use Rattle.wire.specs.Choice.{if_then_else_, firstOf}
 use Rattle.wire.specs.Lists.{oneOf}
 use Rattle.wire.specs.Request.{Request}
 use Rattle.wire.proofs.TestLaws.{some≢none, none-at, AllHave, first-has, either}
-use Rattle.messages.specs.Format.{Reading, read, broken, readMessage}
+use Rattle.messages.specs.Format.{Format, Reading, read, broken, readMessage}
 use Rattle.messages.specs.Protobuf.{protobuf}
 use Rattle.messages.specs.Opcodes.{coreOpcodes, opcodesOf}
-use Rattle.messages.specs.Operations.{Operation, ping, listProviders, listOpcodes, importKey, destroyKey, exportPublicKey, verifySignature, inputFields, Asking, askingOf, askingBy, asked, operationIn, operationOf}
+use Rattle.messages.specs.Operations.{Operation, ping, listProviders, listOpcodes, importKey, destroyKey, exportPublicKey, verifySignature, inputFields, Asking, asks, garbled, askingOf, askingBy, asked}
 use Rattle.registry.specs.Slots.{Entry}
 use Rattle.registry.specs.Registry.{applicationNamed, slotsOf}
 use Rattle.registry.specs.declared.Line.{Line}
@@ -78,7 +78,7 @@ served-type list r q e = ltb-false _ _ (none-at (refusals r q) 6 Success (served
 abbrev resultWith : List (Bool × Status) → List Entry → List ListedKey → Request → Result
 resultWith tests slots keys q = elim (firstOf tests) [
   | some status ↦ refuse status
-  | none ↦ operated (q .opcode) (q .body) slots keys
+  | none ↦ operated protobuf (q .opcode) (q .body) slots keys
 ]
 
 same-for : (list r r′ : List ℕ) (q : Request) (o : Option Line) → applicationOf r q ≡ o → applicationOf r′ q ≡ o
@@ -99,46 +99,43 @@ same-result list r r′ q line e e′ slots = same-for list r r′ q (some line)
 
 -- ---- with auth type 0: on the request alone
 
-OfCore : Option Operation → Type 0
-OfCore none = Unit {0}
-OfCore (some ping) = Unit {0}
-OfCore (some listProviders) = Unit {0}
-OfCore (some (listOpcodes provider)) = Unit {0}
-OfCore (some (importKey key)) = ⊥
-OfCore (some (destroyKey name)) = ⊥
-OfCore (some (exportPublicKey name)) = ⊥
-OfCore (some (verifySignature name hash signature)) = ⊥
+OfCore : Asking → Type 0
+OfCore (garbled at) = Unit {0}
+OfCore (asks ping) = Unit {0}
+OfCore (asks listProviders) = Unit {0}
+OfCore (asks (listOpcodes provider)) = Unit {0}
+OfCore (asks (importKey key)) = ⊥
+OfCore (asks (destroyKey name)) = ⊥
+OfCore (asks (exportPublicKey name)) = ⊥
+OfCore (asks (verifySignature name hash signature)) = ⊥
 
-core-operation : (opcode : ℕ) (body : List ℕ) → oneOf coreOpcodes opcode ≡ true → OfCore (operationOf protobuf opcode body)
-unfolding operationOf asked askingOf OfCore oneOf
-core-operation opcode body e = go (readMessage protobuf (inputFields opcode) body)
+core-operation : (format : Format) (opcode : ℕ) (body : List ℕ) → oneOf coreOpcodes opcode ≡ true → OfCore (asked format opcode body)
+unfolding asked askingOf OfCore oneOf
+core-operation format opcode body e = go (readMessage format (inputFields opcode) body)
   where
-    Core : Asking → Type 0
-    Core asking = OfCore (operationIn asking)
-
-    go : (reading : Reading) → Core (askingBy opcode reading)
+    go : (reading : Reading) → OfCore (askingBy opcode reading)
     go (broken at) = tt
     go (read m) =
-        either Core (eqb opcode 1) (λ _. tt)
-        (λ a. either Core (eqb opcode 8) (λ _. tt)
-        (λ b. either Core (eqb opcode 9) (λ _. tt)
+        either OfCore (eqb opcode 1) (λ _. tt)
+        (λ a. either OfCore (eqb opcode 8) (λ _. tt)
+        (λ b. either OfCore (eqb opcode 9) (λ _. tt)
         (λ c. (let none-such : oneOf coreOpcodes opcode ≡ false = rw (a, b, c) in absurd (true≢false (sym e ∙ none-such))))))
 
 -- an operation of the core looks at no slot and no key
-pub core-alone : (opcode : ℕ) (body : List ℕ) (slots slots′ : List Entry) (keys keys′ : List ListedKey) → oneOf coreOpcodes opcode ≡ true
-    → operated opcode body slots keys ≡ operated opcode body slots′ keys′
+pub core-alone : (format : Format) (opcode : ℕ) (body : List ℕ) (slots slots′ : List Entry) (keys keys′ : List ListedKey) → oneOf coreOpcodes opcode ≡ true
+    → operated format opcode body slots keys ≡ operated format opcode body slots′ keys′
 unfolding operated perform OfCore
-core-alone opcode body slots slots′ keys keys′ e = go (operationOf protobuf opcode body) refl (core-operation opcode body e)
+core-alone format opcode body slots slots′ keys keys′ e = go (asked format opcode body) refl (core-operation format opcode body e)
   where
-    go : (o : Option Operation) → operationOf protobuf opcode body ≡ o → OfCore o → operated opcode body slots keys ≡ operated opcode body slots′ keys′
-    go none q c = rw (q, operated)
-    go (some ping) q c = rw (q, operated)
-    go (some listProviders) q c = rw (q, operated)
-    go (some (listOpcodes provider)) q c = rw (q, operated)
-    go (some (importKey key)) q c = absurd c
-    go (some (destroyKey name)) q c = absurd c
-    go (some (exportPublicKey name)) q c = absurd c
-    go (some (verifySignature name hash signature)) q c = absurd c
+    go : (o : Asking) → asked format opcode body ≡ o → OfCore o → operated format opcode body slots keys ≡ operated format opcode body slots′ keys′
+    go (garbled at) q c = rw (q, operated)
+    go (asks ping) q c = rw (q, operated)
+    go (asks listProviders) q c = rw (q, operated)
+    go (asks (listOpcodes provider)) q c = rw (q, operated)
+    go (asks (importKey key)) q c = absurd c
+    go (asks (destroyKey name)) q c = absurd c
+    go (asks (exportPublicKey name)) q c = absurd c
+    go (asks (verifySignature name hash signature)) q c = absurd c
 
 -- what is not refused is asked of the core
 open-core : (r : List ℕ) (q : Request) → q .authType ≡ 0 → firstOf (refusals r q) ≡ none → oneOf coreOpcodes (q .opcode) ≡ true
@@ -163,4 +160,4 @@ open-result list list′ r r′ q e =
   where
     go : (o : Option Status) → firstOf (refusals r′ q) ≡ o → resultOf list r′ q ≡ resultOf list′ r′ q
     go (some status) n = rw (n, resultOf)
-    go none n = rw (n, resultOf) (core-alone (q .opcode) (q .body) _ _ (keysIn list) (keysIn list′) (open-core r′ q e n))
+    go none n = rw (n, resultOf) (core-alone protobuf (q .opcode) (q .body) _ _ (keysIn list) (keysIn list′) (open-core r′ q e n))

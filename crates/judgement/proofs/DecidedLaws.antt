@@ -27,14 +27,14 @@ use Rattle.lookup.specs.declared.Place.{Place}
 use Rattle.lookup.specs.declared.Place.the-variants.{Own, Listed, Nothing as Nowhere}
 use Rattle.lookup.proofs.LookupLaws.{Alike}
 use Rattle.rsa.specs.Signature.{verification}
-use Rattle.messages.specs.Protobuf.{protobuf}
-use Rattle.messages.specs.Operations.{Operation, asks, garbled, asked, operationOf, nothing}
+use Rattle.messages.specs.Format.{Format}
+use Rattle.messages.specs.Operations.{Operation, asks, garbled, asked, nothing}
 use Rattle.messages.specs.Operations as message
 use Rattle.messages.specs.Placed.{keyIn}
 use Rattle.messages.specs.declared.ask.KeyPlaces.{KeyPlaces}
 use Rattle.judgement.specs.Status.{statusNumber}
-use Rattle.judgement.specs.Operations.{Result, success, refuse, destroyOf, performDestroy, counted, exportOf, performExport, hashSize, checked, verifyWith, performVerify, performListOpcodes, perform, operated}
-use Rattle.judgement.specs.code.Decided.{outputIn, changeOf, resultIn, refusedWith, countedAt, verifier, KeyWithin, KeyParts, SafeOutput, Decided}
+use Rattle.judgement.specs.Operations.{Result, success, refuse, refuseAt, destroyOf, performDestroy, counted, exportOf, performExport, hashSize, checked, verifyWith, performVerify, performListOpcodes, perform, operated}
+use Rattle.judgement.specs.code.Decided.{outputIn, changeOf, resultIn, refusedWith, brokenAt, countedAt, verifier, KeyWithin, KeyParts, SafeOutput, Decided}
 use Rattle.judgement.specs.declared.Status.{Status}
 use Rattle.judgement.specs.declared.Status.the-variants.{Success, ProviderDoesNotExist, DeserializingBodyFailed, PsaErrorNotPermitted, PsaErrorInvalidArgument, PsaErrorNotSupported, PsaErrorDoesNotExist}
 use Rattle.judgement.specs.declared.Output.{Output}
@@ -105,16 +105,16 @@ module _ (slots : List Entry) (list body : List ℕ) {x : Result} (d : Decision)
 
 -- ---- the body of a request
 
-module _ (slots : List Entry) (list body : List ℕ) (opcode : ℕ) where
-  pub unreadable : (at : ℕ) → garbled at ≡ asked protobuf opcode body
-      → Decided slots list body (operated opcode body slots (keysIn list)) (refusedWith DeserializingBodyFailed)
-  unfolding operated operationOf
-  unreadable at e = refusal slots list body DeserializingBodyFailed (rw (← e, operationOf, operated))
+module _ (slots : List Entry) (list body : List ℕ) (format : Format) (opcode : ℕ) where
+  pub unreadable : (at : ℕ) → garbled at ≡ asked format opcode body
+      → Decided slots list body (operated format opcode body slots (keysIn list)) (brokenAt at)
+  unfolding operated refuseAt resultIn outputIn changeOf
+  unreadable at e = record { result = rw (← e, operated); output = tt; edit = tt }
 
-  pub readable : (operation : Operation) → asks operation ≡ asked protobuf opcode body
-      → operated opcode body slots (keysIn list) ≡ perform operation slots (keysIn list)
-  unfolding operated operationOf
-  readable operation e = rw (← e, operationOf, operated)
+  pub readable : (operation : Operation) → asks operation ≡ asked format opcode body
+      → operated format opcode body slots (keysIn list) ≡ perform operation slots (keysIn list)
+  unfolding operated
+  readable operation e = rw (← e, operated)
 
 -- ---- the core operations
 

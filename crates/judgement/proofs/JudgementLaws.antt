@@ -24,7 +24,7 @@ use Rattle.shipped.specs.Shipped.{ListedKey}
 use Rattle.lookup.specs.Lookup.{Source, own, listed, keyNamed}
 use Rattle.messages.specs.Operations.{Output}
 use Rattle.judgement.specs.Status.{statusNumber}
-use Rattle.judgement.specs.Operations.{Result, success, refuse, counted}
+use Rattle.judgement.specs.Operations.{Result, success, refuse, refuseAt, counted}
 use Rattle.judgement.specs.Counts.{Counts}
 use Rattle.judgement.specs.Judgement.{applicationOf, askersSlots, resultOf, changedBy, verdictOf, refusedEarly, judgement}
 use Rattle.judgement.proofs.SourceLaws.{own-there, own-held}
@@ -53,9 +53,10 @@ use-allowed slots keys name (own slot key) e output = uses name key (own-there n
 use-allowed slots keys name (listed key) e output = stays
 
 pub result-allowed : (list r : List ℕ) (q : Request) → Allowed (askersSlots r (applicationOf r q)) (resultOf list r q .change)
-unfolding refuse success
+unfolding refuse refuseAt success
 result-allowed list r q = by-result list r q (λ x. Allowed (askersSlots r (applicationOf r q)) (x .change)) (record {
   refused = λ status. stays;
+  broken = λ at. stays;
   served = λ output h. stays;
   imported = λ slot key t n e. fills (taken-legal key t) n e;
   destroyed = λ slot name e. clears name e;
@@ -93,9 +94,10 @@ KeptUnlessServed : Result → Type 0
 KeptUnlessServed x = (statusNumber (x .status) ≡ 0 → ⊥) → x .change ≡ unchanged
 
 result-kept : (list r : List ℕ) (q : Request) → KeptUnlessServed (resultOf list r q)
-unfolding KeptUnlessServed refuse success statusNumber
+unfolding KeptUnlessServed refuse refuseAt success statusNumber
 result-kept list r q = by-result list r q KeptUnlessServed (record {
   refused = λ status h. refl;
+  broken = λ at h. refl;
   served = λ output h n. refl;
   imported = λ slot key v n e h. absurd (h refl);
   destroyed = λ slot name e h. absurd (h refl);

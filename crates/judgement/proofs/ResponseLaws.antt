@@ -17,7 +17,7 @@ use Rattle.keys.specs.Key.{dataMost}
 use Rattle.messages.specs.Protobuf.{protobuf}
 use Rattle.messages.specs.Operations.{outputBytes, nothing, exported}
 use Rattle.messages.proofs.OperationLaws.{nothing-bytes}
-use Rattle.messages.proofs.WriteLaws.{exported-short}
+use Rattle.messages.proofs.WriteLaws.{offset-short, exported-short}
 use Rattle.registry.specs.Slots.{free}
 use Rattle.registry.specs.WellFormed.{wellFormedRegistry}
 use Rattle.registry.specs.declared.Line.{Line}
@@ -25,7 +25,7 @@ use Rattle.registry.proofs.SlotLaws.{ShortEntry}
 use Rattle.registry.proofs.WellFormedLaws.{slots-short}
 use Rattle.lookup.specs.Lookup.{keyOf}
 use Rattle.judgement.specs.Status.{statusNumber}
-use Rattle.judgement.specs.Operations.{success, refuse}
+use Rattle.judgement.specs.Operations.{success, refuse, refuseAt}
 use Rattle.judgement.specs.Counts.{Counts}
 use Rattle.judgement.specs.Judgement.{applicationOf, askersSlots, resultOf, verdictOf, refusedEarly, longestResponse, judgement}
 use Rattle.judgement.specs.declared.Status.{Status}
@@ -55,9 +55,10 @@ slots-of-asker r w q i = go (applicationOf r q) refl
     go (some line) e = slots-short r w line (asks r q line e .there) i
 
 output-short : (list r : List ℕ) → wellFormedRegistry r ≡ true → (q : Request) → length (outputBytes protobuf (resultOf list r q .output)) ≤ bodyMost
-unfolding refuse success
+unfolding refuse refuseAt success
 output-short list r w q = by-result list r q (λ x. length (outputBytes protobuf (x .output)) ≤ bodyMost) (record {
   refused = λ status. omega (arith, ap length nothing-bytes);
+  broken = λ at. omega (arith, offset-short at);
   served = λ output h. omega arith;
   imported = λ slot key v n e. omega (arith, ap length nothing-bytes);
   destroyed = λ slot name e. omega (arith, ap length nothing-bytes);

@@ -21,12 +21,12 @@ use Rattle.rsa.specs.Signature.{verification}
 use Rattle.rsa.specs.declared.verify.Outcome.{Outcome}
 use Rattle.rsa.specs.declared.verify.Outcome.the-variants.{ValidSignature, InvalidSignature, InvalidKey}
 use Rattle.messages.specs.Protobuf.{protobuf}
-use Rattle.messages.specs.Operations.{Operation, ping, listProviders, listOpcodes, importKey, destroyKey, exportPublicKey, verifySignature, operationOf, Output, nothing, opcodes, exported}
+use Rattle.messages.specs.Operations.{Operation, ping, listProviders, listOpcodes, importKey, destroyKey, exportPublicKey, verifySignature, Asking, asks, garbled, asked, Output, nothing, opcodes, exported}
 use Rattle.messages.specs.Operations as message
 use Rattle.messages.specs.Opcodes.{opcodesOf}
 use Rattle.messages.proofs.WriteLaws.{version-short, providers-short, opcodes-short}
 use Rattle.judgement.specs.Status.{statusNumber}
-use Rattle.judgement.specs.Operations.{Result, success, refuse, performImport, destroyOf, performDestroy, counted, exportOf, performExport, hashSize, checked, verifyWith, performVerify, performListOpcodes, perform, operated}
+use Rattle.judgement.specs.Operations.{Result, success, refuse, refuseAt, performImport, destroyOf, performDestroy, counted, exportOf, performExport, hashSize, checked, verifyWith, performVerify, performListOpcodes, perform, operated}
 use Rattle.judgement.specs.Judgement.{applicationOf, refusals, askersSlots, resultOf}
 use Rattle.judgement.specs.declared.Status.{Status}
 use Rattle.judgement.specs.declared.Status.the-variants.{Success}
@@ -36,6 +36,7 @@ use Rattle.judgement.proofs.ImportLaws.{Taken, import-ends, new-there}
 -- the ways to end, on these slots and these keys that we ship
 pub record Ends (slots : List Entry) (keys : List ListedKey) (P : Result → Type 0) : Type 0 where
   pub refused : (status : Status) → P (refuse status)
+  pub broken : (at : ℕ) → P (refuseAt at)
   pub served : (output : Output) → length (message.outputBytes protobuf output) ≤ 6 → P (success output unchanged)
   pub imported : (slot : Slot) (key : Key) → Taken importBits key → slotNamed (key .name) slots ≡ Nothing → slotNamed [] slots ≡ At slot
       → P (success nothing (fill slot key))
@@ -167,13 +168,13 @@ module _ (slots : List Entry) (keys : List ListedKey) (P : Result → Type 0) (e
   by-operation (verifySignature name hash signature) = by-verify name hash signature
 
 module _ (list r : List ℕ) (q : Request) (P : Result → Type 0) (ends : Ends (askersSlots r (applicationOf r q)) (keysIn list) P) where
-  by-operate : P (operated (q .opcode) (q .body) (askersSlots r (applicationOf r q)) (keysIn list))
+  by-operate : P (operated protobuf (q .opcode) (q .body) (askersSlots r (applicationOf r q)) (keysIn list))
   unfolding operated
-  by-operate = go (operationOf protobuf (q .opcode) (q .body)) refl
+  by-operate = go (asked protobuf (q .opcode) (q .body)) refl
     where
-      go : (o : Option Operation) → operationOf protobuf (q .opcode) (q .body) ≡ o → P (operated (q .opcode) (q .body) (askersSlots r (applicationOf r q)) (keysIn list))
-      go none e = rw (e, operated) (ends .refused _)
-      go (some operation) e = rw (e, operated) (by-operation (askersSlots r (applicationOf r q)) (keysIn list) P ends operation)
+      go : (o : Asking) → asked protobuf (q .opcode) (q .body) ≡ o → P (operated protobuf (q .opcode) (q .body) (askersSlots r (applicationOf r q)) (keysIn list))
+      go (garbled at) e = rw (e, operated) (ends .broken at)
+      go (asks operation) e = rw (e, operated) (by-operation (askersSlots r (applicationOf r q)) (keysIn list) P ends operation)
 
   pub by-result : P (resultOf list r q)
   unfolding resultOf

@@ -66,7 +66,7 @@ askersSlots registry (some line) = slotsOf registry line
 unfoldable pub resultOf : (list registry : List ℕ) → Request → Result
 resultOf list registry q = elim (firstOf (refusals registry q)) [
   | some status ↦ refuse status
-  | none ↦ operated (q .opcode) (q .body) (askersSlots registry (applicationOf registry q)) (keysIn list)
+  | none ↦ operated protobuf (q .opcode) (q .body) (askersSlots registry (applicationOf registry q)) (keysIn list)
 ]
 
 -- ---- the judgement: a response, the registry and the counts after a request; the list of keys that we ship is a fixed input

@@ -10,9 +10,9 @@ use Rattle.wire.specs.Choice.{if_then_else_}
 use Rattle.wire.specs.Lists.{every}
 use Rattle.keys.specs.Names.{keyNameMost, legalName}
 use Rattle.keys.specs.Key.{Key, legalData, importBits}
-use Rattle.messages.specs.Protobuf.{protobuf}
+use Rattle.messages.specs.Format.{Format}
 use Rattle.messages.specs.Opcodes.{opcodesOf}
-use Rattle.messages.specs.Operations.{Operation, ping, listProviders, listOpcodes, importKey, destroyKey, exportPublicKey, verifySignature, operationOf, Output, nothing, version, providers, opcodes, exported}
+use Rattle.messages.specs.Operations.{Operation, ping, listProviders, listOpcodes, importKey, destroyKey, exportPublicKey, verifySignature, Asking, asks, garbled, asked, Output, nothing, version, providers, opcodes, exported, offset}
 pub use Rattle.messages.specs.Operations.{hashSize}
 use Rattle.registry.specs.Slots.{Entry}
 use Rattle.registry.specs.Registry.{slotNamed, Change, unchanged, fill, clear, addUse}
@@ -34,9 +34,13 @@ pub record Result : Type 0 where
 unfoldable pub success : Output → Change → Result
 success output change = record { status = Success; output = output; change = change }
 
--- any status but 0 has no output and leaves the slots alone
+-- any status but 0 leaves the slots alone, and any but 0 and 7 has no output
 unfoldable pub refuse : Status → Result
 refuse status = record { status = status; output = nothing; change = unchanged }
+
+-- 7, with the place of the first field that can't be read (document 02, "Where the body broke")
+unfoldable pub refuseAt : (at : ℕ) → Result
+refuseAt at = record { status = DeserializingBodyFailed; output = offset at; change = unchanged }
 
 unfoldable pub performListOpcodes : (provider : ℕ) → Result
 performListOpcodes provider =
@@ -133,8 +137,8 @@ perform (exportPublicKey name) slots keys = performExport name slots keys
 perform (verifySignature name hash signature) slots keys = performVerify name hash signature slots keys
 
 -- body not readable: 7; then the operation's own
-unfoldable pub operated : (opcode : ℕ) (body : List ℕ) (slots : List Entry) (keys : List ListedKey) → Result
-operated opcode body slots keys = elim (operationOf protobuf opcode body) [
-  | none ↦ refuse DeserializingBodyFailed
-  | some operation ↦ perform operation slots keys
+unfoldable pub operated : Format → (opcode : ℕ) (body : List ℕ) (slots : List Entry) (keys : List ListedKey) → Result
+operated format opcode body slots keys = elim (asked format opcode body) [
+  | garbled at ↦ refuseAt at
+  | asks operation ↦ perform operation slots keys
 ]

@@ -62,6 +62,8 @@ pub enum Output {
     Providers,
     Opcodes(u32),
     Data(Place),
+    // Where the request's body broke.
+    Offset(u32),
 }
 
 // What becomes of the asker's slots: the definitions' `Change`, the key itself left in the body.

@@ -21,14 +21,15 @@ use registry::find::find_slot;
 ghost use mathlib.Core.Bool.{true};
 ghost use mathlib.Core.List.{List};
 ghost use mathlib.Core.Path.{_≡_};
-ghost use Prim.Native.Nat.{ℕ, _<_};
+ghost use Prim.Native.Nat.{ℕ, _^_, _<_};
 ghost use lib.ListN.{length};
+ghost use Rattle.messages.specs.Protobuf.{protobuf};
 ghost use Rattle.messages.specs.Placed.{keyIn};
 ghost use Rattle.registry.specs.Registry.{lineCount, registrySize, slotsOf};
 ghost use Rattle.registry.specs.WellFormed.{wellFormedRegistry};
 ghost use Rattle.shipped.specs.Shipped.{keysIn, wellFormedList};
 ghost use Rattle.judgement.specs.Operations.{operated, performListOpcodes, performImport, performDestroy, performExport, withinBounds};
-ghost use Rattle.judgement.specs.code.Decided.{refusedWith, countedAt, KeyWithin, Decided, DecidedAnywhere};
+ghost use Rattle.judgement.specs.code.Decided.{refusedWith, brokenAt, countedAt, KeyWithin, Decided, DecidedAnywhere};
 
 // A request that is refused: no output, and nothing changes.
 pub fn refused(status: Status) -> Decision
@@ -37,6 +38,17 @@ pub fn refused(status: Status) -> Decision
     Decision {
         status,
         output: Output::Nothing,
+        edit: Edit::Stays,
+    }
+}
+
+// A request whose body can't be read: where its first such field starts.
+fn broken(at: u32) -> Decision
+    ensures { λ r. ⌜ r ≡ brokenAt at ⌝ }
+{
+    Decision {
+        status: Status::DeserializingBodyFailed,
+        output: Output::Offset(at),
         edit: Edit::Stays,
     }
 }
@@ -173,8 +185,8 @@ pub fn perform_operation<'a>(
     list: &'a [u8],
     line: Line,
 ) -> Decision
-    requires { ⌜ (wellFormedRegistry (now registry) ≡ true) × (line .0 < lineCount) × (wellFormedList (now list) ≡ true) ⌝ }
-    ensures { λ r. ⌜ Decided (slotsOf (now (registry .entry)) line) (now (list .entry)) (now (body .entry)) (operated opcode (now (body .entry)) (slotsOf (now (registry .entry)) line) (keysIn (now (list .entry)))) r ⌝ }
+    requires { ⌜ (wellFormedRegistry (now registry) ≡ true) × (line .0 < lineCount) × (wellFormedList (now list) ≡ true) × (length (now body) < 2 ^ 32) ⌝ }
+    ensures { λ r. ⌜ Decided (slotsOf (now (registry .entry)) line) (now (list .entry)) (now (body .entry)) (operated protobuf opcode (now (body .entry)) (slotsOf (now (registry .entry)) line) (keysIn (now (list .entry)))) r ⌝ }
 {
     match read_operation(opcode, body) {
         Asked::Ping => served(Output::Version),
@@ -200,6 +212,6 @@ pub fn perform_operation<'a>(
             let f = e + signature.len;
             verify(registry, list, line, &body[a..b], &body[c..d], &body[e..f])
         }
-        Asked::Unreadable(_) => refused(Status::DeserializingBodyFailed),
+        Asked::Unreadable(at) => broken(at as u32),
     }
 }

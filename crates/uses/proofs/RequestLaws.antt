@@ -18,7 +18,7 @@ use Rattle.wire.proofs.ListLaws.{all-at, map-at, same-refl}
 use Rattle.keys.specs.Key.{Key, importBits}
 use Rattle.keys.specs.Names.{legalName, keyNameMost, isNew}
 use Rattle.messages.specs.Protobuf.{protobuf}
-use Rattle.messages.specs.Operations.{Operation, ping, listProviders, listOpcodes, importKey, destroyKey, exportPublicKey, verifySignature, operationOf}
+use Rattle.messages.specs.Operations.{Operation, ping, listProviders, listOpcodes, importKey, destroyKey, exportPublicKey, verifySignature, Asking, asks, garbled, asked as asking, operationOf}
 use Rattle.registry.specs.Slots.{Entry, free, held, nameOf, used}
 use Rattle.registry.specs.Registry.{lineCount, slotsOf, usesOf, slotNamed, Change, unchanged, fill, addUse, changed}
 use Rattle.registry.specs.WellFormed.{wellFormedRegistry}
@@ -37,7 +37,7 @@ use Rattle.rsa.specs.declared.verify.Outcome.{Outcome}
 use Rattle.rsa.specs.declared.verify.Outcome.the-variants.{ValidSignature, InvalidSignature, InvalidKey}
 use Rattle.stream.specs.Frame.{legalStart, oversized}
 use Rattle.judgement.specs.Status.{statusNumber}
-use Rattle.judgement.specs.Operations.{Result, success, refuse, performImport, counted, exportOf, performExport, hashSize, checked, verifyWith, performVerify, performListOpcodes, perform, operated}
+use Rattle.judgement.specs.Operations.{Result, success, refuse, refuseAt, performImport, counted, exportOf, performExport, hashSize, checked, verifyWith, performVerify, performListOpcodes, perform, operated}
 use Rattle.judgement.specs.Counts.{noCounts}
 use Rattle.judgement.specs.Judgement.{applicationOf, refusals, askersSlots, resultOf}
 use Rattle.judgement.specs.declared.Status.{Status}
@@ -160,13 +160,13 @@ module _ (slots : List Entry) (keys : List ListedKey) where
   by-operation (exportPublicKey name) = by-export name
   by-operation (verifySignature name hash signature) = by-verify name hash signature
 
-  by-body : (opcode : ℕ) (body : List ℕ) → Ended slots (operationOf protobuf opcode body) (operated opcode body slots keys)
-  unfolding operated statusNumber refuse
-  by-body opcode body = go (operationOf protobuf opcode body) refl
+  by-body : (opcode : ℕ) (body : List ℕ) → Ended slots (operationOf protobuf opcode body) (operated protobuf opcode body slots keys)
+  unfolding operationOf operated statusNumber refuseAt
+  by-body opcode body = go (asking protobuf opcode body) refl
     where
-      go : (o : Option Operation) → operationOf protobuf opcode body ≡ o → Ended slots (operationOf protobuf opcode body) (operated opcode body slots keys)
-      go none e = rw (e, operated) (refuses refl)
-      go (some operation) e = rw (e, operated) (by-operation operation)
+      go : (a : Asking) → asking protobuf opcode body ≡ a → Ended slots (operationOf protobuf opcode body) (operated protobuf opcode body slots keys)
+      go (garbled at) e = rw (e, operationOf, operated) (refuses refl)
+      go (asks operation) e = rw (e, operationOf, operated) (by-operation operation)
 
 ended : (list r request : List ℕ) → Ended (askersSlots r (applicationOf r (requestOf request))) (asked request) (resultOf list r (requestOf request))
 unfolding resultOf asked refuse

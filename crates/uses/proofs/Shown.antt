@@ -34,7 +34,7 @@ use Rattle.stream.specs.Frame.{legalStart, oversized, next}
 use Rattle.stream.specs.Rules.{answer, finish, judge, rulesWithin, rulesFrom, start, rules}
 use Rattle.stream.specs.Parts.{andBefore, heldParts, partsWithin, partsOf, verdictOn}
 use Rattle.judgement.specs.Status.{statusNumber}
-use Rattle.judgement.specs.Operations.{success, refuse, withinBounds, placeKey, importBy, performImport, counted, exportOf, performExport, verifyWith, performVerify, perform, operated}
+use Rattle.judgement.specs.Operations.{success, refuse, withinBounds, placeKey, importBy, performImport, counted, exportOf, performExport, verifyWith, performVerify, perform, refuseAt, operated}
 use Rattle.judgement.specs.Counts.{noCounts, increment, indexOf, countRefused, countServed, count}
 use Rattle.judgement.specs.Judgement.{applicationOf, refusals, askersSlots, resultOf, changedBy, verdictOf, judgement}
 use Rattle.uses.specs.Uses.{asked, keyUsed, keyDestroyed, isFor, isServed, isOwn, isUse, destroysKey, registryAfter, countIf}
@@ -70,7 +70,7 @@ record Shown : Type 0 where
   destroyed : ℕ
 
 showing : Shown
-unfolding firstOf isSome oneOf littleEndian littleEndianOf field scanFrom scanAt requestOf responseHeader responseBytes varintOf numberAt fixedAt spanAt contentAt fieldAt groupAt withValue itemOf stepAt varintWithin varint numberField bytesField packedField flatMap flatten legalName legalData legalBits importBits opcodesOf listed messageBytes readMessage packedOf readBody inputFields askingOf asking operationOf outputBytes indexFrom keyBytes slotBytes slotOf used usedSlot applicationNamed slotsOf usesOf slotNamed changed lineOf registryOf isWhole recordTurn readRecords pairStep pairsDone listOf keysIn listedNamed shippedKey keyOf ownIn listedIn keyNamed legalStart oversized next answer finish judge rulesWithin rulesFrom start rules andBefore heldParts partsWithin partsOf verdictOn statusNumber success refuse withinBounds placeKey importBy performImport counted exportOf performExport verifyWith performVerify perform operated noCounts increment indexOf countRefused countServed count applicationOf refusals askersSlots resultOf changedBy verdictOf judgement asked keyUsed keyDestroyed isFor isServed isOwn isUse destroysKey registryAfter countIf bind
+unfolding firstOf isSome oneOf littleEndian littleEndianOf field scanFrom scanAt requestOf responseHeader responseBytes varintOf numberAt fixedAt spanAt contentAt fieldAt groupAt withValue itemOf stepAt varintWithin varint numberField bytesField packedField flatMap flatten legalName legalData legalBits importBits opcodesOf listed messageBytes readMessage packedOf readBody inputFields askingOf asking operationOf outputBytes indexFrom keyBytes slotBytes slotOf used usedSlot applicationNamed slotsOf usesOf slotNamed changed lineOf registryOf isWhole recordTurn readRecords pairStep pairsDone listOf keysIn listedNamed shippedKey keyOf ownIn listedIn keyNamed legalStart oversized next answer finish judge rulesWithin rulesFrom start rules andBefore heldParts partsWithin partsOf verdictOn statusNumber success refuse withinBounds placeKey importBy performImport counted exportOf performExport verifyWith performVerify perform refuseAt operated noCounts increment indexOf countRefused countServed count applicationOf refusals askersSlots resultOf changedBy verdictOf judgement asked keyUsed keyDestroyed isFor isServed isOwn isUse destroysKey registryAfter countIf bind
 showing =
     let registry = registryOf ((0x61 ∷ []) ∷ (0x62 ∷ []) ∷ []) in
     let line : Line = record { 0 = 0 } in

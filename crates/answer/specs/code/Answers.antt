@@ -46,11 +46,11 @@ PassedHeader h = firstOf (headerTests h) ≡ none
 
 -- what comes of it for an application
 abbrev pub resultForNamed : Header → (body registry list : List ℕ) → Line → Result
-resultForNamed h body registry list line = operated (h .opcode) body (slotsOf registry line) (keysIn list)
+resultForNamed h body registry list line = operated protobuf (h .opcode) body (slotsOf registry line) (keysIn list)
 
 -- and for nobody that is named: the keystore is not for them
 unfoldable pub resultForNobody : Header → (body list : List ℕ) → Result
-resultForNobody h body list = if eqb (h .provider) 1 then refuse NotAuthenticated else operated (h .opcode) body [] (keysIn list)
+resultForNobody h body list = if eqb (h .provider) 1 then refuse NotAuthenticated else operated protobuf (h .opcode) body [] (keysIn list)
 
 -- the result `x` was answered for `who`: its response, with the header's provider, session and opcode, stands at the front of
 -- the buffer `before`, which is now `after`

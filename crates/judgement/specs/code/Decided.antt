@@ -29,6 +29,7 @@ use Rattle.judgement.specs.Status.{statusNumber}
 use Rattle.judgement.specs.Operations.{Result}
 use Rattle.judgement.specs.Judgement.{refusals}
 use Rattle.judgement.specs.declared.Status.{Status}
+use Rattle.judgement.specs.declared.Status.the-variants.{DeserializingBodyFailed}
 use Rattle.judgement.specs.declared.Checked.{Checked}
 use Rattle.judgement.specs.declared.Checked.the-variants.{Passed, Refused}
 use Rattle.judgement.specs.declared.Asker.{Asker}
@@ -36,7 +37,7 @@ use Rattle.judgement.specs.declared.Asker.the-variants.{Nobody, Named}
 use Rattle.judgement.specs.declared.Auth.{Auth}
 use Rattle.judgement.specs.declared.Auth.the-variants.{Refused as AuthRefused, Accepted}
 use Rattle.judgement.specs.declared.Output.{Output}
-use Rattle.judgement.specs.declared.Output.the-variants.{Nothing, Version, Providers, Opcodes, Data}
+use Rattle.judgement.specs.declared.Output.the-variants.{Nothing, Version, Providers, Opcodes, Data, Offset}
 use Rattle.judgement.specs.declared.Edit.{Edit}
 use Rattle.judgement.specs.declared.Edit.the-variants.{Stays, Fills, Clears, Uses}
 use Rattle.judgement.specs.declared.Decision.{Decision}
@@ -101,6 +102,7 @@ outputIn slots list Version = message.version 1 0
 outputIn slots list Providers = message.providers (0 ∷ 1 ∷ [])
 outputIn slots list (Opcodes provider) = message.opcodes (opcodesOf provider)
 outputIn slots list (Data place) = message.exported (bytesAt slots list place)
+outputIn slots list (Offset at) = message.offset at
 
 -- the body of its response
 abbrev pub outputBytes : (slots : List Entry) (list : List ℕ) → Output → List ℕ
@@ -117,6 +119,9 @@ resultIn slots list body d = record { status = d .status; output = outputIn slot
 
 abbrev pub refusedWith : Status → Decision
 refusedWith status = record { status = status; output = Nothing; edit = Stays }
+
+abbrev pub brokenAt : (at : ℕ) → Decision
+brokenAt at = record { status = DeserializingBodyFailed; output = Offset at; edit = Stays }
 
 -- a decision on the key at a place, its use counted
 unfoldable pub countedAt : Place → Decision → Decision
@@ -153,6 +158,7 @@ SafeOutput list Version = Unit {0}
 SafeOutput list Providers = Unit {0}
 SafeOutput list (Opcodes provider) = provider ≤ 1
 SafeOutput list (Data place) = PlaceWithin list place × (length (bytesAt [] list place) ≤ dataMost)
+SafeOutput list (Offset at) = Unit {0}
 
 abbrev pub SafeEdit : (n : ℕ) → Edit → Type 0
 SafeEdit n Stays = Unit {0}

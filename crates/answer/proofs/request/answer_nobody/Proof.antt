@@ -3,6 +3,7 @@ use mathlib.Core.Path.{refl}
 use mathlib.Core.List.{[]}
 use native.Mathlib.Omega.{arith}
 use borrow.Author.Tests.{eq-eqb, ne-eqb}
+use Rattle.messages.specs.Protobuf.{protobuf}
 use Rattle.messages.proofs.OperationLaws.{nothing-bytes}
 use Rattle.registry.specs.Registry.{slotsOf}
 use Rattle.shipped.specs.Shipped.{keysIn}
@@ -45,7 +46,7 @@ returns-2 c =
     let a = s .args in
     let core = core-opcode (a .h) (s .pre .0) (omega (arith, provider-small (a .h) (s .pre .0), l .if1 .left)) in
     let keys = keysIn (a .list .now) in
-    rw (ne-eqb _ _ (l .if1 .left), core-alone (a .h .opcode) (a .body .now) [] (slotsOf (a .registry .now) (record { 0 = 0 })) keys keys core)
+    rw (ne-eqb _ _ (l .if1 .left), core-alone protobuf (a .h .opcode) (a .body .now) [] (slotsOf (a .registry .now) (record { 0 = 0 })) keys keys core)
     (decided-answered (a .h) Nobody (p .perform-operation .ensures) (c .before .before .write-response .ensures) 0, refl)
 
 pub answer-nobody-spec : {M : Type 1} → statement M

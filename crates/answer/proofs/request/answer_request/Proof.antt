@@ -4,9 +4,10 @@ use mathlib.Core.List.{List}
 use mathlib.Core.Path.{_≡_, refl, sym, ap, _∙_}
 use native.Mathlib.Omega.{arith}
 use borrow.Author.Needs.{needs}
-use lib.ListN.{length}
+use lib.ListN.{length, length-take}
 use Rattle.wire.specs.Request.{requestOf}
 use Rattle.wire.specs.code.Header.{headerOf}
+use Rattle.stream.specs.Frame.{contentMost}
 use Rattle.stream.proofs.FrameLaws.{legal-size}
 use Rattle.registry.proofs.WellFormedLaws.{good-of}
 use Rattle.judgement.specs.Status.{statusNumber}
@@ -19,7 +20,7 @@ use Rattle.judgement.proofs.OrderLaws.{passed-none, refused-some}
 use Rattle.journal.specs.Journalling.{recordFor}
 use Rattle.journal.specs.code.Written.{actOfAsker}
 use Rattle.answer.specs.code.Answers.{PassedHeader}
-use Rattle.answer.proofs.AnswerLaws.{header-status, authFound, header-refused, auth-refused, by-nobody, by-application, body-there, auth-there, no-record, answered-refused, answered}
+use Rattle.answer.proofs.AnswerLaws.{header-status, authFound, header-refused, auth-refused, by-nobody, by-application, body-there, auth-there, content-small, no-record, answered-refused, answered}
 use Rattle.answer.proofs.request.answer_request.Statement.{statement}
 use Rattle.answer.proofs.request.answer_request.Tie as tie
 
@@ -71,6 +72,11 @@ inside : (c : tie.After-read-header)
     → 6 + c .read-header .result .size + c .read-header .result .«content_length» ≤ length (c .before .before .before .before .before .before .args .request .now)
 unfolding headerOf
 inside c = rw (c .read-header .ensures) (omega (arith, c .before .before .before .before .before .before .pre .1))
+
+-- and the body is short
+small : (c : tie.After-read-header) → c .read-header .result .«content_length» ≤ contentMost
+unfolding headerOf
+small c = rw (c .read-header .ensures) (content-small _ (c .before .before .before .before .before .before .pre .2))
 
 sub-authenticate : tie.Need-sub-authenticate
 sub-authenticate c = inside (c .before .before .before .before .before .before)
@@ -137,7 +143,7 @@ part-answer-nobody-end c = inside (c .before .before .before .before .before .be
 answer-nobody-requires : tie.Need-answer-nobody-requires
 answer-nobody-requires c κs =
     let a = c .before .before .before .before .before .before .before .before in
-    (rw (header a) (passed a), start a .pre .3, start a .pre .4, start a .pre .5)
+    (rw (header a) (passed a), start a .pre .3, start a .pre .4, start a .pre .5, simp length-take (omega (arith, small (a .before .before .before .before .before .before .before .before))))
 
 enum-known-asker-2 : tie.Need-enum-known-asker-2
 enum-known-asker-2 c = search needs
@@ -161,7 +167,7 @@ answer-named-requires c κs =
     let t = c .before .before .before .before in
     let a = t .before .before .before .before .before .before in
     let b = by-application (list a) (registry a) (request a) (passed a) _ (sym (found a) ∙ named t) in
-    (start a .pre .3, asks (registry a) (requestOf (request a)) _ (b .0) .there, start a .pre .4, start a .pre .5, start a .pre .6)
+    (start a .pre .3, asks (registry a) (requestOf (request a)) _ (b .0) .there, start a .pre .4, start a .pre .5, start a .pre .6, simp length-take (omega (arith, small (a .before .before .before .before .before .before .before .before))))
 
 same-length-2 : tie.Need-same-length-2
 same-length-2 c = search needs

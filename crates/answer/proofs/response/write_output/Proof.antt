@@ -70,6 +70,12 @@ key-bytes-requires c κs =
 write-bytes-body-requires : tie.Need-write-bytes-body-requires
 write-bytes-body-requires c κs = omega (arith, short (c .before), c .before .before .before .before .before .before .before .before .pre .3)
 
+enum-known-output-3 : tie.Need-enum-known-output-3
+enum-known-output-3 c = search needs
+
+write-offset-body-requires : tie.Need-write-offset-body-requires
+write-offset-body-requires c κs = search needs
+
 returns-2 : tie.Need-returns-2
 unfolding outputIn
 returns-2 c = rw (c .enum-told .given .1, nothing-bytes) (wrote-none (c .before .before .before .before .before .args .out .now))
@@ -104,6 +110,13 @@ returns-6 c =
     let s = d .before .before .before .before .before .before .before .args in
     rw (d .before .before .output2 .given .1, ← bytes-at (s .registry .now) (s .list .now) (s .line) _, ← d .key-bytes .ensures) (c .before .before .write-bytes-body .ensures)
 
+same-length-6 : tie.Need-same-length-6
+same-length-6 c = search needs
+
+returns-7 : tie.Need-returns-7
+unfolding outputIn
+returns-7 c = rw (c .before .before .before .before .before .output3 .given .1) (c .before .before .write-offset-body .ensures)
+
 pub write-output-spec : {M : Type 1} → statement M
 write-output-spec =
     tie.close
@@ -124,6 +137,8 @@ write-output-spec =
     enum-known-output-2
     key-bytes-requires
     write-bytes-body-requires
+    enum-known-output-3
+    write-offset-body-requires
     returns-2
     same-length-2
     returns-3
@@ -132,4 +147,6 @@ write-output-spec =
     same-length-4
     returns-5
     same-length-5
-    returns-6)
+    returns-6
+    same-length-6
+    returns-7)

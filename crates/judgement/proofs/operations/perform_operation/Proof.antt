@@ -45,11 +45,11 @@ verified c = inside (c .before .before) _ (c .name3 .given .1)
 -- an operation that was read is what is performed
 performed : (c : tie.After-read-operation) (a : Asked) (operation : Operation) → c .read-operation .result ≡ a
     → askingIn (start c .args .body .now) a ≡ asks operation
-    → (let s = start c .args in operated (s .opcode) (s .body .now) (slotsOf (s .registry .now) (s .line)) (keysIn (s .list .now))
+    → (let s = start c .args in operated protobuf (s .opcode) (s .body .now) (slotsOf (s .registry .now) (s .line)) (keysIn (s .list .now))
     ≡ perform operation (slotsOf (s .registry .now) (s .line)) (keysIn (s .list .now)))
 performed c a operation e o =
     let s = start c .args in
-    readable (slotsOf (s .registry .now) (s .line)) (s .list .now) (s .body .now) (s .opcode) operation (sym o ∙ asks-as c a e)
+    readable (slotsOf (s .registry .now) (s .line)) (s .list .now) (s .body .now) protobuf (s .opcode) operation (sym o ∙ asks-as c a e)
 
 read-operation-requires : tie.Need-read-operation-requires
 read-operation-requires c κs = search needs
@@ -161,11 +161,16 @@ part-verify-end-3 c = omega (arith, verified (c .before .before .before .before 
 verify-requires : tie.Need-verify-requires
 verify-requires c κs = search needs
 
-enum-told-3 : tie.Need-enum-told-3
-enum-told-3 c = search needs
+enum-known-at : tie.Need-enum-known-at
+enum-known-at c = search needs
 
-refused-requires : tie.Need-refused-requires
-refused-requires c κs = search needs
+cast-broken : tie.Need-cast-broken
+cast-broken c =
+    let r = c .before .before .before in
+    omega (arith, inside r _ (c .before .at .given .1), start r .pre .3)
+
+broken-requires : tie.Need-broken-requires
+broken-requires c κs = search needs
 
 returns : tie.Need-returns
 unfolding perform outputIn
@@ -209,8 +214,8 @@ returns-7 c =
 
 returns-8 : tie.Need-returns-8
 returns-8 c =
-    let r = c .before .before .before in
-    rw (c .refused .ensures) (unreadable _ _ _ _ _ (asks-as r _ (c .before .enum-told3 .given .1)))
+    let r = c .before .before .before .before in
+    rw (c .broken .ensures) (unreadable _ _ _ _ _ _ (asks-as r _ (c .before .before .at .given .1)))
 
 pub perform-operation-spec : {M : Type 1} → statement M
 perform-operation-spec =
@@ -251,8 +256,9 @@ perform-operation-spec =
     part-verify-start-3
     part-verify-end-3
     verify-requires
-    enum-told-3
-    refused-requires
+    enum-known-at
+    cast-broken
+    broken-requires
     returns
     returns-2
     returns-3
