@@ -6,4 +6,5 @@ pub mod PlacesLaws
 pub mod OpcodeLaws
 pub mod PlacedLaws
 pub mod WriteLaws
+pub mod BrokenLaws
 pub mod Cases

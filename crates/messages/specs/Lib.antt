@@ -5,3 +5,4 @@ pub mod Opcodes
 pub mod Operations
 pub mod Placed
 pub mod code
+pub mod Claims

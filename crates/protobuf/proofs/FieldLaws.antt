@@ -30,7 +30,7 @@ FieldAhead n at (GroupStart f next) = Ahead n at next
 FieldAhead n at (GroupEnd f next) = Ahead n at next
 FieldAhead n at Unreadable = Unit {0}
 
-below-ahead : (n at low : ℕ) (r : Varint) → VarintAhead n (at + 1) r → VarintAhead n at (below low r)
+pub below-ahead : (n at low : ℕ) (r : Varint) → VarintAhead n (at + 1) r → VarintAhead n at (below low r)
 below-ahead n at low (Read v next) h = omega arith
 below-ahead n at low noVarint h = tt
 
@@ -48,7 +48,7 @@ varint-ahead (suc more) s at =
     (λ _. tt)
 
 -- the same of what stands behind the tag, which may be nothing
-abbrev FieldFrom : ℕ → ℕ → Field → Type 0
+abbrev pub FieldFrom : ℕ → ℕ → Field → Type 0
 FieldFrom n at (Number f v next) = (at ≤ next) × (next ≤ n)
 FieldFrom n at (Span f start len next) = (at ≤ next) × (next ≤ n) × (start + len ≤ n)
 FieldFrom n at (Fixed f next) = (at ≤ next) × (next ≤ n)
@@ -85,7 +85,7 @@ module _ (s : List ℕ) (f : ℕ) where
       then-has (FieldFrom (length s) at) _ _ (varintAt s at) _ tt (varint-ahead 9 s at)
       (λ len start h. either (FieldFrom (length s) at) (leb (start + len) (length s)) (λ e. omega (arith, leb-true (start + len) (length s) e)) (λ _. tt))
 
-  content-from : (wire at : ℕ) → at ≤ length s → FieldFrom (length s) at (contentAt s f wire at)
+  pub content-from : (wire at : ℕ) → at ≤ length s → FieldFrom (length s) at (contentAt s f wire at)
   unfolding contentAt
   content-from wire at h =
       let P = FieldFrom (length s) at in
