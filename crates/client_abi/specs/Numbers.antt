@@ -6,7 +6,7 @@ use mathlib.Core.List.{List}
 use lib.ListN.{length}
 use Rattle.messages.specs.declared.read.Span.{Span}
 use Rattle.messages.specs.declared.read.Output.{Output}
-use Rattle.messages.specs.declared.read.Output.the-variants.{Nothing, Version, Providers, Opcodes, Data}
+use Rattle.messages.specs.declared.read.Output.the-variants.{Nothing, Version, Providers, Opcodes, Data, Offset}
 use Rattle.client_requests.specs.Writing.{WriteOutcome}
 use Rattle.client_responses.specs.State.{Beginning, ReadOutcome}
 use Rattle.client_responses.specs.Handed.{handed, SaidWithin}
@@ -67,14 +67,15 @@ readRefusalNumber ContentTooLong = 8
 readRefusalNumber UnreadableBody = 9
 
 abbrev pub placedNumbers : (kind : ℕ) → Span → OutputNumbers
-placedNumbers kind span = record { kind = kind; major = 0; minor = 0; start = span .start; length = span .len }
+placedNumbers kind span = record { kind = kind; major = 0; minor = 0; offset = 0; start = span .start; length = span .len }
 
 unfoldable pub outputNumbers : Output → OutputNumbers
-outputNumbers Nothing = record { kind = 0; major = 0; minor = 0; start = 0; length = 0 }
-outputNumbers (Version major minor) = record { kind = 1; major = major; minor = minor; start = 0; length = 0 }
+outputNumbers Nothing = record { kind = 0; major = 0; minor = 0; offset = 0; start = 0; length = 0 }
+outputNumbers (Version major minor) = record { kind = 1; major = major; minor = minor; offset = 0; start = 0; length = 0 }
 outputNumbers (Providers span) = placedNumbers 2 span
 outputNumbers (Opcodes span) = placedNumbers 3 span
 outputNumbers (Data span) = placedNumbers 4 span
+outputNumbers (Offset at) = record { kind = 5; major = 0; minor = 0; offset = at; start = 0; length = 0 }
 
 abbrev pub withoutResponse : (code taken : ℕ) → Answer
 withoutResponse code taken = record { code = code; status = 0; taken = taken; output = outputNumbers Nothing }

@@ -14,13 +14,14 @@ ghost use Rattle.messages.specs.Placed.{readListOutcome};
 ghost use Rattle.client_responses.specs.State.{beginState, readOutcome};
 ghost use Rattle.client_abi.specs.Numbers.{beganWith, readRefusalNumber, placedNumbers, outputNumbers, withoutResponse, responseNumbers, saidNumbers, answerNumbers, Says};
 
-// An output: its number; a version's two; the place, in the state's memory, of data or of a list's packed varints. What an output
-// doesn't have is 0.
+// An output: its number; a version's two; where a body broke; the place, in the state's memory, of data or of a list's packed
+// varints. What an output doesn't have is 0.
 #[repr(C)]
 pub struct OutputNumbers {
     pub kind: u32,
     pub major: u32,
     pub minor: u32,
+    pub offset: u32,
     pub start: usize,
     pub length: usize,
 }
@@ -67,6 +68,7 @@ fn placed(kind: u32, span: Span) -> OutputNumbers
         kind,
         major: 0,
         minor: 0,
+        offset: 0,
         start: span.start,
         length: span.len,
     }
@@ -80,6 +82,7 @@ fn number_output(output: Output) -> OutputNumbers
             kind: 0,
             major: 0,
             minor: 0,
+            offset: 0,
             start: 0,
             length: 0,
         },
@@ -87,12 +90,21 @@ fn number_output(output: Output) -> OutputNumbers
             kind: 1,
             major,
             minor,
+            offset: 0,
             start: 0,
             length: 0,
         },
         Output::Providers(span) => placed(2, span),
         Output::Opcodes(span) => placed(3, span),
         Output::Data(span) => placed(4, span),
+        Output::Offset(at) => OutputNumbers {
+            kind: 5,
+            major: 0,
+            minor: 0,
+            offset: at,
+            start: 0,
+            length: 0,
+        },
     }
 }
 

@@ -12,7 +12,7 @@ use Rattle.protobuf.specs.Varint.{varintOf}
 use Rattle.protobuf.specs.Field.{numberAt, fixedAt, spanAt, contentAt, fieldAt}
 use Rattle.messages.specs.Format.{listed, readMessage}
 use Rattle.messages.specs.Protobuf.{packedOf}
-use Rattle.messages.specs.Operations.{nothing, version, providers, exported, readBody, outputOf}
+use Rattle.messages.specs.Operations.{nothing, version, providers, exported, offset, readBody, outputOf, offsetOf, answerOf}
 use Rattle.client_responses.specs.Reading.{Asked, answered, refused, isIts, isInvalidHeader, headerTests, bodyReply, foundBehind, found}
 use Rattle.client_responses.specs.declared.ReadRefusal.the-variants.{WrongMagic, WrongHeaderSize, NotItsRequests, ContentTooLong, UnreadableBody}
 
@@ -32,6 +32,9 @@ pub cases :
     × (found (asks 7) (header 1 4 7 0 ++ (0x0A ∷ 0x02 ∷ 0xAA ∷ 0xBB ∷ [])) ≡ some (answered 0 (exported (0xAA ∷ 0xBB ∷ []))))
     × (found (asks 6) (header 1 0 6 1139) ≡ some (answered 1139 nothing))
     × (found (asks 6) (header 1 1 6 1139 ++ (0x00 ∷ [])) ≡ some (refused UnreadableBody))
+    × (found (asks 6) (header 1 0 6 7) ≡ some (answered 7 (offset 0)))
+    × (found (asks 6) (header 1 4 6 7 ++ (0x08 ∷ 0x05 ∷ 0x08 ∷ 0x0C ∷ [])) ≡ some (answered 7 (offset 12)))
+    × (found (asks 6) (header 1 1 6 7 ++ (0x08 ∷ [])) ≡ some (refused UnreadableBody))
     × (found (asks 6) (responseHeader 0 0 0 0 17) ≡ some (answered 17 nothing))
     × (found (asks 6) (responseHeader 0 0 1 0 17) ≡ some (refused NotItsRequests))
     × (found (asks 6) (responseHeader 1 8 0 6 0) ≡ some (refused NotItsRequests))
@@ -41,5 +44,5 @@ pub cases :
     × (found (asks 1) (0x10 ∷ 0xA7 ∷ 0xC0 ∷ 0x5E ∷ 22 ∷ 0 ∷ []) ≡ some (refused WrongHeaderSize))
     × (found (asks 1) (0x10 ∷ 0xA7 ∷ 0xC0 ∷ 0x5F ∷ 22 ∷ 0 ∷ []) ≡ some (refused WrongMagic))
     × (found (asks 1) (0x10 ∷ 0xA7 ∷ 0xC0 ∷ 0x5F ∷ 22 ∷ []) ≡ none)
-unfolding found foundBehind headerTests isIts isInvalidHeader bodyReply firstOf oneOf littleEndian littleEndianOf field responseHeader responseOf outputOf readBody readMessage listed bind packedOf scanFrom scanAt varintOf numberAt fixedAt spanAt contentAt fieldAt
-cases = (refl, refl, refl, refl, refl, refl, refl, refl, refl, refl, refl, refl, refl, refl, refl, refl)
+unfolding found foundBehind headerTests isIts isInvalidHeader bodyReply firstOf oneOf littleEndian littleEndianOf field responseHeader responseOf answerOf offsetOf outputOf readBody readMessage listed bind packedOf scanFrom scanAt varintOf numberAt fixedAt spanAt contentAt fieldAt
+cases = (refl, refl, refl, refl, refl, refl, refl, refl, refl, refl, refl, refl, refl, refl, refl, refl, refl, refl, refl)

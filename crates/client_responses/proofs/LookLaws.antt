@@ -5,7 +5,6 @@ use mathlib.Core.Bool.{Bool, true, false}
 use mathlib.Core.Option.{Option, none, some}
 use mathlib.Core.List.{List, _∷_}
 use native.Mathlib.Omega.{arith}
-use borrow.Author.Tests.{eq-eqb, ne-eqb}
 use lib.ListN.{length, take, drop}
 use lib.Seq.{drop-drop}
 use Rattle.wire.specs.Choice.{firstOf}
@@ -13,11 +12,11 @@ use Rattle.wire.specs.Numbers.{field}
 use Rattle.wire.specs.Response.{responseLeast}
 use Rattle.wire.proofs.ListLaws.{length-part, part-of-part}
 use Rattle.messages.specs.Protobuf.{protobuf}
-use Rattle.messages.specs.Operations.{Output, nothing, providers, opcodes, exported, outputOf}
+use Rattle.messages.specs.Operations.{Output, providers, opcodes, exported, answerOf}
 use Rattle.messages.specs.Placed.{spanIn, firstEntries, listIn, outputIn, readIn, SpanWithin, OutputWithin}
 use Rattle.messages.specs.declared.read.Span.{Span}
 use Rattle.messages.specs.declared.read.Output.{Output as OutputPlaces}
-use Rattle.messages.specs.declared.read.Output.the-variants.{Nothing, Version, Providers, Opcodes, Data}
+use Rattle.messages.specs.declared.read.Output.the-variants.{Nothing, Version, Providers, Opcodes, Data, Offset}
 use Rattle.messages.specs.declared.read.OutputRead.the-variants.{Read, Unreadable}
 use Rattle.client_responses.specs.Reading.{responseContentMost, Reply, answered, refused, ofOutput, bodyReply}
 use Rattle.client_responses.specs.State.{countAt, bytesAt, stateSize, bytesIn, saidOf, said}
@@ -44,6 +43,7 @@ module _ (n k : ℕ) (m : List ℕ) where
   output-moved (Providers span) w = ap providers (list-moved span w)
   output-moved (Opcodes span) w = ap opcodes (list-moved span w)
   output-moved (Data span) w = ap exported (span-moved span w)
+  output-moved (Offset at) w = refl
 
 moved-within : (n k most : ℕ) → k + n ≤ most → (o : OutputPlaces) → OutputWithin n o → OutputWithin most (outputMoved k o)
 moved-within n k most h Nothing w = tt
@@ -51,6 +51,7 @@ moved-within n k most h (Version major minor) w = tt
 moved-within n k most h (Providers span) w = omega arith
 moved-within n k most h (Opcodes span) w = omega arith
 moved-within n k most h (Data span) w = omega arith
+moved-within n k most h (Offset at) w = tt
 
 pub within-more : (n most : ℕ) → n ≤ most → (o : OutputPlaces) → OutputWithin n o → OutputWithin most o
 within-more n most h Nothing w = tt
@@ -58,6 +59,7 @@ within-more n most h (Version major minor) w = tt
 within-more n most h (Providers span) w = omega arith
 within-more n most h (Opcodes span) w = omega arith
 within-more n most h (Data span) w = omega arith
+within-more n most h (Offset at) w = tt
 
 -- ---- a header checked, test by test
 
@@ -92,19 +94,6 @@ module _ (m : List ℕ) (reply : Option Reply) where
 
 -- ---- a body read
 
-module _ (opcode status : ℕ) (body : List ℕ) where
-  reply-output : status ≡ 0 → bodyReply opcode status body ≡ ofOutput (outputOf protobuf opcode body)
-  unfolding bodyReply
-  reply-output e = rw (eq-eqb status 0 e, bodyReply)
-
-  reply-none : (status ≡ 0 → ⊥) → length body ≡ 0 → bodyReply opcode status body ≡ answered status nothing
-  unfolding bodyReply
-  reply-none n e = rw (ne-eqb status 0 n, eq-eqb (length body) 0 e, bodyReply)
-
-  reply-some : (status ≡ 0 → ⊥) → (length body ≡ 0 → ⊥) → bodyReply opcode status body ≡ refused UnreadableBody
-  unfolding bodyReply
-  reply-some n e = rw (ne-eqb status 0 n, ne-eqb (length body) 0 e, bodyReply)
-
 module _ (m : List ℕ) (size : length m ≡ stateSize) (opcode status content : ℕ) (few : content ≤ responseContentMost) where
   abbrev body : List ℕ
   body = take content (drop bodyAt m)
@@ -112,23 +101,19 @@ module _ (m : List ℕ) (size : length m ≡ stateSize) (opcode status content :
   pub body-long : length body ≡ content
   body-long = length-part m bodyAt content (omega arith)
 
-  pub said-status : (status ≡ 0 → ⊥) → content ≡ 0 → Looked m (some (bodyReply opcode status body)) (Response (record { status = status; output = Nothing }))
-  said-status n e = record { said-is = ap said (sym (reply-none opcode status body n (body-long ∙ e))); within = tt }
-
-  pub said-body : (status ≡ 0 → ⊥) → (content ≡ 0 → ⊥) → Looked m (some (bodyReply opcode status body)) (Refused UnreadableBody)
-  said-body n e = looked-refused m _ UnreadableBody (ap some (reply-some opcode status body n (λ z. e (sym body-long ∙ z))))
-
-  pub said-output : (output : OutputPlaces) → status ≡ 0 → readIn body (Read output) ≡ outputOf protobuf opcode body → OutputWithin content output
-      → Looked m (some (bodyReply opcode status body)) (Response (record { status = 0; output = outputMoved bodyAt output }))
-  said-output output z e w = record {
+  pub said-output : (output : OutputPlaces) → readIn body (Read output) ≡ answerOf protobuf opcode status body → OutputWithin content output
+      → Looked m (some (bodyReply opcode status body)) (Response (record { status = status; output = outputMoved bodyAt output }))
+  unfolding bodyReply
+  said-output output e w = record {
     said-is =
-        ap (λ (o : Output). said (answered 0 o)) (sym (output-moved content bodyAt m output w))
-        ∙ ap said (ap ofOutput e ∙ sym (reply-output opcode status body z));
+        ap (λ (o : Output). said (answered status o)) (sym (output-moved content bodyAt m output w))
+        ∙ ap (λ (o : Option Output). said (ofOutput status o)) e;
     within = moved-within content bodyAt (length m) (omega arith) output w;
   }
 
-  pub said-unreadable : status ≡ 0 → readIn body Unreadable ≡ outputOf protobuf opcode body → Looked m (some (bodyReply opcode status body)) (Refused UnreadableBody)
-  said-unreadable z e = looked-refused m _ UnreadableBody (ap some (reply-output opcode status body z ∙ ap ofOutput (sym e)))
+  pub said-unreadable : readIn body Unreadable ≡ answerOf protobuf opcode status body → Looked m (some (bodyReply opcode status body)) (Refused UnreadableBody)
+  unfolding bodyReply
+  said-unreadable e = looked-refused m _ UnreadableBody (ap (λ (o : Option Output). some (ofOutput status o)) (sym e))
 
 -- ---- the bytes held, as the code lends them
 

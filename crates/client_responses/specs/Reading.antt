@@ -13,7 +13,7 @@ use Rattle.wire.specs.declared.response.ResponseHeader.{ResponseHeader}
 use Rattle.reading.specs.Reader.{Reader}
 use Rattle.messages.specs.Protobuf.{protobuf}
 use Rattle.messages.specs.Opcodes.{coreOpcodes}
-use Rattle.messages.specs.Operations.{Output, nothing, outputOf}
+use Rattle.messages.specs.Operations.{Output, answerOf}
 use Rattle.client_responses.specs.declared.ReadRefusal.{ReadRefusal}
 use Rattle.client_responses.specs.declared.ReadRefusal.the-variants.{WrongMagic, WrongHeaderSize, WrongVersion, WrongContentType, NotItsRequests, ContentTooLong, UnreadableBody}
 
@@ -57,16 +57,12 @@ headerTests asked h =
 
 -- ---- the body, once it is whole
 
-abbrev pub ofOutput : Option Output → Reply
-ofOutput none = refused UnreadableBody
-ofOutput (some output) = answered 0 output
+abbrev pub ofOutput : (status : ℕ) → Option Output → Reply
+ofOutput status none = refused UnreadableBody
+ofOutput status (some output) = answered status output
 
--- a status other than 0 has no body
 unfoldable pub bodyReply : (opcode status : ℕ) (body : List ℕ) → Reply
-bodyReply opcode status body =
-    if eqb status 0 then ofOutput (outputOf protobuf opcode body)
-    else if eqb (length body) 0 then answered status nothing
-    else refused UnreadableBody
+bodyReply opcode status body = ofOutput status (answerOf protobuf opcode status body)
 
 -- ---- what bytes are read as, if that can be said yet
 

@@ -10,7 +10,7 @@ use messages::opcodes::is_core;
 use messages::read::Output;
 use messages::read::OutputRead;
 use messages::read::Span;
-use messages::read::read_output;
+use messages::read::read_answer;
 use wire::header::MAGIC;
 use wire::number::read_u16;
 use wire::number::read_u32;
@@ -147,6 +147,7 @@ fn move_output(output: Output) -> Output
         Output::Providers(span) => Output::Providers(move_span(span)),
         Output::Opcodes(span) => Output::Opcodes(move_span(span)),
         Output::Data(span) => Output::Data(move_span(span)),
+        Output::Offset(at) => Output::Offset(at),
     }
 }
 
@@ -155,19 +156,10 @@ fn read_reply(memory: &[u8], opcode: u16, status: u16, content: usize) -> Said
     requires { ⌜ (length (now memory) ≡ stateSize) × (content ≤ responseContentMost) ⌝ }
     ensures { λ r. ⌜ Looked (now (memory .entry)) (some (bodyReply opcode status (take content (drop bodyAt (now (memory .entry)))))) r ⌝ }
 {
-    if status != 0 {
-        if content == 0 {
-            return Said::Response(Response {
-                status,
-                output: Output::Nothing,
-            });
-        }
-        return Said::Refused(ReadRefusal::UnreadableBody);
-    }
     let end = BODY_AT + content;
-    match read_output(opcode, &memory[BODY_AT..end]) {
+    match read_answer(opcode, status, &memory[BODY_AT..end]) {
         OutputRead::Read(output) => Said::Response(Response {
-            status: 0,
+            status,
             output: move_output(output),
         }),
         OutputRead::Unreadable => Said::Refused(ReadRefusal::UnreadableBody),

@@ -10,7 +10,7 @@ use Rattle.wire.specs.Choice.{if_then_else_}
 use Rattle.wire.specs.Response.{responseLeast, responseOf}
 use Rattle.messages.specs.declared.read.Span.{Span}
 use Rattle.messages.specs.declared.read.Output.{Output as OutputPlaces}
-use Rattle.messages.specs.declared.read.Output.the-variants.{Nothing, Version, Providers, Opcodes, Data}
+use Rattle.messages.specs.declared.read.Output.the-variants.{Nothing, Version, Providers, Opcodes, Data, Offset}
 use Rattle.client_responses.specs.Reading.{Asked, Reply, found}
 use Rattle.client_responses.specs.State.{bytesAt, responseMost, stateBytes, askedIn, bytesIn, wellFormedState, saidOf}
 use Rattle.client_responses.specs.Handed.{saidIn, SaidWithin}
@@ -34,6 +34,7 @@ outputMoved by (Version major minor) = Version major minor
 outputMoved by (Providers span) = Providers (spanMoved by span)
 outputMoved by (Opcodes span) = Opcodes (spanMoved by span)
 outputMoved by (Data span) = Data (spanMoved by span)
+outputMoved by (Offset at) = Offset at
 
 -- ---- looking
 

@@ -28,6 +28,9 @@ enum-known-output-4 c = search needs
 placed-requires-3 : tie.Need-placed-requires-3
 placed-requires-3 c κs = search needs
 
+enum-known-output-5 : tie.Need-enum-known-output-5
+enum-known-output-5 c = search needs
+
 returns : tie.Need-returns
 unfolding outputNumbers
 returns c = rw (c .enum-told .given .1)
@@ -48,6 +51,10 @@ returns-5 : tie.Need-returns-5
 unfolding outputNumbers
 returns-5 c = rw (c .before .before .output4 .given .1) (c .placed3 .ensures)
 
+returns-6 : tie.Need-returns-6
+unfolding outputNumbers
+returns-6 c = rw (c .before .output5 .given .1)
+
 pub number-output-spec : {M : Type 1} → statement M
 number-output-spec =
     tie.close
@@ -60,8 +67,10 @@ number-output-spec =
     placed-requires-2
     enum-known-output-4
     placed-requires-3
+    enum-known-output-5
     returns
     returns-2
     returns-3
     returns-4
-    returns-5)
+    returns-5
+    returns-6)

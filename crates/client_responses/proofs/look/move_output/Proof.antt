@@ -32,6 +32,9 @@ enum-known-output-4 c = search needs
 move-span-requires-3 : tie.Need-move-span-requires-3
 move-span-requires-3 c κs = subst (OutputWithin responseContentMost) (c .before .output4 .given .1) (c .before .before .before .pre)
 
+enum-known-output-5 : tie.Need-enum-known-output-5
+enum-known-output-5 c = search needs
+
 returns : tie.Need-returns
 returns c = search needs
 
@@ -47,6 +50,9 @@ returns-4 c = ap Opcodes (c .move-span2 .ensures) ∙ ap (outputMoved bodyAt) (s
 returns-5 : tie.Need-returns-5
 returns-5 c = ap Data (c .move-span3 .ensures) ∙ ap (outputMoved bodyAt) (sym (c .before .before .output4 .given .1))
 
+returns-6 : tie.Need-returns-6
+returns-6 c = ap (outputMoved bodyAt) (sym (c .before .output5 .given .1))
+
 pub move-output-spec : {M : Type 1} → statement M
 move-output-spec =
     tie.close
@@ -59,8 +65,10 @@ move-output-spec =
     move-span-requires-2
     enum-known-output-4
     move-span-requires-3
+    enum-known-output-5
     returns
     returns-2
     returns-3
     returns-4
-    returns-5)
+    returns-5
+    returns-6)

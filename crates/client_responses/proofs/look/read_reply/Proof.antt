@@ -6,109 +6,95 @@ use mathlib.Core.Option.{some}
 use native.Mathlib.Omega.{arith}
 use lib.ListN.{length, take, drop}
 use Rattle.messages.specs.Protobuf.{protobuf}
-use Rattle.messages.specs.Operations.{outputOf}
+use Rattle.messages.specs.Operations.{answerOf}
 use Rattle.messages.specs.Placed.{readIn, OutputWithin, ReadWithin}
 use Rattle.messages.specs.declared.read.Output.{Output as OutputPlaces}
 use Rattle.messages.specs.declared.read.OutputRead.{OutputRead}
 use Rattle.client_responses.specs.Reading.{responseContentMost, bodyReply}
 use Rattle.client_responses.specs.code.Looked.{bodyAt, Looked}
 use Rattle.client_responses.specs.declared.look.Said.the-variants.{Response}
-use Rattle.client_responses.proofs.LookLaws.{within-more, body-long, said-status, said-body, said-output, said-unreadable}
+use Rattle.client_responses.proofs.LookLaws.{within-more, body-long, said-output, said-unreadable}
 use borrow.Author.Needs.{needs}
 use Rattle.client_responses.proofs.look.read_reply.Statement.{statement}
 use Rattle.client_responses.proofs.look.read_reply.Tie as tie
 
 -- what was read, of the body
-reading : (c : tie.After-read-output)
-    → (let a = c .before .before .before .before .args in
+reading : (c : tie.After-read-answer)
+    → (let a = c .before .before .before .args in
     let body = take (a .content) (drop bodyAt (a .memory .now)) in
-    (readIn body (c .read-output .result) ≡ outputOf protobuf (a .opcode) body) × ReadWithin (length body) (c .read-output .result))
+    (readIn body (c .read-answer .result) ≡ answerOf protobuf (a .opcode) (a .status) body) × ReadWithin (length body) (c .read-answer .result))
 reading c =
-    let a = c .before .before .before .before .args in
+    let a = c .before .before .before .args in
     let m : List ℕ = a .memory .now in
     let same : bodyAt + a .content - bodyAt ≡ a .content = omega arith in
-    subst (λ (n : ℕ). (readIn (take n (drop bodyAt m)) (c .read-output .result) ≡ outputOf protobuf (a .opcode) (take n (drop bodyAt m))) × ReadWithin (length (take n (drop bodyAt m))) (c .read-output .result)) same (c .read-output .ensures)
+    subst (λ (n : ℕ). (readIn (take n (drop bodyAt m)) (c .read-answer .result) ≡ answerOf protobuf (a .opcode) (a .status) (take n (drop bodyAt m))) × ReadWithin (length (take n (drop bodyAt m))) (c .read-answer .result)) same (c .read-answer .ensures)
 
 output-within : (c : tie.After-known-told)
-    → (let a = c .before .before .before .before .before .before .before .args in OutputWithin (a .content) (c .before .output .given .0 .0))
+    → (let a = c .before .before .before .before .before .before .args in OutputWithin (a .content) (c .before .output .given .0 .0))
 output-within c =
     let r = c .before .before .before in
-    let s = r .before .before .before .before in
+    let s = r .before .before .before in
     let a = s .args in
     let long = body-long (a .memory .now) (s .pre .0) (a .opcode) (a .status) (a .content) (s .pre .1) in
     subst (λ (n : ℕ). OutputWithin n (c .before .output .given .0 .0)) long
     (subst (λ (o : OutputRead). ReadWithin (length (take (a .content) (drop bodyAt (a .memory .now)))) o) (c .before .output .given .1) (reading r .1))
 
-returns : tie.Need-returns
-returns c =
-    let s = c .before .before .before in
-    let a = s .args in
-    said-status (a .memory .now) (s .pre .0) (a .opcode) (a .status) (a .content) (s .pre .1) (c .before .if1 .taken) (c .if2 .taken)
-
-returns-2 : tie.Need-returns-2
-returns-2 c =
-    let s = c .before .before .before in
-    let a = s .args in
-    said-body (a .memory .now) (s .pre .0) (a .opcode) (a .status) (a .content) (s .pre .1) (c .before .if1 .taken) (c .if2 .left)
-
 add-end : tie.Need-add-end
 add-end c = search needs
 
-sub-read-output : tie.Need-sub-read-output
-sub-read-output c = search needs
+sub-read-answer : tie.Need-sub-read-answer
+sub-read-answer c = search needs
 
-part-read-output-start : tie.Need-part-read-output-start
-part-read-output-start c = search needs
+part-read-answer-start : tie.Need-part-read-answer-start
+part-read-answer-start c = search needs
 
-part-read-output-end : tie.Need-part-read-output-end
-part-read-output-end c = search needs
+part-read-answer-end : tie.Need-part-read-answer-end
+part-read-answer-end c = search needs
 
-read-output-requires : tie.Need-read-output-requires
-read-output-requires c κs = search needs
+read-answer-requires : tie.Need-read-answer-requires
+read-answer-requires c κs = search needs
 
 enum-known-output : tie.Need-enum-known-output
 enum-known-output c = search needs
 
 move-output-requires : tie.Need-move-output-requires
 move-output-requires c κs =
-    let s = c .before .before .before .before .before .before .before in
+    let s = c .before .before .before .before .before .before in
     within-more (s .args .content) responseContentMost (s .pre .1) (c .before .output .given .0 .0) (output-within c)
 
 enum-told : tie.Need-enum-told
 enum-told c = search needs
 
-returns-3 : tie.Need-returns-3
-returns-3 c =
+returns : tie.Need-returns
+returns c =
     let k = c .before in
     let r = k .before .before .before in
-    let s = r .before .before .before .before in
+    let s = r .before .before .before in
     let a = s .args in
     let body : List ℕ = take (a .content) (drop bodyAt (a .memory .now)) in
     let e = ap (readIn body) (sym (k .before .output .given .1)) ∙ reading r .0 in
-    subst (λ (o : OutputPlaces). Looked (a .memory .now) (some (bodyReply (a .opcode) (a .status) body)) (Response (record { status = 0; output = o }))) (sym (c .move-output .ensures))
-    (said-output (a .memory .now) (s .pre .0) (a .opcode) (a .status) (a .content) (s .pre .1) (k .before .output .given .0 .0) (r .before .before .if1 .left) e (output-within k))
+    subst (λ (o : OutputPlaces). Looked (a .memory .now) (some (bodyReply (a .opcode) (a .status) body)) (Response (record { status = a .status; output = o }))) (sym (c .move-output .ensures))
+    (said-output (a .memory .now) (s .pre .0) (a .opcode) (a .status) (a .content) (s .pre .1) (k .before .output .given .0 .0) e (output-within k))
 
-returns-4 : tie.Need-returns-4
-returns-4 c =
+returns-2 : tie.Need-returns-2
+returns-2 c =
     let r = c .before .before in
-    let s = r .before .before .before .before in
+    let s = r .before .before .before in
     let a = s .args in
     let body : List ℕ = take (a .content) (drop bodyAt (a .memory .now)) in
-    said-unreadable (a .memory .now) (s .pre .0) (a .opcode) (a .status) (a .content) (s .pre .1) (r .before .before .if1 .left) (ap (readIn body) (sym (c .enum-told .given .1)) ∙ reading r .0)
+    said-unreadable (a .memory .now) (s .pre .0) (a .opcode) (a .status) (a .content) (s .pre .1) (ap (readIn body) (sym (c .enum-told .given .1)) ∙ reading r .0)
 
 pub read-reply-spec : {M : Type 1} → statement M
 read-reply-spec =
     tie.close
     (tie.spec
-    returns
-    returns-2
     add-end
-    sub-read-output
-    part-read-output-start
-    part-read-output-end
-    read-output-requires
+    sub-read-answer
+    part-read-answer-start
+    part-read-answer-end
+    read-answer-requires
     enum-known-output
     move-output-requires
     enum-told
-    returns-3
-    returns-4)
+    returns
+    returns-2)
