@@ -1,21 +1,22 @@
 -- WHAT THE SERVICE WRITES TO ANY REQUEST THAT A CLIENT MAY HAVE SENT, THE CLIENT READS AS THE SAME RESPONSE, on any well-formed
 -- registry: status and output, and never a refusal; and so it does the answer with status 17.
 use mathlib.Core.Path.{_≡_, refl, sym, ap, _∙_, subst}
-use Prim.Native.Nat.{ℕ, _+_, _≤_, _<_}
+use Prim.Native.Nat.{ℕ, _+_, _^_, _≤_, _<_}
 use mathlib.Core.Bool.{Bool, true, false}
 use mathlib.Core.Option.{some}
 use mathlib.Core.List.{List, [], _++_, append-nil}
 use native.Mathlib.Omega.{arith}
-use lib.ListN.{length, take}
-use lib.Dec.{ltb, lit<}
+use borrow.Author.Tests.{ltb-false}
+use lib.ListN.{length, take, drop, length-take}
+use lib.Dec.{ltb}
 use Rattle.wire.specs.Numbers.{field}
 use Rattle.wire.specs.Request.{contentLength, headerLength, Request, requestOf}
 use Rattle.wire.specs.Response.{responseBytes}
-use Rattle.wire.proofs.TestLaws.{either}
+use Rattle.wire.proofs.TestLaws.{or-left, either}
 use Rattle.wire.proofs.NumberLaws.{field-part}
 use Rattle.wire.proofs.ResponseLaws.{response-long}
 use Rattle.messages.specs.Protobuf.{protobuf}
-use Rattle.messages.specs.Operations.{outputBytes}
+use Rattle.messages.specs.Operations.{outputBytes, answerOf}
 use Rattle.messages.proofs.OperationLaws.{nothing-bytes}
 use Rattle.stream.specs.Frame.{contentMost, legalStart, oversized}
 use Rattle.stream.specs.Rules.{Verdict, judge}
@@ -27,7 +28,6 @@ use Rattle.judgement.specs.Status.{statusNumber}
 use Rattle.judgement.specs.Counts.{Counts}
 use Rattle.judgement.specs.Operations.{Result, refuse}
 use Rattle.judgement.specs.Judgement.{refusedEarly, oversizedStatus, verdictOf, judgement}
-use Rattle.judgement.specs.declared.Status.{Status}
 use Rattle.judgement.specs.declared.Status.the-variants.{InvalidHeader}
 use Rattle.judgement.proofs.ResponseLaws.{judge-short}
 use Rattle.client_responses.specs.Reading.{Asked, responseContentMost, bodyReply, found}
@@ -35,7 +35,7 @@ use Rattle.conversation.specs.Conversation.{replyOf, askedBy, resultFor}
 use Rattle.conversation.specs.Claims.{Sent, Hears, ResponsesRead}
 use Rattle.conversation.proofs.Answered.{headerOf, Its, found-whole, invalid-its, its-own, Sound, sound-reply}
 use Rattle.conversation.proofs.ReadLaws.{response-read}
-use Rattle.conversation.proofs.Results.{refused, result-sound}
+use Rattle.conversation.proofs.Results.{Bare, refused, result-sound}
 
 -- a response that is for the request is heard as its body says
 heard : (asked : Asked) (provider session opcode status : ℕ) (body : List ℕ) → Its asked (headerOf provider session opcode status body)
@@ -90,16 +90,23 @@ module _ (list registry : List ℕ) (counts : Counts) (good : wellFormedRegistry
       let l = response-long (q .provider) (q .session) (q .opcode) (statusNumber (result .status)) (outputBytes protobuf (result .output)) [] in
       omega arith
 
-  oversized-some : 0 < statusNumber (oversizedStatus request)
+  oversized-bare : Bare (oversizedStatus request)
   unfolding oversizedStatus statusNumber
-  oversized-some = either (λ (s : Status). 0 < statusNumber s) (ltb contentMost (contentLength request)) (λ _. lit< tt) (λ _. lit< tt)
+  oversized-bare = either Bare (ltb contentMost (contentLength request)) (λ _. (refl, refl)) (λ _. (refl, refl))
+
+  short-body : oversized request ≡ false → length (q .body) < 2 ^ 32
+  unfolding oversized requestOf
+  short-body e =
+      let c : contentLength request ≤ contentMost = ltb-false _ _ (or-left _ _ e) in
+      let l = length-take (contentLength request) (drop (headerLength request) request) in
+      omega arith
 
   sound : Sound (q .opcode) result
   unfolding resultFor
   sound =
       either (Sound (q .opcode)) (oversized request)
-      (λ _. refused (q .opcode) (oversizedStatus request) oversized-some)
-      (λ _. result-sound list registry good q)
+      (λ _. refused (q .opcode) (oversizedStatus request) oversized-bare)
+      (λ e. result-sound list registry good q (short-body e))
 
   hears : Hears (askedBy request) (v .response) (replyOf result)
   unfolding askedBy
@@ -114,7 +121,7 @@ module _ (list registry : List ℕ) (counts : Counts) (good : wellFormedRegistry
 
 bad-hears : (list registry : List ℕ) (counts : Counts) (request : List ℕ) → legalStart request ≡ false → (asked : Asked)
     → Hears asked (verdictOn (judgement list) registry counts request .response) (replyOf (refuse InvalidHeader))
-unfolding verdictOn judgement refusedEarly bodyReply refuse statusNumber
+unfolding verdictOn judgement refusedEarly bodyReply answerOf refuse statusNumber
 bad-hears list registry counts request e asked = rw e (heard asked 0 0 0 17 [] (invalid-its asked) (omega arith))
 
 pub answer-read : ResponsesRead

@@ -1,11 +1,11 @@
 -- A response that is for the request, or the answer with status 17, is read as what its body says.
 use mathlib.Core.Path.{_≡_, refl, ap, _∙_}
-use Prim.Native.Nat.{ℕ, _+_, _≤_, _<_}
+use Prim.Native.Nat.{ℕ, _+_, _≤_}
 use mathlib.Core.Bool.{true, _||_, or-true}
 use mathlib.Core.Option.{none, some}
 use mathlib.Core.List.{List, [], _++_}
 use native.Mathlib.Omega.{arith}
-use borrow.Author.Tests.{eq-eqb, ne-eqb, le-ltb}
+use borrow.Author.Tests.{eq-eqb, le-ltb}
 use lib.ListN.{length, take, drop, length-append}
 use Rattle.wire.specs.Choice.{firstOf}
 use Rattle.wire.specs.Request.{magicNumber, magic, headerSize}
@@ -13,12 +13,13 @@ use Rattle.wire.specs.Response.{responseHeaderSize, responseLeast, responseByte
 use Rattle.wire.specs.declared.response.ResponseHeader.{ResponseHeader}
 use Rattle.wire.proofs.ResponseLaws.{response-long, response-magic, response-size, response-body, response-back}
 use Rattle.messages.specs.Protobuf.{protobuf}
-use Rattle.messages.specs.Operations.{Output, nothing, outputBytes, Answers, messageOf}
+use Rattle.messages.specs.Operations.{Carries, messageOf, outputBytes}
 use Rattle.messages.specs.Message.{AllFit}
-use Rattle.messages.proofs.OperationLaws.{nothing-bytes, answered-back}
+use Rattle.messages.proofs.ProtobufLaws.{protobuf-lawful}
+use Rattle.messages.proofs.OperationLaws.{answer-back}
 use Rattle.judgement.specs.Status.{statusNumber}
 use Rattle.judgement.specs.Operations.{Result}
-use Rattle.client_responses.specs.Reading.{Asked, providerFor, answered, responseContentMost, isIts, isInvalidHeader, headerTests, bodyReply, foundBehind, found}
+use Rattle.client_responses.specs.Reading.{Asked, providerFor, responseContentMost, isIts, isInvalidHeader, headerTests, ofOutput, bodyReply, foundBehind, found}
 use Rattle.conversation.specs.Conversation.{replyOf}
 
 -- ---- a response of any status and body that is for the request
@@ -88,21 +89,13 @@ unfolding isIts
 its-own asked provider status body e =
     rw (eq-eqb (asked .opcode) (asked .opcode) refl, eq-eqb (asked .session) (asked .session) refl, eq-eqb provider (providerFor (asked .opcode)) e)
 
--- a status that is not 0, and then no output; or 0, and an output of the opcode's kind that can be written
-pub data Sound (opcode : ℕ) (r : Result) : Type 0 where
-  notServed : 0 < statusNumber (r .status) → r .output ≡ nothing → Sound opcode r
-  served : statusNumber (r .status) ≡ 0 → Answers opcode (r .output) → AllFit (protobuf .lengthMost) (messageOf (r .output)) → Sound opcode r
-
-refused-reply : (opcode status : ℕ) (output : Output) → 0 < status → output ≡ nothing → bodyReply opcode status (outputBytes protobuf output) ≡ answered status output
-unfolding bodyReply
-refused-reply opcode status output h e = rw (e, nothing-bytes, ne-eqb status 0 (λ z. omega (arith, h, z)))
-
-served-reply : (opcode status : ℕ) (output : Output) → status ≡ 0 → Answers opcode output → AllFit (protobuf .lengthMost) (messageOf output)
-    → bodyReply opcode status (outputBytes protobuf output) ≡ answered status output
-unfolding bodyReply
-served-reply opcode status output z a f = rw (z, answered-back opcode output a f)
+-- the output is one that the opcode has with the status, and can be written
+pub record Sound (opcode : ℕ) (r : Result) : Type 0 where
+  pub carries : Carries opcode (statusNumber (r .status)) (r .output)
+  pub fits : AllFit (protobuf .lengthMost) (messageOf (r .output))
 
 -- its body is read as the result
 pub sound-reply : (opcode : ℕ) (r : Result) → Sound opcode r → bodyReply opcode (statusNumber (r .status)) (outputBytes protobuf (r .output)) ≡ replyOf r
-sound-reply opcode r (notServed h e) = refused-reply opcode (statusNumber (r .status)) (r .output) h e
-sound-reply opcode r (served z a f) = served-reply opcode (statusNumber (r .status)) (r .output) z a f
+unfolding bodyReply
+sound-reply opcode r s =
+    ap (ofOutput (statusNumber (r .status))) (answer-back protobuf protobuf-lawful opcode (statusNumber (r .status)) (r .output) (s .carries) (s .fits))

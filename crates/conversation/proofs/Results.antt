@@ -1,25 +1,27 @@
--- Every result of a request can be read by the client that sent it: a status that is not 0 and no output, or 0 and an output of the
--- opcode's kind.
+-- Every result of a request can be read by the client that sent it: 0 and an output of the opcode's kind, 7 and where the body
+-- broke, or another status and no output.
 use mathlib.Core.Path.{_≡_, refl, sym, subst}
-use Prim.Native.Nat.{ℕ, _*_, _^_, _≤_, _<_}
+use Prim.Native.Nat.{ℕ, zero, suc, _-_, _*_, _^_, _≤_, _<_}
 use mathlib.Core.Bool.{Bool, true, false, not}
 use mathlib.Core.Option.{Option, none, some}
-use mathlib.Core.List.{List}
+use mathlib.Core.List.{List, map}
 use native.Mathlib.Omega.{arith}
-use borrow.Author.Tests.{eqb-true, eqb-false}
-use lib.ListN.{length, getD}
-use lib.Dec.{ltb, eqb, lit<}
-use Rattle.wire.specs.Choice.{firstOf}
+use borrow.Author.Tests.{eqb-true, eqb-false, ltb-true}
+use lib.ListN.{length, getD, set}
+use lib.Dec.{ltb, eqb}
+use Rattle.wire.specs.Choice.{if_then_else_, firstOf}
 use Rattle.wire.specs.Lists.{all}
 use Rattle.wire.specs.Request.{Request}
+use Rattle.wire.specs.Scan.{on, out, follow, scanFrom, scanAt}
 use Rattle.wire.proofs.TestLaws.{either, first-has}
 use Rattle.keys.specs.Names.{keyNameMost, legalName}
 use Rattle.keys.specs.Key.{Key, dataMost, importBits}
 use Rattle.messages.specs.Protobuf.{protobuf}
-use Rattle.messages.specs.Message.{Message}
-use Rattle.messages.specs.Format.{Reading, read, broken, readMessage}
+use Rattle.messages.specs.Message.{Schema, Message, absent, AllFit}
+use Rattle.messages.specs.Format.{Field, field, skipped, unreadable, Format, Reading, read, broken, SoFar, turnOf, turnAt, readMessage}
 use Rattle.messages.specs.Opcodes.{opcodesOf}
-use Rattle.messages.specs.Operations.{Operation, ping, listProviders, listOpcodes, importKey, destroyKey, exportPublicKey, verifySignature, opcodeOf, inputFields, Asking, asks, garbled, askingOf, askingBy, asked, operationIn, operationOf, ofPing, ofListProviders, ofListOpcodes, ofImport, ofDestroy, ofExport, ofVerify}
+use Rattle.messages.specs.Operations.{Operation, ping, listProviders, listOpcodes, importKey, destroyKey, exportPublicKey, verifySignature, opcodeOf, inputFields, Asking, asks, garbled, askingOf, askingBy, asked, Answers, ofPing, ofListProviders, ofListOpcodes, ofImport, ofDestroy, ofExport, ofVerify, Carries, notRead, messageOf}
+use Rattle.messages.specs.Operations.{served as answered, refused as bare}
 use Rattle.rsa.specs.Signature.{verification}
 use Rattle.rsa.specs.declared.verify.Outcome.{Outcome}
 use Rattle.rsa.specs.declared.verify.Outcome.the-variants.{ValidSignature, InvalidSignature, InvalidKey}
@@ -32,22 +34,28 @@ use Rattle.registry.proofs.WellFormedLaws.{slots-short}
 use Rattle.shipped.specs.Shipped.{ListedKey, keysIn}
 use Rattle.lookup.specs.Lookup.{Source, own, listed, keyOf, keyNamed}
 use Rattle.judgement.specs.Status.{statusNumber}
-use Rattle.judgement.specs.Operations.{Result, success, refuse, performImport, destroyOf, performDestroy, counted, exportOf, performExport, hashSize, checked, verifyWith, performVerify, performListOpcodes, perform, operated}
+use Rattle.judgement.specs.Operations.{Result, success, refuse, refuseAt, performImport, destroyOf, performDestroy, counted, exportOf, performExport, hashSize, checked, verifyWith, performVerify, performListOpcodes, perform, operated}
 use Rattle.judgement.specs.Judgement.{applicationOf, refusals, askersSlots, resultOf}
 use Rattle.judgement.specs.declared.Status.{Status}
 use Rattle.judgement.proofs.SourceLaws.{source-short}
-use Rattle.judgement.specs.declared.Status.the-variants.{DeserializingBodyFailed}
 use Rattle.judgement.proofs.ImportLaws.{import-ends}
 use Rattle.judgement.proofs.JudgementLaws.{asks as asks-line}
-use Rattle.conversation.proofs.Answered.{Sound, notServed, served}
+use Rattle.conversation.proofs.Answered.{Sound}
 
 -- a result of the operation's kind
 abbrev SoundFor : Operation → Result → Type 0
 SoundFor operation r = Sound (opcodeOf operation) r
 
-pub refused : (opcode : ℕ) (status : Status) → 0 < statusNumber status → Sound opcode (refuse status)
+-- a status that has no output
+abbrev pub Bare : Status → Type 0
+Bare status = (eqb (statusNumber status) 0 ≡ false) × (eqb (statusNumber status) 7 ≡ false)
+
+pub refused : (opcode : ℕ) (status : Status) → Bare status → Sound opcode (refuse status)
 unfolding refuse
-refused opcode status h = notServed h refl
+refused opcode status h = record { carries = bare (eqb-false _ _ (h .0)) (eqb-false _ _ (h .1)); fits = tt }
+
+served : {opcode : ℕ} {r : Result} → statusNumber (r .status) ≡ 0 → Answers opcode (r .output) → AllFit (protobuf .lengthMost) (messageOf (r .output)) → Sound opcode r
+served {opcode} {r} z answers fits = record { carries = subst (λ (n : ℕ). Carries opcode n (r .output)) (sym z) (answered answers); fits = fits }
 
 -- counting a use changes neither the status nor the output
 sound-counted : (opcode : ℕ) (source : Source) (r : Result) → Sound opcode r → Sound opcode (counted source r)
@@ -56,8 +64,7 @@ sound-counted opcode (listed key) r sound = sound
 sound-counted opcode (own slot key) r sound = either (Sound opcode) (eqb (statusNumber (r .status)) 0) (λ _. again sound) (λ _. sound)
   where
     again : Sound opcode r → Sound opcode (record { status = r .status; output = r .output; change = addUse slot })
-    again (notServed h e) = notServed h e
-    again (served h kind fits) = served h kind fits
+    again s = record { carries = s .carries; fits = s .fits }
 
 opcodes-fit : (provider : ℕ) → (all (λ n. ltb n (2 ^ 32)) (opcodesOf provider) ≡ true) × (10 * length (opcodesOf provider) ≤ protobuf .lengthMost)
 unfolding opcodesOf
@@ -75,24 +82,23 @@ module _ (slots : List Entry) (list : List ℕ) where
 
   sound-import : (key : Key) → SoundFor (importKey key) (performImport key slots keys)
   unfolding performImport success statusNumber
-  sound-import key = import-ends importBits slots keys key (SoundFor (importKey key)) (λ status z. refused _ status (omega (arith, eqb-false (statusNumber status) 0 z)))
-      (λ slot t n e. served refl ofImport tt)
+  sound-import key = import-ends importBits slots keys key (SoundFor (importKey key)) (λ status z w. refused _ status (z, w)) (λ slot t n e. served refl ofImport tt)
 
   sound-destroying : (name : List ℕ) (source : Source) → SoundFor (destroyKey name) (destroyOf source)
   unfolding destroyOf success statusNumber
   sound-destroying name (own slot key) = served refl ofDestroy tt
-  sound-destroying name (listed key) = refused _ _ (lit< tt)
+  sound-destroying name (listed key) = refused _ _ (refl, refl)
 
   sound-destroy : (name : List ℕ) → SoundFor (destroyKey name) (performDestroy name slots keys)
   unfolding performDestroy success statusNumber
   sound-destroy name = go (legalName keyNameMost name) refl
     where
       second : legalName keyNameMost name ≡ true → (o : Option Source) → keyNamed name slots keys ≡ o → SoundFor (destroyKey name) (performDestroy name slots keys)
-      second v none e = rw (v, e, performDestroy) (refused _ _ (lit< tt))
+      second v none e = rw (v, e, performDestroy) (refused _ _ (refl, refl))
       second v (some source) e = rw (v, e, performDestroy) (sound-destroying name source)
 
       go : (t : Bool) → legalName keyNameMost name ≡ t → SoundFor (destroyKey name) (performDestroy name slots keys)
-      go false e = rw (e, performDestroy) (refused _ _ (lit< tt))
+      go false e = rw (e, performDestroy) (refused _ _ (refl, refl))
       go true e = second e (keyNamed name slots keys) refl
 
   sound-exporting : (name : List ℕ) (key : Key) → length (key .bytes) ≤ dataMost → SoundFor (exportPublicKey name) (exportOf key)
@@ -100,18 +106,18 @@ module _ (slots : List Entry) (list : List ℕ) where
   sound-exporting name key s =
       either (SoundFor (exportPublicKey name)) (key .exportAllowed)
       (λ _. served refl ofExport (omega (arith, s), tt))
-      (λ _. refused _ _ (lit< tt))
+      (λ _. refused _ _ (refl, refl))
 
   sound-export : ShortSlots slots → (name : List ℕ) → SoundFor (exportPublicKey name) (performExport name slots keys)
   unfolding performExport statusNumber
   sound-export short name = go (legalName keyNameMost name) refl
     where
       second : legalName keyNameMost name ≡ true → (o : Option Source) → keyNamed name slots keys ≡ o → SoundFor (exportPublicKey name) (performExport name slots keys)
-      second v none e = rw (v, e, performExport) (refused _ _ (lit< tt))
+      second v none e = rw (v, e, performExport) (refused _ _ (refl, refl))
       second v (some source) e = rw (v, e, performExport) (sound-counted _ source _ (sound-exporting name (keyOf source) (source-short name slots list short source e)))
 
       go : (t : Bool) → legalName keyNameMost name ≡ t → SoundFor (exportPublicKey name) (performExport name slots keys)
-      go false e = rw (e, performExport) (refused _ _ (lit< tt))
+      go false e = rw (e, performExport) (refused _ _ (refl, refl))
       go true e = second e (keyNamed name slots keys) refl
 
   module _ (name hash signature : List ℕ) where
@@ -121,18 +127,18 @@ module _ (slots : List Entry) (list : List ℕ) where
     sound-checked : (outcome : Outcome) → SoundVerify (checked outcome)
     unfolding checked success statusNumber
     sound-checked ValidSignature = served refl ofVerify tt
-    sound-checked InvalidKey = refused _ _ (lit< tt)
-    sound-checked InvalidSignature = refused _ _ (lit< tt)
+    sound-checked InvalidKey = refused _ _ (refl, refl)
+    sound-checked InvalidSignature = refused _ _ (refl, refl)
 
     sound-verifying : (key : Key) → SoundVerify (verifyWith hash signature key)
     unfolding verifyWith statusNumber
     sound-verifying key =
         either SoundVerify (not (key .verifyAllowed))
-        (λ _. refused _ _ (lit< tt))
+        (λ _. refused _ _ (refl, refl))
         (λ _. either SoundVerify (not (eqb (length hash) hashSize))
-        (λ _. refused _ _ (lit< tt))
+        (λ _. refused _ _ (refl, refl))
         (λ _. either SoundVerify (not (importBits (key .bits)))
-        (λ _. refused _ _ (lit< tt))
+        (λ _. refused _ _ (refl, refl))
         (λ _. sound-checked (verification (key .bytes) (key .bits) hash signature .outcome))))
 
     sound-verify : SoundVerify (performVerify name hash signature slots keys)
@@ -140,18 +146,18 @@ module _ (slots : List Entry) (list : List ℕ) where
     sound-verify = go (legalName keyNameMost name) refl
       where
         second : legalName keyNameMost name ≡ true → (o : Option Source) → keyNamed name slots keys ≡ o → SoundVerify (performVerify name hash signature slots keys)
-        second v none e = rw (v, e, performVerify) (refused _ _ (lit< tt))
+        second v none e = rw (v, e, performVerify) (refused _ _ (refl, refl))
         second v (some source) e = rw (v, e, performVerify) (sound-counted _ source _ (sound-verifying (keyOf source)))
 
         go : (t : Bool) → legalName keyNameMost name ≡ t → SoundVerify (performVerify name hash signature slots keys)
-        go false e = rw (e, performVerify) (refused _ _ (lit< tt))
+        go false e = rw (e, performVerify) (refused _ _ (refl, refl))
         go true e = second e (keyNamed name slots keys) refl
 
   sound-opcodes : (provider : ℕ) → SoundFor (listOpcodes provider) (performListOpcodes provider)
   unfolding performListOpcodes success statusNumber
   sound-opcodes provider =
       either (SoundFor (listOpcodes provider)) (ltb 1 provider)
-      (λ _. refused _ _ (lit< tt))
+      (λ _. refused _ _ (refl, refl))
       (λ _. served refl ofListOpcodes (opcodes-fit provider, tt))
 
   sound-perform : ShortSlots slots → (operation : Operation) → SoundFor operation (perform operation slots keys)
@@ -174,12 +180,13 @@ short-slots registry w q i = go (applicationOf registry q) refl
     go none e = tt
     go (some line) e = slots-short registry w line (asks-line registry q line e .there) i
 
--- no test's status is Success
-status-some : (registry : List ℕ) (q : Request) (status : Status) → firstOf (refusals registry q) ≡ some status → 0 < statusNumber status
+-- no test's status has an output
+status-bare : (registry : List ℕ) (q : Request) (status : Status) → firstOf (refusals registry q) ≡ some status → Bare status
 unfolding refusals statusNumber
-status-some registry q status e =
-    first-has (λ s. 0 < statusNumber s) (refusals registry q)
-    (omega arith, (omega arith, (omega arith, (omega arith, (omega arith, (omega arith, (omega arith, (omega arith, (omega arith, (omega arith, tt)))))))))) status e
+status-bare registry q status e =
+    let no : Type 0 = (false ≡ false) × (false ≡ false) in
+    let b : no = (refl, refl) in
+    first-has Bare (refusals registry q) (b, (b, (b, (b, (b, (b, (b, (b, (b, (b, tt)))))))))) status e
 
 -- an opcode and a body ask for an operation of that opcode
 abbrev Of : (opcode : ℕ) → Asking → Type 0
@@ -205,25 +212,72 @@ asked-of opcode body = go (readMessage protobuf (inputFields opcode) body)
     go (read m) = asking-of opcode m
     go (broken at) = tt
 
-unreadable-some : 0 < statusNumber DeserializingBodyFailed
-unfolding statusNumber
-unreadable-some = lit< tt
+-- ---- where a body broke
 
--- of any request, whatever is in it
-pub result-sound : (list registry : List ℕ) → wellFormedRegistry registry ≡ true → (q : Request) → Sound (q .opcode) (resultOf list registry q)
-unfolding resultOf operated operationOf
-result-sound list registry w q = go (firstOf (refusals registry q)) refl
+abbrev BrokenIn : (n : ℕ) → Reading → Type 0
+BrokenIn n (read m) = Unit {0}
+BrokenIn n (broken at) = at < n
+
+abbrev GarbledIn : (n : ℕ) → Asking → Type 0
+GarbledIn n (asks operation) = Unit {0}
+GarbledIn n (garbled at) = at ≤ n
+
+module _ (format : Format) (schema : Schema) (body : List ℕ) where
+  turn-breaks : (at : ℕ) (so : SoFar) (f : Field) (rest : ℕ → SoFar → Reading) → at < length body → ((next : ℕ) (so′ : SoFar) → BrokenIn (length body) (rest next so′))
+      → BrokenIn (length body) (follow (turnOf format at so f) rest)
+  turn-breaks at so (field n value next) rest l ih = go (format .mayFollow (so .0) n)
+    where
+      go : (t : Bool) → BrokenIn (length body) (follow (if t then on (n, set (so .1) (n - 1) value) next else out (broken at)) rest)
+      go true = ih next (n, set (so .1) (n - 1) value)
+      go false = l
+  turn-breaks at so (skipped next) rest l ih = ih next so
+  turn-breaks at so unreadable rest l ih = l
+
+  from-breaks : (n at : ℕ) (so : SoFar) → BrokenIn (length body) (scanFrom (turnAt format schema body) (λ so. read (so .1)) (length body) n at so)
+  unfolding scanFrom
+  from-breaks zero at so = tt
+  from-breaks (suc n) at so =
+      either (BrokenIn (length body)) (ltb at (length body))
+      (λ e. turn-breaks at so (format .fieldAt schema body at) _ (ltb-true _ _ e) (λ next so′. from-breaks n next so′))
+      (λ _. tt)
+
+  breaks-within : BrokenIn (length body) (readMessage format schema body)
+  unfolding readMessage scanAt
+  breaks-within = from-breaks (length body - 0) 0 (0, map absent schema)
+
+asking-whole : (opcode : ℕ) (m : Message) (n : ℕ) → GarbledIn n (askingOf opcode m)
+unfolding askingOf
+asking-whole opcode m n =
+    let P : Asking → Type 0 = GarbledIn n in
+    either P (eqb opcode 1) (λ _. tt) (λ _. either P (eqb opcode 8) (λ _. tt) (λ _. either P (eqb opcode 9) (λ _. tt) (λ _. either P (eqb opcode 6) (λ _. tt)
+    (λ _. either P (eqb opcode 3) (λ _. tt) (λ _. either P (eqb opcode 7) (λ _. tt) (λ _. either P (eqb opcode 5) (λ _. tt) (λ _. omega arith)))))))
+
+asked-within : (format : Format) (opcode : ℕ) (body : List ℕ) → GarbledIn (length body) (asked format opcode body)
+unfolding asked
+asked-within format opcode body = go (readMessage format (inputFields opcode) body) (breaks-within format (inputFields opcode) body)
+  where
+    go : (r : Reading) → BrokenIn (length body) r → GarbledIn (length body) (askingBy opcode r)
+    go (read m) h = asking-whole opcode m (length body)
+    go (broken at) h = omega arith
+
+-- of any request with a body whose offsets can be written, whatever is in it
+pub result-sound : (list registry : List ℕ) → wellFormedRegistry registry ≡ true → (q : Request) → length (q .body) < 2 ^ 32 → Sound (q .opcode) (resultOf list registry q)
+unfolding resultOf operated refuseAt statusNumber
+result-sound list registry w q short = go (firstOf (refusals registry q)) refl
   where
     slots : List Entry
     slots = askersSlots registry (applicationOf registry q)
 
-    performed : (a : Asking) → Of (q .opcode) a → Sound (q .opcode) (elim (operationIn a) [
-      | none ↦ refuse DeserializingBodyFailed
-      | some operation ↦ perform operation slots (keysIn list)
+    broke : (at : ℕ) → at ≤ length (q .body) → Sound (q .opcode) (refuseAt at)
+    broke at h = record { carries = notRead; fits = (omega arith, tt) }
+
+    performed : (a : Asking) → Of (q .opcode) a → GarbledIn (length (q .body)) a → Sound (q .opcode) (elim a [
+      | garbled at ↦ refuseAt at
+      | asks operation ↦ perform operation slots (keysIn list)
     ])
-    performed (garbled at) e = refused (q .opcode) DeserializingBodyFailed unreadable-some
-    performed (asks operation) e = subst (λ (n : ℕ). Sound n (perform operation slots (keysIn list))) e (sound-perform slots list (short-slots registry w q) operation)
+    performed (garbled at) e h = broke at h
+    performed (asks operation) e h = subst (λ (n : ℕ). Sound n (perform operation slots (keysIn list))) e (sound-perform slots list (short-slots registry w q) operation)
 
     go : (o : Option Status) → firstOf (refusals registry q) ≡ o → Sound (q .opcode) (resultOf list registry q)
-    go (some status) e = rw (e, resultOf) (refused (q .opcode) status (status-some registry q status e))
-    go none e = rw (e, resultOf) (performed (asked protobuf (q .opcode) (q .body)) (asked-of (q .opcode) (q .body)))
+    go (some status) e = rw (e, resultOf) (refused (q .opcode) status (status-bare registry q status e))
+    go none e = rw (e, resultOf) (performed (asked protobuf (q .opcode) (q .body)) (asked-of (q .opcode) (q .body)) (asked-within protobuf (q .opcode) (q .body)))

@@ -69,7 +69,7 @@ module _ (slots : List Entry) (keys : List ListedKey) (line : Line) where
   import-act : (key : Key) → isServed (performImport key slots keys) ≡ true → some (importing line key) ≡ actOfChange slots line (performImport key slots keys .change)
   unfolding performImport refuse success actOfChange
   import-act key = import-ends importBits slots keys key (λ (x : Result). isServed x ≡ true → some (importing line key) ≡ actOfChange slots line (x .change))
-      (λ status z s. absurd (false≢true (sym z ∙ s))) (λ slot t n e s. refl)
+      (λ status z _ s. absurd (false≢true (sym z ∙ s))) (λ slot t n e s. refl)
 
   destroy-act : (name : List ℕ) → isServed (performDestroy name slots keys) ≡ true → some (destroying line name) ≡ actOfChange slots line (performDestroy name slots keys .change)
   unfolding performDestroy destroyOf refuse success statusNumber actOfChange

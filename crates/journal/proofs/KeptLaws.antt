@@ -35,7 +35,7 @@ use Rattle.journal.specs.Reader.{Kept, reading, afterRecord, afterByte, 
 module _ (slots : List Entry) where
   import-allowed : (key : Key) → Allowed slots (importBy legalBits key slots [] .change)
   unfolding refuse success
-  import-allowed key = import-ends legalBits slots [] key (λ (x : Result). Allowed slots (x .change)) (λ status z. stays)
+  import-allowed key = import-ends legalBits slots [] key (λ (x : Result). Allowed slots (x .change)) (λ status z _. stays)
       (λ slot t n e. fills (bounded-legal key (t .bounds) (t .bits)) (new-there legalBits slots [] key t n) e)
 
   destroy-allowed : (name : List ℕ) → Allowed slots (performDestroy name slots [] .change)

@@ -114,13 +114,13 @@ module _ (slots : List Entry) (keys : List ListedKey) where
   pub import-taken : (takes : ℕ → Bool) (key : Key) → isServed (importBy takes key slots keys) ≡ true → Taken takes key
   unfolding refuse
   import-taken takes key = import-ends takes slots keys key (λ (x : Result). isServed x ≡ true → Taken takes key)
-      (λ status z s. absurd (false≢true (sym z ∙ s))) (λ slot t n e s. t)
+      (λ status z _ s. absurd (false≢true (sym z ∙ s))) (λ slot t n e s. t)
 
   -- what Import took, it took by 01's rule of bits
   pub import-replayed : (key : Key) → isServed (performImport key slots keys) ≡ true → importBy legalBits key slots [] ≡ performImport key slots keys
   unfolding performImport refuse
   import-replayed key = import-ends importBits slots keys key (λ (x : Result). isServed x ≡ true → importBy legalBits key slots [] ≡ x)
-      (λ status z s. absurd (false≢true (sym z ∙ s))) (λ slot t n e s. imported legalBits slots [] key (wider t) (alone t n) slot e)
+      (λ status z _ s. absurd (false≢true (sym z ∙ s))) (λ slot t n e s. imported legalBits slots [] key (wider t) (alone t n) slot e)
     where
       wider : Taken importBits key → Taken legalBits key
       wider t = record { bounds = t .bounds; bits = import-legal (key .bits) (t .bits) }
@@ -170,7 +170,7 @@ module _ (g : List ℕ) where
 
   fill-told : (key : Key) (slots : List Entry) → recorded (importBy legalBits key slots [] .change) ≡ importBy legalBits key slots [] .change
   unfolding refuse success recorded
-  fill-told key slots = import-ends legalBits slots [] key (λ (x : Result). recorded (x .change) ≡ x .change) (λ status z. refl) (λ slot t n e. refl)
+  fill-told key slots = import-ends legalBits slots [] key (λ (x : Result). recorded (x .change) ≡ x .change) (λ status z _. refl) (λ slot t n e. refl)
 
   clear-told : (name : List ℕ) (slots : List Entry) → recorded (performDestroy name slots [] .change) ≡ performDestroy name slots [] .change
   unfolding performDestroy destroyOf refuse success recorded

@@ -76,28 +76,28 @@ module _ (takes : ℕ → Bool) (slots : List Entry) (keys : List ListedKey) (ke
       unfolding importBy placeKey
       imported slot e = rw (t .bounds, t .bits, importBy, new, e, placeKey)
 
-  -- it is refused, or the key is new and fills a free slot
+  -- it is refused with a status that has no output, or the key is new and fills a free slot
   pub import-ends : (P : Result → Type 0)
-      → ((status : Status) → eqb (statusNumber status) 0 ≡ false → P (refuse status))
+      → ((status : Status) → eqb (statusNumber status) 0 ≡ false → eqb (statusNumber status) 7 ≡ false → P (refuse status))
       → ((slot : Slot) → Taken takes key → keyNamed (key .name) slots keys ≡ none → slotNamed [] slots ≡ At slot → P (success nothing (fill slot key)))
       → P (importBy takes key slots keys)
   unfolding importBy placeKey statusNumber
   import-ends P refused filled = first (withinBounds key) refl
     where
       fourth : Taken takes key → keyNamed (key .name) slots keys ≡ none → (f : Found) → slotNamed [] slots ≡ f → P (importBy takes key slots keys)
-      fourth t n Nothing e = rw (t .bounds, t .bits, importBy, n, e, placeKey) (refused PsaErrorInsufficientStorage refl)
+      fourth t n Nothing e = rw (t .bounds, t .bits, importBy, n, e, placeKey) (refused PsaErrorInsufficientStorage refl refl)
       fourth t n (At slot) e = rw (t .bounds, t .bits, importBy, n, e, placeKey) (filled slot t n e)
 
       third : Taken takes key → (o : Option Source) → keyNamed (key .name) slots keys ≡ o → P (importBy takes key slots keys)
-      third t (some source) e = rw (t .bounds, t .bits, importBy, e, placeKey) (refused PsaErrorAlreadyExists refl)
+      third t (some source) e = rw (t .bounds, t .bits, importBy, e, placeKey) (refused PsaErrorAlreadyExists refl refl)
       third t none e = fourth t e (slotNamed [] slots) refl
 
       second : withinBounds key ≡ true → (t : Bool) → takes (key .bits) ≡ t → P (importBy takes key slots keys)
-      second e false b = rw (e, b, importBy) (refused PsaErrorNotSupported refl)
+      second e false b = rw (e, b, importBy) (refused PsaErrorNotSupported refl refl)
       second e true b = third (record { bounds = e; bits = b }) (keyNamed (key .name) slots keys) refl
 
       first : (t : Bool) → withinBounds key ≡ t → P (importBy takes key slots keys)
-      first false e = rw (e, importBy) (refused PsaErrorInvalidArgument refl)
+      first false e = rw (e, importBy) (refused PsaErrorInvalidArgument refl refl)
       first true e = second e (takes (key .bits)) refl
 
   -- no own key has its name

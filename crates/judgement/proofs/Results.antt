@@ -72,7 +72,7 @@ module _ (source : Source) where
 module _ (slots : List Entry) (keys : List ListedKey) (P : Result → Type 0) (ends : Ends slots keys P) where
   by-import : (key : Key) → P (performImport key slots keys)
   unfolding performImport
-  by-import key = import-ends importBits slots keys key P (λ status e. ends .refused status)
+  by-import key = import-ends importBits slots keys key P (λ status z _. ends .refused status)
       (λ slot t n e. ends .imported slot key t (new-there importBits slots keys key t n) e)
 
   by-destroying : (name : List ℕ) (source : Source) → keyNamed name slots keys ≡ some source → P (destroyOf source)

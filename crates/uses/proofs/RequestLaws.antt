@@ -120,7 +120,7 @@ module _ (slots : List Entry) (keys : List ListedKey) where
 
   by-import : (key : Key) → Ended slots (some (importKey key)) (performImport key slots keys)
   unfolding performImport success refuse bind keyUsed isOwn
-  by-import key = import-ends importBits slots keys key (Ended slots (some (importKey key))) (λ status z. refuses z)
+  by-import key = import-ends importBits slots keys key (Ended slots (some (importKey key))) (λ status z _. refuses z)
       (λ slot t n e. imports slot key refl (taken-legal key t) e refl)
 
   by-export : (name : List ℕ) → Ended slots (some (exportPublicKey name)) (performExport name slots keys)
