@@ -1,13 +1,13 @@
--- CUT ANYWHERE: the first bytes of a file of good records give the registry after exactly the records that are whole in them.
+-- The uncut reader on records: whole, in part, cut at any byte, and refused.
 use mathlib.Core.Path.{_≡_, refl, sym, ap, ap₂, _∙_}
-use mathlib.Core.Bool.{Bool, true, false}
+use mathlib.Core.Bool.{Bool, true, false, true≢false}
 use mathlib.Core.Option.{some}
 use mathlib.Core.List.{List, [], _∷_, _++_, append-assoc, append-nil, flatten}
-use Prim.Native.Nat.{ℕ, _+_, _-_, _≤_, _<_}
+use Prim.Native.Nat.{ℕ, suc, _+_, _-_, _≤_, _<_}
 use native.Mathlib.Omega.{arith}
-use borrow.Author.Tests.{le-leb, lt-leb, leb-true, leb-false, eqb-true}
+use borrow.Author.Tests.{le-leb, lt-leb, leb-true, leb-false, eqb-true, eq-eqb}
 use lib.ListN.{length, take, drop, length-append, length-drop, take-append-drop}
-use lib.Seq.{take-nil, take-append-le, take-append-add}
+use lib.Seq.{take-nil, take-append-le, take-append-add, length-take-le}
 use lib.Dec.{leb}
 use Rattle.wire.specs.Choice.{isSome}
 use Rattle.wire.specs.Lists.{all}
@@ -15,11 +15,11 @@ use Rattle.wire.specs.Numbers.{field}
 use Rattle.wire.proofs.TestLaws.{and-left, and-right, some≢none}
 use Rattle.wire.proofs.NumberLaws.{field-append}
 use Rattle.reading.specs.Reader.{Reading, read}
-use Rattle.reading.proofs.ReaderLaws.{decide, read-byte, read-append, read-past}
+use Rattle.reading.proofs.ReaderLaws.{decide, read-byte, read-append}
 use Rattle.journal.specs.Record.{sealedLength, isWhole}
 use Rattle.journal.specs.declared.Fault.{Fault}
 use Rattle.journal.specs.Replay.{Judged, good, bad, judgeRecord}
-use Rattle.journal.specs.Reader.{Kept, reading, stopped, afterRecord, afterByte, journal, readJournal}
+use Rattle.journal.specs.Reader.{Kept, reading, stopped, afterRecord, afterByte, journal}
 use Rattle.journal.specs.File.{isRecord, afterAll, wholeIn}
 
 -- ---- when bytes have a record whole
@@ -49,6 +49,38 @@ module _ (x : List ℕ) (r : isRecord x ≡ true) where
           let more : length ys < sealedLength ys = omega (arith, told) in
           rw (q, lt-leb _ _ more, isWhole)
 
+-- bytes behind a whole record leave it whole
+whole-more : (ys zs : List ℕ) → isWhole ys ≡ true → isWhole (ys ++ zs) ≡ true
+unfolding isWhole
+whole-more ys zs e =
+    let long : 3 ≤ length ys = leb-true _ _ (and-left (leb 3 (length ys)) _ e) in
+    let fits : sealedLength ys ≤ length ys = leb-true _ _ (and-right (leb 3 (length ys)) _ e) in
+    let same : field 1 2 (ys ++ zs) ≡ field 1 2 ys = field-append 1 2 ys zs long in
+    let sum = length-append ys zs in
+    rw (le-leb 3 (length (ys ++ zs)) (omega arith), le-leb (sealedLength (ys ++ zs)) (length (ys ++ zs)) (omega arith))
+
+-- the record that stands first
+pub record FirstRecord (file : List ℕ) : Type 0 where
+  pub bytes : List ℕ
+  pub behind : List ℕ
+  pub parts : file ≡ bytes ++ behind
+  pub is : isRecord bytes ≡ true
+
+pub first-record : (file : List ℕ) → isWhole file ≡ true → FirstRecord file
+unfolding isWhole isRecord
+first-record file e =
+    let fits : sealedLength file ≤ length file = leb-true _ _ (and-right (leb 3 (length file)) _ e) in
+    let x : List ℕ = take (sealedLength file) file in
+    let long : length x ≡ sealedLength file = length-take-le (sealedLength file) file fits in
+    let same : field 1 2 file ≡ field 1 2 x
+    = ap (field 1 2) (sym (take-append-drop (sealedLength file) file)) ∙ field-append 1 2 x (drop (sealedLength file) file) (omega arith) in
+    record {
+      bytes = x;
+      behind = drop (sealedLength file) file;
+      parts = sym (take-append-drop (sealedLength file) file);
+      is = eq-eqb (sealedLength x) (length x) (omega arith);
+    }
+
 -- ---- reading one record, whole or in part
 
 pub read-then : (s : Kept) (xs ys : List ℕ) → read journal s (xs ++ ys) .kept ≡ read journal (read journal s xs .kept) ys .kept
@@ -60,6 +92,11 @@ module _ (g : List ℕ) (k : ℕ) where
   unfolding isSome
   on h b xs = ap (λ (a : Reading Kept Fault). a .kept) (read-byte journal (reading g k h) b xs refl)
 
+  takes : (h : List ℕ) (b : ℕ) (xs : List ℕ)
+      → read journal (reading g k h) (b ∷ xs) .taken ≡ suc (read journal (afterByte (reading g k h) (h ++ (b ∷ [])) .kept) xs .taken)
+  unfolding isSome
+  takes h b xs = ap (λ (a : Reading Kept Fault). a .taken) (read-byte journal (reading g k h) b xs refl)
+
   held-on : (h h′ : List ℕ) → isWhole h′ ≡ false → afterByte (reading g k h) h′ .kept ≡ reading g k h′
   unfolding afterByte
   held-on h h′ e = rw (e, afterByte)
@@ -67,6 +104,19 @@ module _ (g : List ℕ) (k : ℕ) where
   judged-on : (h h′ : List ℕ) → isWhole h′ ≡ true → afterByte (reading g k h) h′ .kept ≡ afterRecord g k h′ (judgeRecord g h′) .kept
   unfolding afterByte
   judged-on h h′ e = rw (e, afterByte)
+
+  -- bytes that are no whole record are held
+  pub read-held : (h xs : List ℕ) → isWhole (h ++ xs) ≡ false → read journal (reading g k h) xs .kept ≡ reading g k (h ++ xs)
+  unfolding read
+  read-held h [] u = ap (reading g k) (sym (append-nil h))
+  read-held h (b ∷ xs) u =
+      let next : List ℕ = h ++ (b ∷ []) in
+      let e : next ++ xs ≡ h ++ (b ∷ xs) = append-assoc h (b ∷ []) xs in
+      on h b xs
+      ∙ ap (λ (s : Kept). read journal s xs .kept)
+      (held-on h next (decide (isWhole next) (λ w. absurd (true≢false (sym (whole-more next xs w) ∙ ap isWhole e ∙ u))) (λ v. v)))
+      ∙ read-held next xs (ap isWhole e ∙ u)
+      ∙ ap (reading g k) e
 
   module _ (x : List ℕ) (r : isRecord x ≡ true) where
     -- a part of it is held
@@ -96,6 +146,21 @@ module _ (g : List ℕ) (k : ℕ) where
         on h b (c ∷ xs)
         ∙ ap (λ (s : Kept). read journal s (c ∷ xs) .kept) (held-on h next (unfinished x r next (c ∷ xs) e′ (omega arith)))
         ∙ read-rest next (c ∷ xs) e′ (omega arith)
+
+    -- no byte of it is left
+    read-bytes : (h xs : List ℕ) → h ++ xs ≡ x → 0 < length xs → read journal (reading g k h) xs .taken ≡ length xs
+    unfolding read
+    read-bytes h [] e p = absurd (omega arith)
+    read-bytes h (b ∷ []) e p = takes h b []
+    read-bytes h (b ∷ c ∷ xs) e p =
+        let next : List ℕ = h ++ (b ∷ []) in
+        let e′ : next ++ (c ∷ xs) ≡ x = append-assoc h (b ∷ []) (c ∷ xs) ∙ e in
+        takes h b (c ∷ xs)
+        ∙ ap (λ (s : Kept). suc (read journal s (c ∷ xs) .taken)) (held-on h next (unfinished x r next (c ∷ xs) e′ (omega arith)))
+        ∙ ap suc (read-bytes next (c ∷ xs) e′ (omega arith))
+
+    pub record-taken : read journal (reading g k []) x .taken ≡ length x
+    record-taken = read-bytes [] x refl (some-bytes x r)
 
     read-record : read journal (reading g k []) x .kept ≡ afterRecord g k x (judgeRecord g x) .kept
     read-record = read-rest [] x refl (some-bytes x r)
@@ -133,29 +198,29 @@ read-all g k (x ∷ records) last r e =
     ∙ ap (λ (n : ℕ). reading last n []) (let n = length-append x (flatten records) in omega arith))
 
 -- the first n bytes: what is read of them, from a registry g and k bytes before
-record CutAt (g : List ℕ) (k n : ℕ) (records : List (List ℕ)) : Type 0 where
-  after : List ℕ
-  held : List ℕ
-  replayed : afterAll g (wholeIn n records) ≡ some after
-  parts : take n (flatten records) ≡ flatten (wholeIn n records) ++ held
-  reads : read journal (reading g k []) (take n (flatten records)) .kept ≡ reading after (k + length (flatten (wholeIn n records))) held
+pub record FirstBytes (g : List ℕ) (k n : ℕ) (records : List (List ℕ)) : Type 0 where
+  pub after : List ℕ
+  pub held : List ℕ
+  pub replayed : afterAll g (wholeIn n records) ≡ some after
+  pub parts : take n (flatten records) ≡ flatten (wholeIn n records) ++ held
+  pub reads : read journal (reading g k []) (take n (flatten records)) .kept ≡ reading after (k + length (flatten (wholeIn n records))) held
 
-cut-at : (g : List ℕ) (k n : ℕ) (records : List (List ℕ)) (last : List ℕ) → all isRecord records ≡ true → afterAll g records ≡ some last → CutAt g k n records
+pub first-bytes : (g : List ℕ) (k n : ℕ) (records : List (List ℕ)) (last : List ℕ) → all isRecord records ≡ true → afterAll g records ≡ some last → FirstBytes g k n records
 unfolding flatten wholeIn afterAll
-cut-at g k n [] last r e = record {
+first-bytes g k n [] last r e = record {
   after = g;
   held = [];
   replayed = refl;
   parts = take-nil n;
   reads = ap (λ (l : List ℕ). read journal (reading g k []) l .kept) (take-nil n) ∙ (unfold read in ap (λ (m : ℕ). reading g m []) (omega arith));
 }
-cut-at g k n (x ∷ records) last r e = good-first g x records last e
-    (λ after q rest. decide (leb (length x) n) (inside after q (cut-at after (k + length x) (n - length x) records last (and-right (isRecord x) _ r) rest)) (within))
+first-bytes g k n (x ∷ records) last r e = good-first g x records last e
+    (λ after q rest. decide (leb (length x) n) (inside after q (first-bytes after (k + length x) (n - length x) records last (and-right (isRecord x) _ r) rest)) (within))
   where
     record-x : isRecord x ≡ true
     record-x = and-left _ _ r
 
-    inside : (after : List ℕ) → judgeRecord g x ≡ good after → CutAt after (k + length x) (n - length x) records → leb (length x) n ≡ true → CutAt g k n (x ∷ records)
+    inside : (after : List ℕ) → judgeRecord g x ≡ good after → FirstBytes after (k + length x) (n - length x) records → leb (length x) n ≡ true → FirstBytes g k n (x ∷ records)
     inside after q ih t =
         let fits : length x ≤ n = leb-true _ _ t in
         let m : ℕ = n - length x in
@@ -176,7 +241,7 @@ cut-at g k n (x ∷ records) last r e = good-first g x records last e
               ∙ ap (λ (j : ℕ). reading (ih .after) j (ih .held)) (let z = length-append x (flatten ws) in omega arith));
         }
 
-    within : leb (length x) n ≡ false → CutAt g k n (x ∷ records)
+    within : leb (length x) n ≡ false → FirstBytes g k n (x ∷ records)
     within t =
         let short : n < length x = leb-false _ _ t in
         let whole-in : wholeIn n (x ∷ records) ≡ [] = rw (t, wholeIn) in
@@ -191,42 +256,3 @@ cut-at g k n (x ∷ records) last r e = good-first g x records last e
               ∙ read-part g k x record-x [] (take n x) (drop n x) (take-append-drop n x) (omega (arith, length-drop n x))
               ∙ ap (λ (j : ℕ). reading g j (take n x)) (omega arith));
         }
-
--- ---- the claims
-
--- what reading the first n bytes of a file of records gives
-pub record CutAnywhere (registry : List ℕ) (records : List (List ℕ)) (n : ℕ) : Type 0 where
-  pub after : List ℕ
-  pub held : List ℕ
-  -- they are the whole records and the beginning of the next,
-  pub parts : take n (flatten records) ≡ flatten (wholeIn n records) ++ held
-  -- the registry is that after exactly the whole records,
-  pub replayed : afterAll registry (wholeIn n records) ≡ some after
-  -- `kept` counts these records' bytes, and nothing is refused
-  pub reads : readJournal registry (take n (flatten records)) .kept ≡ reading after (length (flatten (wholeIn n records))) held
-
-pub cut-anywhere : (registry : List ℕ) (records : List (List ℕ)) (last : List ℕ) → all isRecord records ≡ true
-    → afterAll registry records ≡ some last → (n : ℕ) → CutAnywhere registry records n
-cut-anywhere registry records last r e n =
-    let c = cut-at registry 0 n records last r e in
-    record {
-      after = c .after;
-      held = c .held;
-      parts = c .parts;
-      replayed = c .replayed;
-      reads = c .reads ∙ ap (λ (j : ℕ). reading (c .after) j (c .held)) (omega arith);
-    }
-
--- the first record that is refused ends the reading, whatever stands behind it; the records before it are kept
-pub refused-at : (registry : List ℕ) (records : List (List ℕ)) (last x rest : List ℕ) (fault : Fault) → all isRecord records ≡ true
-    → afterAll registry records ≡ some last → isRecord x ≡ true → judgeRecord last x ≡ bad fault
-    → readJournal registry (flatten records ++ (x ++ rest)) .kept ≡ stopped last (length (flatten records)) fault
-unfolding isSome
-refused-at registry records last x rest fault r e rx q =
-    let k : ℕ = length (flatten records) in
-    read-then (reading registry 0 []) (flatten records) (x ++ rest)
-    ∙ ap (λ (s : Kept). read journal s (x ++ rest) .kept)
-    (read-all registry 0 records last r e ∙ ap (λ (j : ℕ). reading last j []) (let z : 0 + k ≡ k = omega arith in z))
-    ∙ read-then (reading last k []) x rest
-    ∙ ap (λ (s : Kept). read journal s rest .kept) (read-bad last k x rx fault q)
-    ∙ ap (λ (a : Reading Kept Fault). a .kept) (read-past journal (stopped last k fault) rest refl)

@@ -10,5 +10,7 @@ pub mod StateLaws
 pub mod OutcomeLaws
 pub mod CompactLaws
 pub mod MemoryLaws
+pub mod PiecesLaws
+pub mod FileLaws
 pub mod WrittenLaws
 pub mod ChangeLaws

@@ -11,7 +11,7 @@ use lib.Dec.{leb, eqb}
 use Rattle.wire.specs.Lists.{all, isZero, over}
 use Rattle.wire.specs.Numbers.{littleEndianOf, field}
 use Rattle.wire.specs.code.Wrote.{Wrote}
-use Rattle.wire.proofs.TestLaws.{every-at}
+use Rattle.wire.proofs.TestLaws.{not-across, every-at}
 use Rattle.wire.proofs.ListLaws.{drop-zeros}
 use Rattle.wire.proofs.PutLaws.{length-put}
 use Rattle.wire.proofs.BufferLaws.{put-mid, lent}
@@ -63,13 +63,19 @@ module _ (m : List ℕ) where
   -- what is told by a well-formed one
   pub record Told : Type 0 where
     pub size : length m ≡ stateSize
+    pub fault : getD m 0 0 ≤ 3
     pub within : kept + count ≤ fileMost
+    pub begun : isBegunWhole count (drop frontAt m) ≡ false
+    pub zeros : all isZero (drop (frontAt + count) m) ≡ true
 
   pub told : wellFormedState m ≡ true → Told
   unfolding wellFormedState
   told e = record {
     size = eqb-true _ _ (every-at tests 0 e);
+    fault = leb-true _ _ (every-at tests 1 e);
     within = leb-true _ _ (every-at tests 2 e);
+    begun = not-across _ _ (every-at tests 3 e);
+    zeros = every-at tests 4 e;
   }
     where
       tests : List Bool

@@ -5,4 +5,5 @@ pub mod File
 pub mod Journalling
 pub mod Compact
 pub mod Memory
+pub mod Claims
 pub mod code

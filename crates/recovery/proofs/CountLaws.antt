@@ -1,12 +1,12 @@
 -- A slot with another count: its count alone has changed.
 use mathlib.Core.Path.{_≡_, refl, sym, ap, _∙_}
 use mathlib.Core.Bool.{Bool, true, false}
-use mathlib.Core.List.{List, [], _++_, append-nil}
+use mathlib.Core.List.{List, [], _++_, append-assoc, append-nil}
 use Prim.Native.Nat.{ℕ, _+_, _-_, _≤_, _<_, min}
 use native.Mathlib.Omega.{arith}
 use borrow.Author.Tests.{eqb-false, eq-eqb}
 use lib.ListN.{length, take, drop, getD, replicate, length-take, length-drop, take-append-drop, drop-of-length-le}
-use lib.Seq.{getD-take, take-all}
+use lib.Seq.{getD-take, take-all, drop-at, length-take-le}
 use lib.Dec.{eqb}
 use Rattle.wire.specs.Choice.{if_then_else_}
 use Rattle.wire.specs.Lists.{every, isZero, put, all}
@@ -14,7 +14,7 @@ use Rattle.wire.specs.Numbers.{littleEndian, littleEndianOf, field}
 use Rattle.wire.proofs.PutLaws.{length-put, part-before, part-behind}
 use Rattle.wire.proofs.ListLaws.{zeros-back, length-part}
 use Rattle.wire.proofs.TestLaws.{every-at}
-use Rattle.wire.proofs.NumberLaws.{length-number, field-zero}
+use Rattle.wire.proofs.NumberLaws.{length-number, field-back, field-zero}
 use Rattle.keys.specs.Key.{dataMost}
 use Rattle.keys.specs.Names.{keyNameMost}
 use Rattle.keys.proofs.KeyLaws.{legal-data}
@@ -98,3 +98,11 @@ module _ (slot : List ℕ) (long : length slot ≡ slotSize) where
       let back : drop (usesAt + length (littleEndianOf 4 0)) (put slot usesAt c) ≡ drop (usesAt + length (littleEndianOf 4 0)) slot
       = part-behind slot usesAt c (usesAt + length (littleEndianOf 4 0)) (omega arith) (omega arith) in
       λ i. front i ++ littleEndianOf 4 0 ++ back i
+
+  pub no-use : usesIn (unusedSlot slot) ≡ 0
+  unfolding unusedSlot
+  no-use =
+      let v : List ℕ = littleEndianOf 4 0 in
+      let rest : List ℕ = drop (usesAt + length v) slot in
+      let front : length (take usesAt slot) ≡ usesAt = length-take-le usesAt slot (omega (arith, long)) in
+      field-back usesAt 3 0 (put slot usesAt v) rest (ap (drop usesAt) (append-assoc (take usesAt slot) v rest) ∙ drop-at (take usesAt slot) (v ++ rest) usesAt front)

@@ -4,4 +4,5 @@ pub mod UnusedLaws
 pub mod RosterLaws
 pub mod RequestLaws
 pub mod ByteLaws
+pub mod FrontLaws
 pub mod RestoreLaws

@@ -1,10 +1,10 @@
 -- A registry with use counts 0: its applications and keys are the same, and a change of either is a change of the other.
 use mathlib.Core.Path.{_≡_, refl, sym, ap, ap₂, _∙_, subst}
-use mathlib.Core.Bool.{Bool, true, false, true≢false, not, _||_}
+use mathlib.Core.Bool.{Bool, true, false, true≢false, not, _||_, _&&_}
 use mathlib.Core.List.{List, [], _∷_, _++_, append-nil, map, flatten}
 use Prim.Native.Nat.{ℕ, _+_, _-_, _*_, _≤_, _<_, min}
 use native.Mathlib.Omega.{arith}
-use borrow.Author.Tests.{eqb-true}
+use borrow.Author.Tests.{eqb-true, eq-eqb}
 use lib.ListN.{length, take, drop, getD, length-append, length-take, length-drop, length-replicate, take-append-drop, drop-of-length-le}
 use lib.Seq.{getD-take, length-take-le, take-at, drop-at, take-add}
 use lib.Dec.{eqb}
@@ -29,7 +29,7 @@ use Rattle.registry.proofs.UsedLaws.{length-used as used-long}
 use Rattle.journal.proofs.ReplayLaws.{recorded, Alike}
 use Rattle.recovery.specs.Unused.{unusedSlot, unusedLine, neverUsed, unused}
 use Rattle.recovery.proofs.BlockLaws.{length-changed, blocks-changed, changed-put, changed-none}
-use Rattle.recovery.proofs.CountLaws.{length-unused, slot-kept, idle, unused-used}
+use Rattle.recovery.proofs.CountLaws.{length-unused, slot-kept, idle, unused-used, no-use}
 
 -- ---- bytes put in the place of all, and of themselves
 
@@ -228,3 +228,21 @@ pub unused-same : (r : List ℕ) → length r ≡ registrySize → neverUsed r �
 unfolding neverUsed unused
 unused-same r size e =
     changed-none unusedLine lineSize length-line lineCount r size (idle-lines (linesIn r) (sized-blocks lineSize lineCount r size) e)
+
+-- ---- and counts that were put to 0
+
+no-uses : (bs : List (List ℕ)) → Sized slotSize bs → all (λ slot. eqb (usesIn slot) 0) (map unusedSlot bs) ≡ true
+no-uses [] s = refl
+no-uses (b ∷ bs) s = ap₂ _&&_ (eq-eqb (usesIn (unusedSlot b)) 0 (no-use b (s .0))) (no-uses bs (s .1))
+
+none-used : (ls : List (List ℕ)) → Sized lineSize ls → all (λ line. all (λ slot. eqb (usesIn slot) 0) (slotsIn line)) (map unusedLine ls) ≡ true
+none-used [] s = refl
+none-used (l ∷ ls) s =
+    ap₂ _&&_
+    (ap (all (λ slot. eqb (usesIn slot) 0)) (slots-kept l (s .0)) ∙ no-uses (slotsIn l) (sized-blocks slotSize slotCount (drop lineHead l) (slots-long l (s .0))))
+    (none-used ls (s .1))
+
+pub never-used : (r : List ℕ) → length r ≡ registrySize → neverUsed (unused r) ≡ true
+unfolding neverUsed
+never-used r size =
+    ap (all (λ line. all (λ slot. eqb (usesIn slot) 0) (slotsIn line))) (lines-kept r size) ∙ none-used (linesIn r) (sized-blocks lineSize lineCount r size)

@@ -5,8 +5,6 @@ use mathlib.Core.Option.{Option, none, some}
 use mathlib.Core.List.{List, [], _∷_, _++_}
 use lib.ListN.{getD}
 use Rattle.wire.specs.Numbers.{littleEndianOf}
-use Rattle.keys.specs.Key.{dataMost}
-use Rattle.keys.specs.Names.{keyNameMost}
 use Rattle.registry.specs.Slots.{Entry, free, nameOf, flag}
 use Rattle.registry.specs.Registry.{Change, unchanged, fill, clear, addUse}
 use Rattle.registry.specs.declared.Line.{Line}
