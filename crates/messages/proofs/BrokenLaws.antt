@@ -6,15 +6,18 @@ use mathlib.Core.Path.{_≡_, refl, sym, ap, subst, _∙_}
 use mathlib.Core.Bool.{Bool, true, false, true≢false}
 use mathlib.Core.Option.{Option, none, some, bind}
 use mathlib.Core.List.{List, _++_, map}
-use lib.ListN.{length, take, drop, set}
-use lib.Seq.{length-take-le}
+use lib.ListN.{length, take, drop, set, take-append-drop, length-drop}
+use lib.Seq.{length-take-le, drop-append-le}
 use lib.Dec.{eqb}
 use Rattle.wire.specs.Choice.{if_then_else_}
 use Rattle.wire.specs.Lists.{oneOf}
+use Rattle.wire.specs.Numbers.{field as field′}
 use Rattle.wire.specs.Scan.{Turn, on, out, follow, scanAt}
 use Rattle.wire.proofs.TestLaws.{either}
 use Rattle.wire.proofs.ListLaws.{part-of-part}
 use Rattle.wire.proofs.ScanLaws.{TurnAhead, scan-end, scan-on}
+use Rattle.records.specs.Records.{Record, recordLength, recordIn, isWhole}
+use Rattle.records.proofs.RecordLaws.{whole-fit, room-front, size-append, record-append}
 use Rattle.protobuf.specs.Field as proto
 use Rattle.protobuf.specs.Group.{depthMost, groupAt}
 use Rattle.protobuf.specs.declared.field.Field.{Field as ProtoField}
@@ -27,11 +30,15 @@ use Rattle.protobuf.proofs.CutLaws as cutLaws
 use Rattle.messages.specs.Message.{Kind, Value, Schema, Message, kindAt, absent}
 use Rattle.messages.specs.Format.{Field, field, skipped, unreadable, Format, fieldWith, listed, Reading, read, broken, SoFar, turnOf, turnAt, readMessage}
 use Rattle.messages.specs.Protobuf.{ofVarint, ofSpan, isOfWire, ofGroup, fieldOf, protobuf}
+use Rattle.messages.specs.Tagged.{ofValue, taggedAt}
+use Rattle.messages.specs.Formats.{formatOf}
 use Rattle.messages.specs.Opcodes.{coreOpcodes, keystoreOpcodes}
 use Rattle.messages.specs.Operations.{inputFields, Asking, asks, garbled, askingOf, askingBy, asked}
 use Rattle.messages.specs.Claims.{Arrives, atStart, behind, BreaksAt, SaysWhere, OnlyThere, UnreadableThere, AskedWhere}
+use Rattle.messages.specs.declared.format.BodyFormat.{BodyFormat}
+use Rattle.messages.specs.declared.format.BodyFormat.the-variants.{Protobuf, Tagged}
 use Rattle.messages.proofs.RoundTrip.{Lawful, turn-ahead}
-use Rattle.messages.proofs.ProtobufLaws.{protobuf-lawful}
+use Rattle.messages.proofs.FormatsLaws.{lawful}
 
 -- ---- a format whose fields are the same where the body is cut behind them
 
@@ -189,31 +196,36 @@ asked-where format says opcode body at l e = go (readMessage format (inputFields
     go (read m) q f = absurd (true≢false (sym (listed-asks opcode m l) ∙ ap isAsked f))
     go (broken p) q f = subst (BreaksAt format (inputFields opcode) body) (ap garbledAt f) (says (inputFields opcode) body p q)
 
+-- ---- a field that ends at `next`
+
+abbrev EndsAt : ℕ → Field → Type 0
+EndsAt next (field n value p) = p ≡ next
+EndsAt next (skipped p) = p ≡ next
+EndsAt next unreadable = Unit {0}
+
+with-ends : (n next : ℕ) (o : Option Value) → EndsAt next (fieldWith n next o)
+with-ends n next none = tt
+with-ends n next (some value) = refl
+
+listed-ends : (schema : Schema) (n : ℕ) (valueAs : Kind → Option Value) (next : ℕ) → EndsAt next (listed schema n valueAs next)
+unfolding listed
+listed-ends schema n valueAs next = with-ends n next (bind (kindAt schema n) valueAs)
+
+same-field : (k next : ℕ) (f c : Field) → EndsAt next f → (next ≤ k → c ≡ f) → FieldKept k f c
+same-field k next (field n value p) c e h = λ l. h (rw e at l)
+same-field k next (skipped p) c e h = λ l. h (rw e at l)
+same-field k next unreadable c e h = tt
+
 -- ---- Protocol Buffers
 
 module _ (schema : Schema) (body : List ℕ) (k at : ℕ) (short : k ≤ length body) where
   abbrev cut : List ℕ
   cut = take k body
 
-  -- a field that ends at `next`, or none
-  abbrev EndsAt : ℕ → Field → Type 0
-  EndsAt next (field n value p) = p ≡ next
-  EndsAt next (skipped p) = p ≡ next
-  EndsAt next unreadable = Unit {0}
-
-  with-ends : (n next : ℕ) (o : Option Value) → EndsAt next (fieldWith n next o)
-  with-ends n next none = tt
-  with-ends n next (some value) = refl
-
-  listed-ends : (n : ℕ) (valueAs : Kind → Option Value) (next : ℕ) (t : Bool) → EndsAt next (if t then listed schema n valueAs next else skipped next)
-  unfolding listed
-  listed-ends n valueAs next true = with-ends n next (bind (kindAt schema n) valueAs)
-  listed-ends n valueAs next false = refl
-
-  same-field : (next : ℕ) (f c : Field) → EndsAt next f → (next ≤ k → c ≡ f) → FieldKept k f c
-  same-field next (field n value p) c e h = λ l. h (rw e at l)
-  same-field next (skipped p) c e h = λ l. h (rw e at l)
-  same-field next unreadable c e h = tt
+  -- listed, or skipped
+  choice-ends : (n : ℕ) (valueAs : Kind → Option Value) (next : ℕ) (t : Bool) → EndsAt next (if t then listed schema n valueAs next else skipped next)
+  choice-ends n valueAs next true = listed-ends schema n valueAs next
+  choice-ends n valueAs next false = refl
 
   by-group : (n next : ℕ) (g : Group) → GroupAhead (length body) next g → cutLaws.GroupKept k g (groupAt depthMost cut n next)
       → (next ≤ k → proto.fieldAt cut at ≡ GroupStart n next) → FieldKept k (ofGroup g) (fieldOf schema cut (proto.fieldAt cut at))
@@ -222,9 +234,9 @@ module _ (schema : Schema) (body : List ℕ) (k at : ℕ) (short : k ≤ length 
 
   by-field : (f : ProtoField) → cutLaws.FieldKept k f (proto.fieldAt cut at) → FieldKept k (fieldOf schema body f) (fieldOf schema cut (proto.fieldAt cut at))
   by-field (Number n v next) h =
-      same-field next _ _ (listed-ends n (ofVarint v) next (isOfWire 0 (kindAt schema n))) (λ l. ap (fieldOf schema cut) (h l))
+      same-field k next _ _ (choice-ends n (ofVarint v) next (isOfWire 0 (kindAt schema n))) (λ l. ap (fieldOf schema cut) (h l))
   by-field (Span n start len next) h =
-      same-field next _ _ (listed-ends n (ofSpan (take len (drop start body))) next (isOfWire 2 (kindAt schema n)))
+      same-field k next _ _ (choice-ends n (ofSpan (take len (drop start body))) next (isOfWire 2 (kindAt schema n)))
       (λ l.
       let inside : start + len ≤ length cut = subst (protoLaws.FieldAhead (length cut) at) (h l) (protoLaws.field-ahead cut at) .1 in
       let part : take len (drop start cut) ≡ take len (drop start body) = part-of-part len start k body (omega (arith, length-take-le k body short)) in
@@ -237,16 +249,53 @@ module _ (schema : Schema) (body : List ℕ) (k at : ℕ) (short : k ≤ length 
 protobuf-cuttable : Cuttable protobuf
 protobuf-cuttable schema body k at short = by-field schema body k at short (proto.fieldAt body at) (cutLaws.field-kept body k short at)
 
-pub protobuf-says-where : SaysWhere protobuf
-protobuf-says-where = says-where protobuf protobuf-lawful protobuf-cuttable
+-- ---- format 2
 
-pub protobuf-asked-where : AskedWhere protobuf
-protobuf-asked-where = asked-where protobuf protobuf-says-where
+module _ (schema : Schema) (body : List ℕ) (k at : ℕ) (short : k ≤ length body) where
+  abbrev here : List ℕ
+  here = drop at body
 
-pub protobuf-only-there : OnlyThere protobuf
-protobuf-only-there = only-there protobuf protobuf-lawful
+  abbrev front : List ℕ
+  front = drop at (take k body)
 
--- fields come in any order, so that one which stops the reading is unreadable
+  abbrev recordField : List ℕ → Field
+  recordField s = listed schema (recordIn s .tag) (ofValue (recordIn s .value)) (at + recordLength s)
+
+  -- a record that ends within the cut is the same there
+  same-record : at + recordLength here ≤ k → taggedAt schema (take k body) at ≡ recordField here
+  unfolding taggedAt
+  same-record h =
+      let long : length (take k body) ≡ k = length-take-le k body short in
+      let parts : here ≡ front ++ drop k body = ap (drop at) (sym (take-append-drop k body)) ∙ drop-append-le at (take k body) (drop k body) (omega arith) in
+      let size : field′ 1 2 here ≡ field′ 1 2 (front ++ drop k body) = ap (field′ 1 2) parts in
+      let room : recordLength front ≤ length front = room-front front (drop k body) (omega (arith, length-drop at (take k body))) in
+      let is : recordIn front ≡ recordIn here = sym (record-append front (drop k body) room) ∙ ap recordIn (sym parts) in
+      let next : at + recordLength front ≡ at + recordLength here = omega (arith, size-append front (drop k body) room) in
+      rw (whole-fit front room, next, ap (λ (r : Record). r .tag) is, ap (λ (r : Record). r .value) is)
+
+  record-kept : FieldKept k (taggedAt schema body at) (taggedAt schema (take k body) at)
+  unfolding taggedAt
+  record-kept =
+      either (λ (f : Field). FieldKept k f (taggedAt schema (take k body) at)) (isWhole here)
+      (λ _. same-field k (at + recordLength here) (recordField here) _ (listed-ends schema (recordIn here .tag) (ofValue (recordIn here .value)) (at + recordLength here)) same-record)
+      (λ _. tt)
+
+-- ---- either format
+
+cuttable : (f : BodyFormat) → Cuttable (formatOf f)
+cuttable Protobuf = protobuf-cuttable
+cuttable Tagged = λ schema body k at short. record-kept schema body k at short
+
+pub body-says-where : (f : BodyFormat) → SaysWhere (formatOf f)
+body-says-where f = says-where (formatOf f) (lawful f) (cuttable f)
+
+pub body-asked-where : (f : BodyFormat) → AskedWhere (formatOf f)
+body-asked-where f = asked-where (formatOf f) (body-says-where f)
+
+pub body-only-there : (f : BodyFormat) → OnlyThere (formatOf f)
+body-only-there f = only-there (formatOf f) (lawful f)
+
+-- in Protocol Buffers fields come in any order, so that one which stops the reading is unreadable
 goesOn : Turn SoFar Reading → Bool
 goesOn (on so next) = true
 goesOn (out r) = false
@@ -259,5 +308,5 @@ stops-unreadable at so unreadable e = refl
 
 pub protobuf-unreadable-there : UnreadableThere protobuf
 protobuf-unreadable-there schema body at e =
-    let b : BreaksAt protobuf schema body at = protobuf-says-where schema body at e in
+    let b : BreaksAt protobuf schema body at = body-says-where Protobuf schema body at e in
     stops-unreadable at (b .so) (protobuf .fieldAt schema body at) (ap goesOn (b .stops) ∙ (unfold goesOn in refl))

@@ -5,15 +5,18 @@ use mathlib.Core.Bool.{true, false}
 use mathlib.Core.Option.{bind}
 use mathlib.Core.List.{List, [], _∷_, _++_, flatMap}
 use lib.ListN.{replicate}
+use Rattle.wire.specs.Numbers.{littleEndian, littleEndianOf, field}
 use Rattle.wire.specs.Scan.{scanFrom, scanAt}
+use Rattle.records.specs.Records.{isWhole}
 use Rattle.keys.specs.Key.{Key}
 use Rattle.protobuf.specs.Varint.{varintOf}
 use Rattle.protobuf.specs.Field.{numberAt, fixedAt, spanAt, contentAt, fieldAt}
 use Rattle.protobuf.specs.Group.{groupAt}
 use Rattle.protobuf.specs.Written.{varintWithin, varint, numberField, bytesField, packedField}
-use Rattle.messages.specs.Message.{bytes, uint32s, octets, numbers}
+use Rattle.messages.specs.Message.{uint32, bool, bytes, uint32s, octets, numbers}
 use Rattle.messages.specs.Format.{listed, messageBytes, Reading, read, broken, readMessage}
 use Rattle.messages.specs.Protobuf.{packedOf, protobuf}
+use Rattle.messages.specs.Tagged.{taggedField, taggedAt, tagged}
 use Rattle.messages.specs.Operations.{importKey, verifySignature, operationBody, version, providers, offset, outputBytes}
 use Rattle.messages.specs.Placed.{firstEntries}
 
@@ -61,3 +64,24 @@ pub skipping-cases :
     × (nameRead (0x0B ∷ 0x10 ∷ 0x05 ∷ []) ≡ broken 0)  -- a group that is cut
 unfolding readMessage listed bind scanFrom scanAt varintOf numberAt fixedAt spanAt contentAt fieldAt groupAt
 skipping-cases = (refl, refl, refl, refl, refl, refl, refl, refl, refl, refl, refl)
+
+-- ---- format 2
+
+pub tagged-cases :
+    (operationBody tagged (importKey keyA)
+    ≡ 0x01 ∷ 0x01 ∷ 0x00 ∷ 0x61 ∷ 0x02 ∷ 0x02 ∷ 0x00 ∷ 0xAA ∷ 0xBB ∷ 0x03 ∷ 0x04 ∷ 0x00 ∷ 0x00 ∷ 0x08 ∷ 0x00 ∷ 0x00 ∷ 0x04 ∷ 0x01 ∷ 0x00 ∷ 0x01 ∷ [])
+    × (outputBytes tagged (version 1 0) ≡ 0x01 ∷ 0x04 ∷ 0x00 ∷ 0x01 ∷ 0x00 ∷ 0x00 ∷ 0x00 ∷ [])
+    × (outputBytes tagged (providers (0 ∷ 1 ∷ [])) ≡ 0x01 ∷ 0x08 ∷ 0x00 ∷ 0x00 ∷ 0x00 ∷ 0x00 ∷ 0x00 ∷ 0x01 ∷ 0x00 ∷ 0x00 ∷ 0x00 ∷ [])
+    × (outputBytes tagged (offset 0) ≡ [])
+    × (readMessage tagged (bytes ∷ bytes ∷ []) (0x02 ∷ 0x01 ∷ 0x00 ∷ 0x61 ∷ []) ≡ read (octets [] ∷ octets (0x61 ∷ []) ∷ []))
+    × (readMessage tagged (bytes ∷ bytes ∷ []) (0x02 ∷ 0x01 ∷ 0x00 ∷ 0x61 ∷ 0x01 ∷ 0x01 ∷ 0x00 ∷ 0x61 ∷ []) ≡ broken 4)  -- falling
+    × (readMessage tagged (bytes ∷ []) (0x01 ∷ 0x01 ∷ 0x00 ∷ 0x61 ∷ 0x01 ∷ 0x01 ∷ 0x00 ∷ 0x61 ∷ []) ≡ broken 4)  -- repeated
+    × (readMessage tagged (bytes ∷ []) (0x01 ∷ 0x01 ∷ 0x00 ∷ 0x61 ∷ 0x02 ∷ 0x01 ∷ 0x00 ∷ 0x61 ∷ []) ≡ broken 4)  -- unlisted
+    × (readMessage tagged (bytes ∷ []) (0x01 ∷ 0x00 ∷ 0x00 ∷ []) ≡ broken 0)  -- empty
+    × (readMessage tagged (uint32 ∷ []) (0x01 ∷ 0x04 ∷ 0x00 ∷ 0x00 ∷ 0x00 ∷ 0x00 ∷ 0x00 ∷ []) ≡ broken 0)  -- zero
+    × (readMessage tagged (uint32 ∷ []) (0x01 ∷ 0x03 ∷ 0x00 ∷ 0x01 ∷ 0x00 ∷ 0x00 ∷ []) ≡ broken 0)  -- three bytes
+    × (readMessage tagged (bool ∷ []) (0x01 ∷ 0x01 ∷ 0x00 ∷ 0x02 ∷ []) ≡ broken 0)  -- a bool of 2
+    × (readMessage tagged (uint32s ∷ []) (0x01 ∷ 0x05 ∷ 0x00 ∷ 0x01 ∷ 0x00 ∷ 0x00 ∷ 0x00 ∷ 0x02 ∷ []) ≡ broken 0)  -- a list not of fours
+    × (readMessage tagged (bytes ∷ []) (0x01 ∷ 0x02 ∷ 0x00 ∷ 0x61 ∷ []) ≡ broken 0)  -- cut
+unfolding operationBody outputBytes messageBytes readMessage listed bind scanFrom scanAt taggedField taggedAt isWhole field littleEndian littleEndianOf flatMap
+tagged-cases = (refl, refl, refl, refl, refl, refl, refl, refl, refl, refl, refl, refl, refl, refl)

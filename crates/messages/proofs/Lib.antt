@@ -3,8 +3,12 @@ pub mod PackedLaws
 pub mod ProtobufLaws
 pub mod OperationLaws
 pub mod PlacesLaws
+pub mod TaggedLaws
+pub mod TaggedPlacedLaws
+pub mod TaggedWriteLaws
 pub mod OpcodeLaws
 pub mod PlacedLaws
 pub mod WriteLaws
 pub mod BrokenLaws
 pub mod Cases
+pub mod FormatsLaws

@@ -3,27 +3,24 @@ use Prim.Native.Nat.{ℕ, _<_}
 use native.Mathlib.Omega.{arith}
 use mathlib.Core.Path.{_≡_, refl, ap}
 use mathlib.Core.Option.{some}
-use mathlib.Core.List.{List, [], _++_, append-nil, map}
+use mathlib.Core.List.{[], map}
 use lib.ListN.{length}
 use borrow.Author.Tests.{ne-eqb}
-use Rattle.protobuf.specs.Written.{numberField, bytesField}
-use Rattle.messages.specs.Message.{Message, kindOf, AllFit, numberOf, octetsOf, numbersOf, valueAt}
-use Rattle.messages.specs.Format.{Format, messageBytes, readMessage}
-use Rattle.messages.specs.Protobuf.{protobuf}
+use Rattle.messages.specs.Message.{Message, kindOf, numberOf, octetsOf, numbersOf, valueAt}
+use Rattle.messages.specs.Format.{Format, messageBytes, AllFit, readMessage}
 use Rattle.messages.specs.Operations.{Operation, ping, listProviders, listOpcodes, importKey, destroyKey, exportPublicKey, verifySignature, opcodeOf, inputOf, operationBody, inputFields, askingOf, askingBy, asked, operationIn, operationOf, whenRead, readBody, Output, nothing, version, providers, opcodes, exported, Answers, ofPing, ofListProviders, ofListOpcodes, ofImport, ofDestroy, ofExport, ofVerify, offset, Carries, served, notRead, refused, messageOf, outputBytes, outputOf, offsetOf, answerOf}
 use Rattle.messages.proofs.RoundTrip.{Lawful, round-trip}
-use Rattle.messages.proofs.ProtobufLaws.{protobuf-lawful}
 
 module _ (format : Format) (law : Lawful format) where
-  pub body-back : {A : Type 0} (m : Message) (f : Message → A) → length m < 256 → AllFit (format .lengthMost) m → readBody format (map kindOf m) (messageBytes format m) f ≡ some (f m)
+  pub body-back : {A : Type 0} (m : Message) (f : Message → A) → length m < 256 → AllFit format m → readBody format (map kindOf m) (messageBytes format m) f ≡ some (f m)
   unfolding readBody
   body-back m f few fits = ap (whenRead f) (round-trip format law m few fits)
 
-  asked-read : (opcode : ℕ) (m : Message) → length m < 256 → AllFit (format .lengthMost) m
+  asked-read : (opcode : ℕ) (m : Message) → length m < 256 → AllFit format m
       → askingBy opcode (readMessage format (map kindOf m) (messageBytes format m)) ≡ askingOf opcode m
   asked-read opcode m few fits = ap (askingBy opcode) (round-trip format law m few fits)
 
-  pub operation-back : (operation : Operation) → AllFit (format .lengthMost) (inputOf operation) → operationOf format (opcodeOf operation) (operationBody format operation) ≡ some operation
+  pub operation-back : (operation : Operation) → AllFit format (inputOf operation) → operationOf format (opcodeOf operation) (operationBody format operation) ≡ some operation
   unfolding operationOf asked operationBody inputFields askingOf
   operation-back ping fits = ap operationIn (asked-read 1 [] (omega arith) fits)
   operation-back listProviders fits = ap operationIn (asked-read 8 [] (omega arith) fits)
@@ -34,7 +31,7 @@ module _ (format : Format) (law : Lawful format) where
   operation-back (verifySignature name hash signature) fits =
       ap operationIn (asked-read 5 (inputOf (verifySignature name hash signature)) (omega arith) fits)
 
-  pub output-back : (opcode : ℕ) (output : Output) → Answers opcode output → AllFit (format .lengthMost) (messageOf output) → outputOf format opcode (outputBytes format output) ≡ some output
+  pub output-back : (opcode : ℕ) (output : Output) → Answers opcode output → AllFit format (messageOf output) → outputOf format opcode (outputBytes format output) ≡ some output
   unfolding outputOf outputBytes
   output-back opcode (version major minor) ofPing fits = body-back (messageOf (version major minor)) (λ m. version (numberOf (valueAt m 1)) (numberOf (valueAt m 2))) (omega arith) fits
   output-back opcode (providers list) ofListProviders fits = body-back (messageOf (providers list)) (λ m. providers (numbersOf (valueAt m 1))) (omega arith) fits
@@ -44,7 +41,7 @@ module _ (format : Format) (law : Lawful format) where
   output-back opcode (exported data′) ofExport fits = body-back (messageOf (exported data′)) (λ m. exported (octetsOf (valueAt m 1))) (omega arith) fits
   output-back opcode nothing ofVerify fits = body-back [] (λ m. nothing) (omega arith) fits
 
-  pub offset-back : (at : ℕ) → AllFit (format .lengthMost) (messageOf (offset at)) → offsetOf format (outputBytes format (offset at)) ≡ some (offset at)
+  pub offset-back : (at : ℕ) → AllFit format (messageOf (offset at)) → offsetOf format (outputBytes format (offset at)) ≡ some (offset at)
   unfolding offsetOf outputBytes
   offset-back at fits = body-back (messageOf (offset at)) (λ m. offset (numberOf (valueAt m 1))) (omega arith) fits
 
@@ -53,38 +50,8 @@ module _ (format : Format) (law : Lawful format) where
   none-written = refl
 
   -- what a response carries is read as what it carries, whatever its status
-  pub answer-back : (opcode status : ℕ) (output : Output) → Carries opcode status output → AllFit (format .lengthMost) (messageOf output) → answerOf format opcode status (outputBytes format output) ≡ some output
+  pub answer-back : (opcode status : ℕ) (output : Output) → Carries opcode status output → AllFit format (messageOf output) → answerOf format opcode status (outputBytes format output) ≡ some output
   unfolding answerOf
   answer-back opcode status output (served answers) fits = output-back opcode output answers fits
   answer-back opcode status (offset at) notRead fits = offset-back at fits
   answer-back opcode status nothing (refused a b) fits = rw (ne-eqb _ _ a, ne-eqb _ _ b, none-written, answerOf)
-
--- ---- in Protocol Buffers
-
--- what is asked is read as what was asked
-pub asked-back : (operation : Operation) → AllFit (protobuf .lengthMost) (inputOf operation)
-    → operationOf protobuf (opcodeOf operation) (operationBody protobuf operation) ≡ some operation
-asked-back operation fits = operation-back protobuf protobuf-lawful operation fits
-
--- what is answered is read as what was answered
-pub answered-back : (opcode : ℕ) (output : Output) → Answers opcode output → AllFit (protobuf .lengthMost) (messageOf output)
-    → outputOf protobuf opcode (outputBytes protobuf output) ≡ some output
-answered-back opcode output answers fits = output-back protobuf protobuf-lawful opcode output answers fits
-
--- ---- the outputs in Protocol Buffers
-
-pub nothing-bytes : outputBytes protobuf nothing ≡ []
-unfolding outputBytes messageBytes
-nothing-bytes = refl
-
-pub version-bytes : (major minor : ℕ) → outputBytes protobuf (version major minor) ≡ numberField 1 major ++ numberField 2 minor
-unfolding outputBytes messageBytes
-version-bytes major minor = ap (λ (l : List ℕ). numberField 1 major ++ l) (append-nil (numberField 2 minor))
-
-pub exported-bytes : (data′ : List ℕ) → outputBytes protobuf (exported data′) ≡ bytesField 1 data′
-unfolding outputBytes messageBytes
-exported-bytes data′ = append-nil (bytesField 1 data′)
-
-pub offset-bytes : (at : ℕ) → outputBytes protobuf (offset at) ≡ numberField 1 at
-unfolding outputBytes messageBytes
-offset-bytes at = append-nil (numberField 1 at)

@@ -20,15 +20,16 @@ use Rattle.protobuf.specs.declared.field.Field.the-variants.{Number, Span, Fixe
 use Rattle.protobuf.specs.declared.group.Group.{Group}
 use Rattle.protobuf.specs.declared.group.Group.the-variants.{Skipped, Unreadable as noGroup}
 use Rattle.fields.specs.declared.Values.{Values}
+use Rattle.fields.specs.declared.Body.{Body}
 use Rattle.fields.specs.declared.Body.the-variants.{Message as Readable, Unreadable as Broken}
 use Rattle.protobuf.proofs.FieldLaws.{Ahead, FieldAhead, field-ahead}
 use Rattle.protobuf.proofs.GroupLaws.{GroupAhead, group-ahead}
 use Rattle.fields.specs.code.Fields.{ValuesIn}
 use Rattle.protobuf.proofs.BodyLaws.{body-in}
 use Rattle.messages.specs.Message.{uint32, bytes, uint32s, Value, numbers, numberOf, octetsOf, numbersOf, valueAt, Schema, Message}
-use Rattle.messages.specs.Format.{Field, field, skipped, unreadable, fieldWith, listed, Reading, read, broken, SoFar, turnOf, turnAt, readMessage}
+use Rattle.messages.specs.Format.{Format, Field, field, skipped, unreadable, fieldWith, listed, Reading, read, broken, SoFar, turnOf, turnAt, readMessage}
 use Rattle.messages.specs.Protobuf.{ofVarint, packedOf, isOfWire, ofGroup, fieldOf, protobuf}
-use Rattle.messages.specs.Operations.{inputFields, garbled, askingOf, askingBy, asked, Output, nothing, version, providers, opcodes, exported, whenRead, readBody, outputOf, offsetOf, answerOf}
+use Rattle.messages.specs.Operations.{inputFields, askingBy, asked, Output, nothing, version, providers, opcodes, exported, whenRead, readBody, outputOf, offsetOf, answerOf}
 use Rattle.messages.specs.Placed.{firstEntries, listIn, SpanWithin}
 use Rattle.messages.specs.code.Places.{schemaPlaced, NoLists, valuesOf, five, seen}
 use Rattle.messages.specs.code.ListBody.{listSchema, fieldIn, skippedGroup, skippedField, FieldWithin}
@@ -197,15 +198,10 @@ module _ (opcode : ℕ) where
       either NoLists (eqb opcode 9) (λ _. tt) (λ _. either NoLists (eqb opcode 6) (λ _. tt) (λ _. either NoLists (eqb opcode 3) (λ _. tt)
       (λ _. either NoLists (eqb opcode 7) (λ _. tt) (λ _. either NoLists (eqb opcode 5) (λ _. tt) (λ _. tt)))))
 
-module _ (opcode : ℕ) (body : List ℕ) where
-  pub asked-read : (m : Values) → bodyOf (schemaPlaced (inputFields opcode)) body ≡ Readable m
-      → askingOf opcode (valuesOf body (inputFields opcode) (five m)) ≡ asked protobuf opcode body
+  pub asked-seen : (format : Format) (body : List ℕ) (r : Body) → seen body (inputFields opcode) r ≡ readMessage format (inputFields opcode) body
+      → askingBy opcode (seen body (inputFields opcode) r) ≡ asked format opcode body
   unfolding asked
-  asked-read m e = sym (ap (askingBy opcode) (placed (inputFields opcode) body (input-few opcode) (input-no-lists opcode) ∙ ap (seen body (inputFields opcode)) e))
-
-  pub asked-broken : (at : ℕ) → bodyOf (schemaPlaced (inputFields opcode)) body ≡ Broken at → garbled at ≡ asked protobuf opcode body
-  unfolding asked
-  asked-broken at e = sym (ap (askingBy opcode) (placed (inputFields opcode) body (input-few opcode) (input-no-lists opcode) ∙ ap (seen body (inputFields opcode)) e))
+  asked-seen format body r e = ap (askingBy opcode) e
 
 -- ---- an output, by its opcode
 

@@ -91,7 +91,7 @@ module _ (schema : Schema) (few : length schema ≤ 5) where
   Named n k = k ≡ kindPlaced (kindAt schema n)
 
   -- both find the same kind
-  kind-same : (n : ℕ) → fields.kindOf (schemaPlaced schema) n ≡ kindPlaced (kindAt schema n)
+  pub kind-same : (n : ℕ) → fields.kindOf (schemaPlaced schema) n ≡ kindPlaced (kindAt schema n)
   kind-same n =
       let at : (i : ℕ) → eqb n i ≡ true → Named n (kindPlaced (kindAt schema i)) = λ i e. ap (λ (x : ℕ). kindPlaced (kindAt schema x)) (sym (eqb-true n i e)) in
       either (Named n) (eqb n 1) (at 1)
@@ -135,7 +135,7 @@ module _ (body : List ℕ) where
       rw one (ap (λ (r : Message). valueOf body k u ∷ r) (rw two at ih))
 
   -- nothing read yet
-  none-read : (schema : Schema) (count : ℕ) → map absent schema ≡ valuesOf body schema (replicate count fields.absent)
+  pub none-read : (schema : Schema) (count : ℕ) → map absent schema ≡ valuesOf body schema (replicate count fields.absent)
   none-read [] count = refl
   none-read (kind ∷ schema) zero = ap (λ (r : Message). absent kind ∷ r) (none-read schema 0)
   none-read (uint32 ∷ schema) (suc count) = ap (λ (r : Message). number 0 ∷ r) (none-read schema count)
@@ -143,7 +143,7 @@ module _ (body : List ℕ) where
   none-read (bytes ∷ schema) (suc count) = ap (λ (r : Message). octets [] ∷ r) (none-read schema count)
   none-read (uint32s ∷ schema) (suc count) = ap (λ (r : Message). numbers [] ∷ r) (none-read schema count)
 
-no-list-at : (schema : Schema) (n : ℕ) → NoLists schema → kindAt schema n ≡ some uint32s → ⊥
+pub no-list-at : (schema : Schema) (n : ℕ) → NoLists schema → kindAt schema n ≡ some uint32s → ⊥
 no-list-at [] n h e = Option·none-ne-some uint32s e
 no-list-at (kind ∷ schema) n h e = go kind h (λ h′ e′. no-list-at schema (n - 1) h′ e′) (eqb n 1) e
   where
@@ -169,7 +169,7 @@ module _ (schema : Schema) (body : List ℕ) (few : length schema ≤ 5) (no-lis
   abbrev Turns : Turn SoFar Reading → Turn Places Body → Type 0
   Turns t t′ = TurnSame Same (seen body schema) t t′
 
-  put-same :
+  pub put-same :
       (n : ℕ) (kind : Kind) (so : SoFar) (m : Places) (v : Place) →
       kindAt schema n ≡ some kind →
       Same so m →

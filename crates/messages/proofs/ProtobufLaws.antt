@@ -27,8 +27,8 @@ use Rattle.protobuf.proofs.FieldLaws.{Ahead, FieldAhead as ProtoAhead, varint-a
 use Rattle.protobuf.proofs.GroupLaws.{GroupAhead, group-ahead}
 use Rattle.protobuf.proofs.WrittenLaws.{varint-short, number-field-none}
 use Rattle.protobuf.proofs.RoundTrip.{behind, reads-varint, reads-number-field, reads-bytes-field}
-use Rattle.messages.specs.Message.{Kind, uint32, bool, bytes, uint32s, Value, number, flag, octets, numbers, kindOf, Schema, kindAt, absent, Fits}
-use Rattle.messages.specs.Format.{Field, field, listed}
+use Rattle.messages.specs.Message.{Kind, uint32, bool, bytes, uint32s, Value, number, flag, octets, numbers, kindOf, Schema, kindAt, absent}
+use Rattle.messages.specs.Format.{Field, field, listed, Fits}
 use Rattle.messages.specs.Protobuf.{protobufBytes, ofVarint, packedOf, ofSpan, wireTypeOf, isOfWire, ofGroup, fieldOf, protobuf}
 use Rattle.messages.proofs.PackedLaws.{turn, scan, turn-ahead}
 use Rattle.messages.proofs.RoundTrip.{Present, FieldAhead, Lawful, listed-value, listed-ahead}
@@ -103,7 +103,7 @@ module _ (schema : Schema) (s : List ℕ) (at n : ℕ) (rest : List ℕ) (some�
       ∙ ap (λ (b : List ℕ). listed schema n (ofSpan b) (at + length (bytesField n bs))) (r .stand)
       ∙ listed-value schema n (ofSpan bs) (at + length (bytesField n bs)) value k o
 
-  reads : (value : Value) → kindAt schema n ≡ some (kindOf value) → Present value → Fits (2 ^ 64 - 1) value → drop at s ≡ protobufBytes n value ++ rest → read-field ≡ field n value (at + length (protobufBytes n value))
+  reads : (value : Value) → kindAt schema n ≡ some (kindOf value) → Present value → Fits protobuf value → drop at s ≡ protobufBytes n value ++ rest → read-field ≡ field n value (at + length (protobufBytes n value))
   unfolding packedField
   reads (number v) k p f e =
       let m : v % 2 ^ 32 ≡ v = omega arith in

@@ -13,8 +13,8 @@ use Rattle.wire.specs.Scan.{on, scanAt}
 use Rattle.wire.proofs.TestLaws.{either}
 use Rattle.wire.proofs.ScanLaws.{TurnAhead, scan-end, scan-on}
 use Rattle.protobuf.proofs.RoundTrip.{behind}
-use Rattle.messages.specs.Message.{Kind, Value, number, flag, octets, numbers, kindOf, Schema, Message, kindAt, absent, Fits, AllFit}
-use Rattle.messages.specs.Format.{Field, field, skipped, unreadable, Format, fieldWith, listed, fieldsFrom, messageBytes, Reading, read, SoFar, turnOf, turnAt, readMessage}
+use Rattle.messages.specs.Message.{Kind, Value, number, flag, octets, numbers, kindOf, Schema, Message, kindAt, absent}
+use Rattle.messages.specs.Format.{Field, field, skipped, unreadable, Format, fieldWith, listed, fieldsFrom, messageBytes, Fits, AllFit, Reading, read, SoFar, turnOf, turnAt, readMessage}
 
 -- ---- a lawful format
 
@@ -39,7 +39,7 @@ pub record Lawful (format : Format) : Type 0 where
       n < 256 →
       kindAt schema n ≡ some (kindOf value) →
       Present value →
-      Fits (format .lengthMost) value →
+      Fits format value →
       drop at s ≡ format .bytesOf n value ++ rest →
       format .fieldAt schema s at ≡ field n value (at + length (format .bytesOf n value))
   pub ahead : (schema : Schema) (s : List ℕ) (at : ℕ) → FieldAhead at (format .fieldAt schema s at)
@@ -111,7 +111,7 @@ module _ (format : Format) (law : Lawful format) (schema : Schema) (s : List ℕ
       last ≤ length done →
       length done + 1 < 256 →
       Present value →
-      Fits (format .lengthMost) value →
+      Fits format value →
       drop at s ≡ format .bytesOf (length done + 1) value ++ rest →
       scan at (last, done ++ blank value ∷ zeros)
       ≡ scan (at + length (format .bytesOf (length done + 1) value)) (length done + 1, done ++ value ∷ zeros)
@@ -131,7 +131,7 @@ module _ (format : Format) (law : Lawful format) (schema : Schema) (s : List ℕ
       schema ≡ map kindOf (done ++ m) →
       last ≤ length done →
       length done + length m < 256 →
-      AllFit (format .lengthMost) m →
+      AllFit format m →
       drop at s ≡ fieldsFrom format (length done + 1) m →
       scan at (last, done ++ map blank m) ≡ read (done ++ m)
   reads-from done [] last at k l few fits e = scan-end (turnAt format schema s) (λ so. read (so .1)) (length s) at (last, done ++ []) (ends at e)
@@ -156,7 +156,7 @@ module _ (format : Format) (law : Lawful format) (schema : Schema) (s : List ℕ
       (presence value)
 
 pub round-trip :
-    (format : Format) → Lawful format → (m : Message) → length m < 256 → AllFit (format .lengthMost) m
+    (format : Format) → Lawful format → (m : Message) → length m < 256 → AllFit format m
     → readMessage format (map kindOf m) (messageBytes format m) ≡ read m
 unfolding readMessage messageBytes
 round-trip format law m few fits = rw all-blank (reads-from format law (map kindOf m) (fieldsFrom format 1 m) [] m 0 0 refl (omega arith) (omega arith) fits refl)

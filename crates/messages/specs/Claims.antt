@@ -1,15 +1,30 @@
--- What is claimed of where a body broke (document 02, "Where the body broke"); proofs/BrokenLaws.antt proves it.
+-- What is claimed of bodies in a format: written and read, and where one broke. proofs/FormatsLaws.antt and proofs/BrokenLaws.antt
+-- prove it of both formats.
 use Prim.Native.Nat.{ℕ, _<_}
 use mathlib.Core.Path.{_≡_}
 use mathlib.Core.Bool.{true}
+use mathlib.Core.Option.{some}
 use mathlib.Core.List.{List, _++_, map}
 use lib.ListN.{length, take}
 use Rattle.wire.specs.Lists.{oneOf}
 use Rattle.wire.specs.Scan.{on, out}
-use Rattle.messages.specs.Message.{Schema, absent}
-use Rattle.messages.specs.Format.{unreadable, Format, read, broken, SoFar, turnAt, readMessage}
+use Rattle.messages.specs.Message.{kindOf, Schema, Message, absent}
+use Rattle.messages.specs.Format.{unreadable, Format, messageBytes, AllFit, read, broken, SoFar, turnAt, readMessage}
 use Rattle.messages.specs.Opcodes.{coreOpcodes, keystoreOpcodes}
-use Rattle.messages.specs.Operations.{inputFields, garbled, asked}
+use Rattle.messages.specs.Operations.{Operation, opcodeOf, inputOf, operationBody, inputFields, garbled, asked, operationOf, Output, Carries, messageOf, outputBytes, answerOf}
+
+-- ---- document 02, "A second body format": a message written is read as itself
+
+pub record ReadsBack (format : Format) : Type 0 where
+  pub message : (m : Message) → length m < 256 → AllFit format m → readMessage format (map kindOf m) (messageBytes format m) ≡ read m
+  -- what is asked is read as what was asked
+  pub operation : (operation : Operation) → AllFit format (inputOf operation)
+      → operationOf format (opcodeOf operation) (operationBody format operation) ≡ some operation
+  -- what a response carries is read as what it carries, whatever its status
+  pub answer : (opcode status : ℕ) (output : Output) → Carries opcode status output → AllFit format (messageOf output)
+      → answerOf format opcode status (outputBytes format output) ≡ some output
+
+-- ---- document 02, "Where the body broke"
 
 -- Reading the body's own fields, each where the one before it ended, comes to `at`, with `so` read so far. A group is one such
 -- field: reading never comes to a place inside of it.

@@ -1,6 +1,8 @@
 pub mod Message
 pub mod Format
 pub mod Protobuf
+pub mod Tagged
+pub mod Formats
 pub mod Opcodes
 pub mod Operations
 pub mod Placed

@@ -81,4 +81,5 @@ protobuf = record {
   fieldAt = λ schema body at. fieldOf schema body (proto.fieldAt body at);
   mayFollow = λ last n. true;
   lengthMost = 2 ^ 64 - 1;
+  entryMost = 10;
 }

@@ -1,3 +1,4 @@
 pub mod Places
+pub mod TaggedPlaces
 pub mod ListBody
 pub mod Bodies

@@ -1,5 +1,7 @@
 // A request's body read as the operation that it asks for, told by its places in the body: no copy is made ("Operations and
 // their fields").
+use crate::format::BodyFormat;
+use crate::format::read_fields;
 use crate::opcodes::LIST_OPCODES;
 use crate::opcodes::LIST_PROVIDERS;
 use crate::opcodes::PING;
@@ -13,13 +15,12 @@ use fields::Kind;
 use fields::Schema;
 use fields::Value;
 use fields::Values;
-use protobuf::body::read_body;
 ghost use mathlib.Core.Path.{_≡_};
 ghost use mathlib.Core.List.{List};
 ghost use Prim.Native.Nat.{ℕ};
 ghost use lib.ListN.{length};
 ghost use Rattle.fields.specs.code.Fields.{ValuesIn};
-ghost use Rattle.messages.specs.Protobuf.{protobuf};
+ghost use Rattle.messages.specs.Formats.{formatOf};
 ghost use Rattle.messages.specs.Operations as message;
 ghost use Rattle.messages.specs.Placed.{askingIn, AskedWithin};
 ghost use Rattle.messages.specs.code.Places.{schemaPlaced, valuesOf, five};
@@ -131,10 +132,10 @@ fn asked_of(opcode: u16, v: Values) -> Asked
 }
 
 // The operation that an opcode and its body ask for.
-pub fn read_operation(opcode: u16, body: &[u8]) -> Asked
-    ensures { λ r. ⌜ (askingIn (now (body .entry)) r ≡ message.asked protobuf opcode (now (body .entry))) × AskedWithin (length (now (body .entry))) r ⌝ }
+pub fn read_operation(format: BodyFormat, opcode: u16, body: &[u8]) -> Asked
+    ensures { λ r. ⌜ (askingIn (now (body .entry)) r ≡ message.asked (formatOf format) opcode (now (body .entry))) × AskedWithin (length (now (body .entry))) r ⌝ }
 {
-    match read_body(body, input_schema(opcode)) {
+    match read_fields(format, body, input_schema(opcode)) {
         Body::Message(v) => asked_of(opcode, v),
         Body::Unreadable(at) => Asked::Unreadable(at),
     }

@@ -1,59 +1,62 @@
 // The bodies of requests and of responses, written over the front of a lent buffer ("Operations and their fields").
+use crate::format::BodyFormat;
+use crate::format::write_bytes;
+use crate::format::write_flag;
+use crate::format::write_list;
+use crate::format::write_number;
 use protobuf::write::bytes_field_size;
-use protobuf::write::write_bytes_field;
-use protobuf::write::write_number_field;
 ghost use mathlib.Core.Path.{_≡_};
 ghost use mathlib.Core.Bool.{true};
 ghost use mathlib.Core.List.{[], _∷_};
-ghost use Prim.Native.Nat.{_+_, _^_, _<_, _≤_};
+ghost use Prim.Native.Nat.{_+_, _*_, _^_, _<_, _≤_};
 ghost use lib.ListN.{length};
 ghost use lib.Dec.{ltb};
-ghost use Rattle.wire.specs.Choice.{if_then_else_};
 ghost use Rattle.wire.specs.Lists.{all};
 ghost use Rattle.wire.specs.code.Wrote.{Wrote};
 ghost use Rattle.messages.specs.Message.{octets, numbers};
 ghost use Rattle.messages.specs.Format.{messageBytes};
+ghost use Rattle.messages.specs.Formats.{formatOf};
 ghost use Rattle.messages.specs.Protobuf.{protobuf};
 ghost use Rattle.messages.specs.Operations.{listOpcodes, importKey, verifySignature, operationBody, version, offset, outputBytes};
-ghost use Rattle.messages.specs.code.Bodies.{fieldRoom, bytesBodyRoom, keyNumbers, keyNumbersRoom, keyBodyRoom, verifyBodyRoom, versionBodyRoom};
-
-// A bool as its field's number.
-fn flag_number(b: bool) -> u64
-    ensures { λ r. ⌜ r ≡ (if b then 1 else 0) ⌝ }
-{
-    if b { 1 } else { 0 }
-}
+ghost use Rattle.messages.specs.code.Bodies.{fieldRoom, bytesBodyRoom, keyNumbers, keyNumbersRoom, keyBodyRoom, verifyBodyRoom, versionBodyRoom, listBodyRoom};
 
 // ListOpcodes' body.
-pub fn write_provider_body(out: &mut [u8], provider: u32) -> usize
+pub fn write_provider_body(format: BodyFormat, out: &mut [u8], provider: u32) -> usize
     requires { ⌜ fieldRoom ≤ length (now out) ⌝ }
-    ensures { λ r. ⌜ Wrote (operationBody protobuf (listOpcodes provider)) (now (out .entry)) (now (out .exit)) r ⌝ }
+    ensures { λ r. ⌜ Wrote (operationBody (formatOf format) (listOpcodes provider)) (now (out .entry)) (now (out .exit)) r ⌝ }
 {
-    write_number_field(out, 1, provider as u64)
+    write_number(format, out, 1, provider)
 }
 
 // Destroy's and Export's; and Export's output.
-pub fn write_bytes_body(out: &mut [u8], bytes: &[u8]) -> usize
-    requires { ⌜ bytesBodyRoom (now bytes) ≤ length (now out) ⌝ }
-    ensures { λ r. ⌜ Wrote (messageBytes protobuf (octets (now (bytes .entry)) ∷ [])) (now (out .entry)) (now (out .exit)) r ⌝ }
+pub fn write_bytes_body(format: BodyFormat, out: &mut [u8], bytes: &[u8]) -> usize
+    requires { ⌜ (length (now bytes) < 2 ^ 16) × (bytesBodyRoom (now bytes) ≤ length (now out)) ⌝ }
+    ensures { λ r. ⌜ Wrote (messageBytes (formatOf format) (octets (now (bytes .entry)) ∷ [])) (now (out .entry)) (now (out .exit)) r ⌝ }
 {
-    write_bytes_field(out, 1, bytes)
+    write_bytes(format, out, 1, bytes)
 }
 
 // The last three fields of Import's.
-fn write_key_numbers(out: &mut [u8], bits: u32, exported: bool, verified: bool) -> usize
+fn write_key_numbers(
+    format: BodyFormat,
+    out: &mut [u8],
+    bits: u32,
+    exported: bool,
+    verified: bool,
+) -> usize
     requires { ⌜ keyNumbersRoom ≤ length (now out) ⌝ }
-    ensures { λ r. ⌜ Wrote (keyNumbers bits exported verified) (now (out .entry)) (now (out .exit)) r × (r ≤ keyNumbersRoom) ⌝ }
+    ensures { λ r. ⌜ Wrote (keyNumbers (formatOf format) bits exported verified) (now (out .entry)) (now (out .exit)) r × (r ≤ keyNumbersRoom) ⌝ }
 {
-    let first = write_number_field(out, 3, bits as u64);
-    let second = write_number_field(&mut out[first..], 4, flag_number(exported));
+    let first = write_number(format, out, 3, bits);
+    let second = write_flag(format, &mut out[first..], 4, exported);
     let behind = first + second;
-    let third = write_number_field(&mut out[behind..], 5, flag_number(verified));
+    let third = write_flag(format, &mut out[behind..], 5, verified);
     behind + third
 }
 
 // Import's.
 pub fn write_key_body(
+    format: BodyFormat,
     out: &mut [u8],
     name: &[u8],
     bytes: &[u8],
@@ -61,25 +64,31 @@ pub fn write_key_body(
     exported: bool,
     verified: bool,
 ) -> usize
-    requires { ⌜ keyBodyRoom (now name) (now bytes) ≤ length (now out) ⌝ }
-    ensures { λ r. ⌜ Wrote (operationBody protobuf (importKey (record { name = now (name .entry); bytes = now (bytes .entry); bits = bits; exportAllowed = exported; verifyAllowed = verified }))) (now (out .entry)) (now (out .exit)) r ⌝ }
+    requires { ⌜ (length (now name) < 2 ^ 16) × (length (now bytes) < 2 ^ 16) × (keyBodyRoom (now name) (now bytes) ≤ length (now out)) ⌝ }
+    ensures { λ r. ⌜ Wrote (operationBody (formatOf format) (importKey (record { name = now (name .entry); bytes = now (bytes .entry); bits = bits; exportAllowed = exported; verifyAllowed = verified }))) (now (out .entry)) (now (out .exit)) r ⌝ }
 {
-    let first = write_bytes_field(out, 1, name);
-    let second = write_bytes_field(&mut out[first..], 2, bytes);
+    let first = write_bytes(format, out, 1, name);
+    let second = write_bytes(format, &mut out[first..], 2, bytes);
     let behind = first + second;
-    let third = write_key_numbers(&mut out[behind..], bits, exported, verified);
+    let third = write_key_numbers(format, &mut out[behind..], bits, exported, verified);
     behind + third
 }
 
 // Verify's.
-pub fn write_verify_body(out: &mut [u8], name: &[u8], hash: &[u8], signature: &[u8]) -> usize
-    requires { ⌜ verifyBodyRoom (now name) (now hash) (now signature) ≤ length (now out) ⌝ }
-    ensures { λ r. ⌜ Wrote (operationBody protobuf (verifySignature (now (name .entry)) (now (hash .entry)) (now (signature .entry)))) (now (out .entry)) (now (out .exit)) r ⌝ }
+pub fn write_verify_body(
+    format: BodyFormat,
+    out: &mut [u8],
+    name: &[u8],
+    hash: &[u8],
+    signature: &[u8],
+) -> usize
+    requires { ⌜ (length (now name) < 2 ^ 16) × (length (now hash) < 2 ^ 16) × (length (now signature) < 2 ^ 16) × (verifyBodyRoom (now name) (now hash) (now signature) ≤ length (now out)) ⌝ }
+    ensures { λ r. ⌜ Wrote (operationBody (formatOf format) (verifySignature (now (name .entry)) (now (hash .entry)) (now (signature .entry)))) (now (out .entry)) (now (out .exit)) r ⌝ }
 {
-    let name_size = write_bytes_field(out, 1, name);
-    let hash_size = write_bytes_field(&mut out[name_size..], 2, hash);
+    let name_size = write_bytes(format, out, 1, name);
+    let hash_size = write_bytes(format, &mut out[name_size..], 2, hash);
     let behind = name_size + hash_size;
-    let signature_size = write_bytes_field(&mut out[behind..], 3, signature);
+    let signature_size = write_bytes(format, &mut out[behind..], 3, signature);
     behind + signature_size
 }
 
@@ -95,27 +104,27 @@ pub fn verify_body_size(name: &[u8], hash: &[u8], signature: &[u8]) -> usize
 }
 
 // Ping's output.
-pub fn write_version_body(out: &mut [u8], major: u32, minor: u32) -> usize
+pub fn write_version_body(format: BodyFormat, out: &mut [u8], major: u32, minor: u32) -> usize
     requires { ⌜ versionBodyRoom ≤ length (now out) ⌝ }
-    ensures { λ r. ⌜ Wrote (outputBytes protobuf (version major minor)) (now (out .entry)) (now (out .exit)) r ⌝ }
+    ensures { λ r. ⌜ Wrote (outputBytes (formatOf format) (version major minor)) (now (out .entry)) (now (out .exit)) r ⌝ }
 {
-    let first = write_number_field(out, 1, major as u64);
-    let second = write_number_field(&mut out[first..], 2, minor as u64);
+    let first = write_number(format, out, 1, major);
+    let second = write_number(format, &mut out[first..], 2, minor);
     first + second
 }
 
-// ListProviders' and ListOpcodes' output: a list of numbers below 128, each of which is its own varint.
-pub fn write_list_body(out: &mut [u8], list: &[u8]) -> usize
-    requires { ⌜ (all (λ n. ltb n 128) (now list) ≡ true) × (bytesBodyRoom (now list) ≤ length (now out)) ⌝ }
-    ensures { λ r. ⌜ Wrote (messageBytes protobuf (numbers (now (list .entry)) ∷ [])) (now (out .entry)) (now (out .exit)) r ⌝ }
+// ListProviders' and ListOpcodes' output, of numbers below 128.
+pub fn write_list_body(format: BodyFormat, out: &mut [u8], list: &[u8]) -> usize
+    requires { ⌜ (all (λ n. ltb n 128) (now list) ≡ true) × (4 * length (now list) < 2 ^ 16) × (listBodyRoom (now list) ≤ length (now out)) ⌝ }
+    ensures { λ r. ⌜ Wrote (messageBytes (formatOf format) (numbers (now (list .entry)) ∷ [])) (now (out .entry)) (now (out .exit)) r ⌝ }
 {
-    write_bytes_field(out, 1, list)
+    write_list(format, out, 1, list)
 }
 
 // Where a body broke.
-pub fn write_offset_body(out: &mut [u8], at: u32) -> usize
+pub fn write_offset_body(format: BodyFormat, out: &mut [u8], at: u32) -> usize
     requires { ⌜ fieldRoom ≤ length (now out) ⌝ }
-    ensures { λ r. ⌜ Wrote (outputBytes protobuf (offset at)) (now (out .entry)) (now (out .exit)) r ⌝ }
+    ensures { λ r. ⌜ Wrote (outputBytes (formatOf format) (offset at)) (now (out .entry)) (now (out .exit)) r ⌝ }
 {
-    write_number_field(out, 1, at as u64)
+    write_number(format, out, 1, at)
 }

@@ -10,12 +10,12 @@ use Rattle.wire.specs.Request.{magicNumber, magic, headerSize}
 use Rattle.wire.specs.Response.{responseHeader, responseBytes, responseHeaderSize, responseLeast, responseOf}
 use Rattle.wire.proofs.NumberLaws.{number-back}
 
-module _ (provider session opcode status : ℕ) (body rest : List ℕ) where
+module _ (provider session contentType opcode status : ℕ) (body rest : List ℕ) where
   abbrev written : List ℕ
-  written = responseBytes provider session opcode status body ++ rest
+  written = responseBytes provider session contentType opcode status body ++ rest
 
   abbrev header : List ℕ
-  header = responseHeader provider session (length body) opcode status
+  header = responseHeader provider session contentType (length body) opcode status
 
   cells : written ≡ header ++ (body ++ rest)
   unfolding responseBytes
@@ -25,7 +25,7 @@ module _ (provider session opcode status : ℕ) (body rest : List ℕ) where
   unfolding responseHeader littleEndianOf
   header-long = refl
 
-  pub response-long : length (responseBytes provider session opcode status body) ≡ responseLeast + length body
+  pub response-long : length (responseBytes provider session contentType opcode status body) ≡ responseLeast + length body
   unfolding responseBytes
   response-long =
       let h = header-long in
@@ -52,7 +52,7 @@ module _ (provider session opcode status : ℕ) (body rest : List ℕ) where
     minor = 0;
     provider = provider;
     session = session;
-    «content_type» = 1;
+    «content_type» = contentType;
     «content_length» = length body;
     opcode = opcode;
     status = status;
@@ -63,7 +63,7 @@ module _ (provider session opcode status : ℕ) (body rest : List ℕ) where
     minor = (ap (field 7 1) cells ∙ number-back 0 0) i;
     provider = (ap (field 8 1) cells ∙ number-back 0 provider) i;
     session = (ap (field 9 8) cells ∙ number-back 7 session) i;
-    «content_type» = (ap (field 17 1) cells ∙ number-back 0 1) i;
+    «content_type» = (ap (field 17 1) cells ∙ number-back 0 contentType) i;
     «content_length» = (ap (field 18 4) cells ∙ number-back 3 (length body)) i;
     opcode = (ap (field 22 2) cells ∙ number-back 1 opcode) i;
     status = (ap (field 24 2) cells ∙ number-back 1 status) i;

@@ -4,10 +4,10 @@ use Prim.Native.Nat.{ℕ, _+_, _*_}
 use mathlib.Core.Bool.{Bool}
 use mathlib.Core.List.{List, _++_}
 use lib.ListN.{length}
-use Rattle.wire.specs.Choice.{if_then_else_}
 use Rattle.keys.specs.Names.{keyNameMost}
 use Rattle.keys.specs.Key.{dataMost}
-use Rattle.protobuf.specs.Written.{numberField}
+use Rattle.messages.specs.Message.{number, flag}
+use Rattle.messages.specs.Format.{Format}
 
 -- a number's field, and the tag and length of another
 abbrev pub fieldRoom : ℕ
@@ -17,9 +17,9 @@ abbrev pub bytesBodyRoom : (bytes : List ℕ) → ℕ
 bytesBodyRoom bytes = length bytes + fieldRoom
 
 -- bits, export allowed, verify allowed
-unfoldable pub keyNumbers : (bits : ℕ) (exported verified : Bool) → List ℕ
-keyNumbers bits exported verified =
-    numberField 3 bits ++ (numberField 4 (if exported then 1 else 0) ++ numberField 5 (if verified then 1 else 0))
+unfoldable pub keyNumbers : Format → (bits : ℕ) (exported verified : Bool) → List ℕ
+keyNumbers format bits exported verified =
+    format .bytesOf 3 (number bits) ++ (format .bytesOf 4 (flag exported) ++ format .bytesOf 5 (flag verified))
 
 abbrev pub keyNumbersRoom : ℕ
 keyNumbersRoom = 3 * fieldRoom
@@ -29,6 +29,9 @@ keyBodyRoom name bytes = length name + length bytes + 5 * fieldRoom
 
 abbrev pub verifyBodyRoom : (name hash signature : List ℕ) → ℕ
 verifyBodyRoom name hash signature = length name + length hash + length signature + 3 * fieldRoom
+
+abbrev pub listBodyRoom : (list : List ℕ) → ℕ
+listBodyRoom list = 4 * length list + fieldRoom
 
 abbrev pub versionBodyRoom : ℕ
 versionBodyRoom = 2 * fieldRoom

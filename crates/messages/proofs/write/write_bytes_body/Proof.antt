@@ -1,17 +1,17 @@
 -- `messages::write::write_bytes_body` meets its contract.
+use Rattle.messages.proofs.WriteLaws.{one-body}
 use borrow.Author.Needs.{needs}
-use Rattle.messages.proofs.WriteLaws.{bytes-body}
 use Rattle.messages.proofs.write.write_bytes_body.Statement.{statement}
 use Rattle.messages.proofs.write.write_bytes_body.Tie as tie
 
-write-bytes-field-requires : tie.Need-write-bytes-field-requires
-write-bytes-field-requires c κs = search needs
+write-bytes-requires : tie.Need-write-bytes-requires
+write-bytes-requires c κs = search needs
 
 same-length : tie.Need-same-length
 same-length c = search needs
 
 returns : tie.Need-returns
-returns c = rw bytes-body (c .before .before .write-bytes-field .ensures)
+returns c = rw one-body (c .before .before .write-bytes .ensures .0)
 
 pub write-bytes-body-spec : {M : Type 1} → statement M
-write-bytes-body-spec = tie.close (tie.spec write-bytes-field-requires same-length returns)
+write-bytes-body-spec = tie.close (tie.spec write-bytes-requires same-length returns)

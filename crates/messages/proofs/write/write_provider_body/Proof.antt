@@ -1,17 +1,17 @@
 -- `messages::write::write_provider_body` meets its contract.
-use borrow.Author.Needs.{needs}
 use Rattle.messages.proofs.WriteLaws.{provider-body}
+use borrow.Author.Needs.{needs}
 use Rattle.messages.proofs.write.write_provider_body.Statement.{statement}
 use Rattle.messages.proofs.write.write_provider_body.Tie as tie
 
-write-number-field-requires : tie.Need-write-number-field-requires
-write-number-field-requires c κs = search needs
+write-number-requires : tie.Need-write-number-requires
+write-number-requires c κs = search needs
 
 same-length : tie.Need-same-length
 same-length c = search needs
 
 returns : tie.Need-returns
-returns c = rw provider-body (c .before .before .write-number-field .ensures)
+returns c = rw provider-body (c .before .before .write-number .ensures .0)
 
 pub write-provider-body-spec : {M : Type 1} → statement M
-write-provider-body-spec = tie.close (tie.spec write-number-field-requires same-length returns)
+write-provider-body-spec = tie.close (tie.spec write-number-requires same-length returns)

@@ -1,37 +1,27 @@
 -- `messages::write::write_version_body` meets its contract.
-use Prim.Native.Nat.{_≤_}
-use native.Mathlib.Omega.{arith}
 use Rattle.wire.proofs.BufferLaws.{wrote-on}
-use Rattle.messages.specs.code.Bodies.{fieldRoom}
-use Rattle.messages.proofs.WriteLaws.{number-short}
-use Rattle.messages.proofs.OperationLaws.{version-bytes}
+use Rattle.messages.proofs.WriteLaws.{version-body}
 use borrow.Author.Needs.{needs}
 use Rattle.messages.proofs.write.write_version_body.Statement.{statement}
 use Rattle.messages.proofs.write.write_version_body.Tie as tie
 
-first-short : (c : tie.After-write-number-field) → c .write-number-field .result ≤ fieldRoom
-first-short c = number-short _ _ (c .write-number-field .ensures)
+write-number-requires : tie.Need-write-number-requires
+write-number-requires c κs = search needs
 
-second-short : (c : tie.After-write-number-field2) → c .write-number-field2 .result ≤ fieldRoom
-second-short c = number-short _ _ (c .write-number-field2 .ensures)
+sub-write-number : tie.Need-sub-write-number
+sub-write-number c = search needs
 
-write-number-field-requires : tie.Need-write-number-field-requires
-write-number-field-requires c κs = search needs
+part-write-number-start : tie.Need-part-write-number-start
+part-write-number-start c = search needs
 
-sub-write-number-field : tie.Need-sub-write-number-field
-sub-write-number-field c = omega (arith, first-short (c .before .before))
+part-write-number-end : tie.Need-part-write-number-end
+part-write-number-end c = search needs
 
-part-write-number-field-start : tie.Need-part-write-number-field-start
-part-write-number-field-start c = omega (arith, first-short (c .before .before))
-
-part-write-number-field-end : tie.Need-part-write-number-field-end
-part-write-number-field-end c = search needs
-
-write-number-field-requires-2 : tie.Need-write-number-field-requires-2
-write-number-field-requires-2 c κs = omega (arith, first-short (c .before .before .before))
+write-number-requires-2 : tie.Need-write-number-requires-2
+write-number-requires-2 c κs = search needs
 
 add-result : tie.Need-add-result
-add-result c = omega (arith, first-short (c .before .before .before .before .before .before), second-short (c .before .before))
+add-result c = search needs
 
 same-length : tie.Need-same-length
 same-length c = search needs
@@ -40,17 +30,17 @@ returns : tie.Need-returns
 returns c =
     let second = c .before .before in
     let first = second .before .before .before .before in
-    rw version-bytes (wrote-on (first .write-number-field .ensures) (second .write-number-field2 .ensures))
+    rw version-body (wrote-on (first .write-number .ensures .0) (second .write-number2 .ensures .0))
 
 pub write-version-body-spec : {M : Type 1} → statement M
 write-version-body-spec =
     tie.close
     (tie.spec
-    write-number-field-requires
-    sub-write-number-field
-    part-write-number-field-start
-    part-write-number-field-end
-    write-number-field-requires-2
+    write-number-requires
+    sub-write-number
+    part-write-number-start
+    part-write-number-end
+    write-number-requires-2
     add-result
     same-length
     returns)
