@@ -1,5 +1,6 @@
 pub mod RoundTrip
 pub mod PackedLaws
+pub mod FoursLaws
 pub mod ProtobufLaws
 pub mod OperationLaws
 pub mod PlacesLaws

@@ -21,6 +21,7 @@ use Rattle.protobuf.proofs.FieldLaws.{Ahead, VarintAhead, varint-ahead}
 use Rattle.messages.specs.Message.{Value, number, flag, octets, numbers, numbersOf}
 use Rattle.messages.specs.Protobuf.{packedTurn, packedOf}
 use Rattle.messages.specs.Placed.{entryTurn, firstEntries, readListOutcome}
+use Rattle.messages.specs.declared.format.BodyFormat.the-variants.{Protobuf}
 
 pub varint-next : (s : List ℕ) (at v next : ℕ) → varintAt s at ≡ Read v next → Ahead (length s) at next
 varint-next s at v next e = rw e at (varint-ahead 9 s at)
@@ -162,24 +163,24 @@ module _ (s : List ℕ) where
           same = sym (rw e at (scan-on entry (λ ns. ns) (length s) entry-ahead at n h)) ∙ l .same;
         }
 
-    outcome : take (length room) (firstEntries s) ≡ l .ns → record { count = count; entries = now′ } ≡ readListOutcome s room
+    outcome : take (length room) (firstEntries s) ≡ l .ns → record { count = count; entries = now′ } ≡ readListOutcome Protobuf s room
     unfolding readListOutcome
     outcome e = rw (e, l .written, l .many)
 
     -- the room is full
-    pub listing-full : length room ≤ count → record { count = count; entries = now′ } ≡ readListOutcome s room
+    pub listing-full : length room ≤ count → record { count = count; entries = now′ } ≡ readListOutcome Protobuf s room
     listing-full h =
         let b = begins at (l .ns) in
         let m : length (l .ns) ≡ length room = (let x = l .many in let y = l .few in omega arith) in
         outcome (ap₂ (λ (k : ℕ) (x : List ℕ). take k x) (sym m) (sym (l .same) ∙ b .same) ∙ take-append-seam (l .ns) (b .rest))
 
-    all-there : firstEntries s ≡ l .ns → record { count = count; entries = now′ } ≡ readListOutcome s room
+    all-there : firstEntries s ≡ l .ns → record { count = count; entries = now′ } ≡ readListOutcome Protobuf s room
     all-there e = outcome (ap (take (length room)) e ∙ take-all (length room) (l .ns) (let x = l .many in let y = l .few in omega arith))
 
-    pub listing-end : length s ≤ at → record { count = count; entries = now′ } ≡ readListOutcome s room
+    pub listing-end : length s ≤ at → record { count = count; entries = now′ } ≡ readListOutcome Protobuf s room
     listing-end h = all-there (sym (l .same) ∙ scan-end entry (λ ns. ns) (length s) at (l .ns) h)
 
-    pub listing-cut : at < length s → varintAt s at ≡ Unreadable → record { count = count; entries = now′ } ≡ readListOutcome s room
+    pub listing-cut : at < length s → varintAt s at ≡ Unreadable → record { count = count; entries = now′ } ≡ readListOutcome Protobuf s room
     listing-cut h e = all-there (sym (l .same) ∙ (rw e at (scan-on entry (λ ns. ns) (length s) entry-ahead at (l .ns) h)))
 
 -- of a list of varints to the end they are all its entries

@@ -14,29 +14,24 @@ use Rattle.wire.proofs.TestLaws.{either}
 use Rattle.wire.proofs.ScanLaws.{scan-end, scan-on}
 use Rattle.protobuf.specs.Field as proto
 use Rattle.protobuf.specs.Group.{depthMost, groupAt}
-use Rattle.protobuf.specs.code.Body.{bodyOf}
 use Rattle.protobuf.specs.declared.field.Field.{Field as ProtoField}
 use Rattle.protobuf.specs.declared.field.Field.the-variants.{Number, Span, Fixed, GroupStart, GroupEnd, Unreadable}
 use Rattle.protobuf.specs.declared.group.Group.{Group}
 use Rattle.protobuf.specs.declared.group.Group.the-variants.{Skipped, Unreadable as noGroup}
-use Rattle.fields.specs.declared.Values.{Values}
 use Rattle.fields.specs.declared.Body.{Body}
-use Rattle.fields.specs.declared.Body.the-variants.{Message as Readable, Unreadable as Broken}
 use Rattle.protobuf.proofs.FieldLaws.{Ahead, FieldAhead, field-ahead}
 use Rattle.protobuf.proofs.GroupLaws.{GroupAhead, group-ahead}
-use Rattle.fields.specs.code.Fields.{ValuesIn}
-use Rattle.protobuf.proofs.BodyLaws.{body-in}
 use Rattle.messages.specs.Message.{uint32, bytes, uint32s, Value, numbers, numberOf, octetsOf, numbersOf, valueAt, Schema, Message}
 use Rattle.messages.specs.Format.{Format, Field, field, skipped, unreadable, fieldWith, listed, Reading, read, broken, SoFar, turnOf, turnAt, readMessage}
 use Rattle.messages.specs.Protobuf.{ofVarint, packedOf, isOfWire, ofGroup, fieldOf, protobuf}
 use Rattle.messages.specs.Operations.{inputFields, askingBy, asked, Output, nothing, version, providers, opcodes, exported, whenRead, readBody, outputOf, offsetOf, answerOf}
 use Rattle.messages.specs.Placed.{firstEntries, listIn, SpanWithin}
-use Rattle.messages.specs.code.Places.{schemaPlaced, NoLists, valuesOf, five, seen}
+use Rattle.messages.specs.code.Places.{NoLists, seen}
 use Rattle.messages.specs.code.ListBody.{listSchema, fieldIn, skippedGroup, skippedField, FieldWithin}
+use Rattle.messages.specs.declared.format.BodyFormat.the-variants.{Protobuf}
 use Rattle.messages.specs.declared.read.Span.{Span as Place}
 use Rattle.messages.proofs.RoundTrip.{turn-ahead}
 use Rattle.messages.proofs.ProtobufLaws.{protobuf-lawful}
-use Rattle.messages.proofs.PlacesLaws.{placed}
 use Rattle.messages.proofs.PackedLaws.{all-entries}
 
 -- ---- a field of a list's body
@@ -96,7 +91,7 @@ module _ (body : List ℕ) where
     no-list e h = one-with e ∙ none-packed (packedOf (take len (drop start body))) h
 
     pub a-list : n ≡ 1 → isSome (packedOf (take len (drop start body))) ≡ true
-        → fieldFor (Span n start len next) ≡ field 1 (numbers (listIn body (record { start = start; len = len }))) next
+        → fieldFor (Span n start len next) ≡ field 1 (numbers (listIn Protobuf body (record { start = start; len = len }))) next
     a-list e h = one-with e ∙ ap (fieldWith 1 next) (all-entries (take len (drop start body)) h)
 
   pub span-ahead : (at n start len next : ℕ) → proto.fieldAt body at ≡ Span n start len next → Ahead (length body) at next × (start + len ≤ length body)
@@ -118,7 +113,7 @@ module _ (body : List ℕ) where
   pub record Reads (span : Place) (at : ℕ) : Type 0 where
     pub last : ℕ
     pub within : SpanWithin (length body) span
-    pub same : scan at (last, numbers (listIn body span) ∷ []) ≡ readMessage protobuf listSchema body
+    pub same : scan at (last, numbers (listIn Protobuf body span) ∷ []) ≡ readMessage protobuf listSchema body
 
   pub reads-none : Reads (record { start = 0; len = 0 }) 0
   unfolding readMessage firstEntries scanAt scanFrom
@@ -126,7 +121,7 @@ module _ (body : List ℕ) where
 
   module _ {span : Place} {at : ℕ} (r : Reads span at) where
     abbrev so : SoFar
-    so = (r .last, numbers (listIn body span) ∷ [])
+    so = (r .last, numbers (listIn Protobuf body span) ∷ [])
 
     here : at < length body → (f : Field) → f ≡ protobuf .fieldAt listSchema body at
         → readMessage protobuf listSchema body ≡ follow (turnOf protobuf at so f) scan
@@ -136,7 +131,7 @@ module _ (body : List ℕ) where
         ∙ ap (λ (x : Field). follow (turnOf protobuf at so x) scan) (sym e)
 
     pub reads-on : (found : Place) (next : ℕ) → at < length body → SpanWithin (length body) found
-        → field 1 (numbers (listIn body found)) next ≡ protobuf .fieldAt listSchema body at → Reads found next
+        → field 1 (numbers (listIn Protobuf body found)) next ≡ protobuf .fieldAt listSchema body at → Reads found next
     reads-on found next h w e = record { last = 1; within = w; same = sym (here h _ e) }
 
     pub reads-past : (next : ℕ) → at < length body → skipped next ≡ protobuf .fieldAt listSchema body at → Reads span next
@@ -149,7 +144,7 @@ module _ (body : List ℕ) where
     unfolding readBody
     reads-broken h e = ap (whenRead list) (here h unreadable e)
 
-    pub reads-end : length body ≤ at → readBody protobuf listSchema body list ≡ some (listIn body span)
+    pub reads-end : length body ≤ at → readBody protobuf listSchema body list ≡ some (listIn Protobuf body span)
     unfolding readBody
     reads-end h = ap (whenRead list) (sym (r .same) ∙ scan-end turn end (length body) at so h)
 
@@ -163,24 +158,17 @@ when-then : {A B : Type 0} (f : Message → A) (g : A → B) (r : Reading) → w
 when-then f g (read m) = refl
 when-then f g (broken at) = refl
 
-pub body-then : {A B : Type 0} (schema : Schema) (body : List ℕ) (f : Message → A) (g : A → B) (o : Option A)
-    → o ≡ readBody protobuf schema body f → map-option g o ≡ readBody protobuf schema body (λ m. g (f m))
+pub body-then : {A B : Type 0} (format : Format) (schema : Schema) (body : List ℕ) (f : Message → A) (g : A → B) (o : Option A)
+    → o ≡ readBody format schema body f → map-option g o ≡ readBody format schema body (λ m. g (f m))
 unfolding readBody
-body-then schema body f g o e = ap (map-option g) e ∙ sym (when-then f g (readMessage protobuf schema body))
+body-then format schema body f g o e = ap (map-option g) e ∙ sym (when-then f g (readMessage format schema body))
 
 -- ---- the other bodies
 
-module _ {A : Type 0} (schema : Schema) (body : List ℕ) (f : Message → A) (few : length schema ≤ 5) (no-lists : NoLists schema) where
-  pub body-read : (m : Values) → bodyOf (schemaPlaced schema) body ≡ Readable m → readBody protobuf schema body f ≡ some (f (valuesOf body schema (five m)))
-  unfolding readBody
-  body-read m e = ap (whenRead f) (placed schema body few no-lists ∙ ap (seen body schema) e)
-
-  pub body-broken : (at : ℕ) → bodyOf (schemaPlaced schema) body ≡ Broken at → readBody protobuf schema body f ≡ none
-  unfolding readBody
-  body-broken at e = ap (whenRead f) (placed schema body few no-lists ∙ ap (seen body schema) e)
-
-  pub body-within : (m : Values) → bodyOf (schemaPlaced schema) body ≡ Readable m → ValuesIn (length body) m
-  body-within m e = rw e at (body-in (schemaPlaced schema) body)
+pub body-as : {A : Type 0} (format : Format) (schema : Schema) (body : List ℕ) (f : Message → A) (r b : Body) → r ≡ b
+    → seen body schema r ≡ readMessage format schema body → whenRead f (seen body schema b) ≡ readBody format schema body f
+unfolding readBody
+body-as format schema body f r b e same = ap (λ (x : Body). whenRead f (seen body schema x)) (sym e) ∙ ap (whenRead f) same
 
 -- ---- what is asked
 
@@ -205,35 +193,35 @@ module _ (opcode : ℕ) where
 
 -- ---- an output, by its opcode
 
-module _ (opcode : ℕ) (body : List ℕ) where
+module _ (format : Format) (opcode : ℕ) (body : List ℕ) where
   abbrev Is : Option Output → Type 0
-  Is o = outputOf protobuf opcode body ≡ o
+  Is o = outputOf format opcode body ≡ o
 
-  pub of-ping : opcode ≡ 1 → Is (readBody protobuf (uint32 ∷ uint32 ∷ []) body (λ m. version (numberOf (valueAt m 1)) (numberOf (valueAt m 2))))
+  pub of-ping : opcode ≡ 1 → Is (readBody format (uint32 ∷ uint32 ∷ []) body (λ m. version (numberOf (valueAt m 1)) (numberOf (valueAt m 2))))
   unfolding outputOf
   of-ping e = rw (e, outputOf)
 
-  pub of-list-providers : opcode ≡ 8 → Is (readBody protobuf listSchema body (λ m. providers (numbersOf (valueAt m 1))))
+  pub of-list-providers : opcode ≡ 8 → Is (readBody format listSchema body (λ m. providers (numbersOf (valueAt m 1))))
   unfolding outputOf
   of-list-providers e = rw (e, outputOf)
 
-  pub of-list-opcodes : opcode ≡ 9 → Is (readBody protobuf listSchema body (λ m. opcodes (numbersOf (valueAt m 1))))
+  pub of-list-opcodes : opcode ≡ 9 → Is (readBody format listSchema body (λ m. opcodes (numbersOf (valueAt m 1))))
   unfolding outputOf
   of-list-opcodes e = rw (e, outputOf)
 
-  pub of-import : opcode ≡ 6 → Is (readBody protobuf [] body (λ m. nothing))
+  pub of-import : opcode ≡ 6 → Is (readBody format [] body (λ m. nothing))
   unfolding outputOf
   of-import e = rw (e, outputOf)
 
-  pub of-destroy : opcode ≡ 3 → Is (readBody protobuf [] body (λ m. nothing))
+  pub of-destroy : opcode ≡ 3 → Is (readBody format [] body (λ m. nothing))
   unfolding outputOf
   of-destroy e = rw (e, outputOf)
 
-  pub of-export : opcode ≡ 7 → Is (readBody protobuf (bytes ∷ []) body (λ m. exported (octetsOf (valueAt m 1))))
+  pub of-export : opcode ≡ 7 → Is (readBody format (bytes ∷ []) body (λ m. exported (octetsOf (valueAt m 1))))
   unfolding outputOf
   of-export e = rw (e, outputOf)
 
-  pub of-verify : opcode ≡ 5 → Is (readBody protobuf [] body (λ m. nothing))
+  pub of-verify : opcode ≡ 5 → Is (readBody format [] body (λ m. nothing))
   unfolding outputOf
   of-verify e = rw (e, outputOf)
 
@@ -243,15 +231,15 @@ module _ (opcode : ℕ) (body : List ℕ) where
 
 -- ---- an output, by its status
 
-module _ (opcode status : ℕ) (body : List ℕ) where
+module _ (format : Format) (opcode status : ℕ) (body : List ℕ) where
   abbrev Has : Option Output → Type 0
-  Has o = answerOf protobuf opcode status body ≡ o
+  Has o = answerOf format opcode status body ≡ o
 
-  pub with-status-0 : status ≡ 0 → Has (outputOf protobuf opcode body)
+  pub with-status-0 : status ≡ 0 → Has (outputOf format opcode body)
   unfolding answerOf
   with-status-0 e = rw (e, answerOf)
 
-  pub with-status-7 : status ≡ 7 → Has (offsetOf protobuf body)
+  pub with-status-7 : status ≡ 7 → Has (offsetOf format body)
   unfolding answerOf
   with-status-7 e = rw (e, answerOf)
 

@@ -35,6 +35,18 @@ tagged-within n (b ∷ s) =
     let head : List ℕ = n ∷ littleEndianOf 2 (length (b ∷ s)) in
     omega (arith, ap length (tagged-field n (b ∷ s) (omega arith)), length-append head (b ∷ s), length-number 2 (length (b ∷ s)))
 
+pub tagged-length : (n : ℕ) (s : List ℕ) → 1 ≤ length s → length (taggedField n s) ≡ length s + 3
+tagged-length n s h =
+    let head : List ℕ = n ∷ littleEndianOf 2 (length s) in
+    omega (arith, ap length (tagged-field n s h), length-append head s, length-number 2 (length s))
+
+pub tagged-least : (n : ℕ) (s : List ℕ) → length s ≤ length (taggedField n s)
+tagged-least n [] = omega arith
+tagged-least n (b ∷ s) = omega (arith, tagged-length n (b ∷ s) (omega arith))
+
+pub one-most : (b : Bool) → length (valueBytes (flag b)) ≤ 1
+one-most b = either (λ (l : List ℕ). length l ≤ 1) b (λ _. omega arith) (λ _. omega arith)
+
 pub four-most : (v : ℕ) → length (valueBytes (number v)) ≤ 4
 four-most v = either (λ (l : List ℕ). length l ≤ 4) (eqb v 0) (λ _. omega arith) (λ _. omega (arith, length-number 4 v))
 

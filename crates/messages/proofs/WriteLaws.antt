@@ -1,25 +1,22 @@
 -- Laws of the bodies that are written: their fields, and how long they are at most.
 use Prim.Native.Nat.{ℕ, _+_, _*_, _/_, _≤_, _<_}
 use native.Mathlib.Omega.{arith}
-use mathlib.Core.Path.{_≡_, refl, sym, ap, _∙_}
+use mathlib.Core.Path.{_≡_, refl, sym, ap}
 use mathlib.Core.Bool.{Bool, true, false}
 use mathlib.Core.List.{List, [], _∷_, _++_, append-nil, append-assoc, flatMap}
 use borrow.Author.Tests.{ltb-true, ltb-false}
 use lib.ListN.{length, length-append}
 use lib.Dec.{ltb, eqb}
-use Rattle.wire.specs.Choice.{if_then_else_}
 use Rattle.wire.specs.code.Wrote.{Wrote}
 use Rattle.wire.specs.Lists.{all}
 use Rattle.wire.proofs.TestLaws.{either, and-left, and-right}
-use Rattle.keys.specs.Names.{keyNameMost}
-use Rattle.keys.specs.Key.{Key, dataMost, bitsMost}
+use Rattle.keys.specs.Key.{Key, dataMost}
 use Rattle.protobuf.specs.Written.{varintWithin, varint, numberField, bytesField, packedField}
 use Rattle.protobuf.proofs.WrittenLaws.{ends, goes-on, varint-short, bytes-field-none, bytes-field-length}
-use Rattle.messages.specs.Message.{Value, number, flag, octets, numbers}
+use Rattle.messages.specs.Message.{Value, number, flag, octets}
 use Rattle.messages.specs.Format.{Format, messageBytes}
-use Rattle.messages.specs.Protobuf.{protobuf}
 use Rattle.messages.specs.Operations.{listOpcodes, importKey, verifySignature, operationBody, version, offset, outputBytes}
-use Rattle.messages.specs.code.Bodies.{fieldRoom, keyNumbers, bodyMost}
+use Rattle.messages.specs.code.Bodies.{fieldRoom, keyNumbers}
 
 -- ---- a field's length
 
@@ -35,7 +32,7 @@ bytes-field-within : (n : ℕ) (bytes : List ℕ)
 bytes-field-within n [] = omega (arith, ap length (bytes-field-none n [] (omega arith)))
 bytes-field-within n (b ∷ bytes) = omega (arith, bytes-field-length n (b ∷ bytes) (omega arith))
 
-bytes-field-least : (n : ℕ) (bytes : List ℕ) → length bytes ≤ length (bytesField n bytes)
+pub bytes-field-least : (n : ℕ) (bytes : List ℕ) → length bytes ≤ length (bytesField n bytes)
 bytes-field-least n [] = omega arith
 bytes-field-least n (b ∷ bytes) = omega (arith, bytes-field-length n (b ∷ bytes) (omega arith))
 
@@ -92,19 +89,7 @@ pub list-field : (n : ℕ) (list : List ℕ) → all (λ n. ltb n 128) list ≡ 
 unfolding packedField
 list-field n list h = ap (bytesField n) (own-varints list h)
 
--- ---- how long Verify's body is
-
-pub verify-body-length : (name hash signature : List ℕ) → length (operationBody protobuf (verifySignature name hash signature))
-    ≡ length (bytesField 1 name) + length (bytesField 2 hash) + length (bytesField 3 signature)
-verify-body-length name hash signature = rw (verify-body protobuf) (simp length-append refl)
-
--- at least what it carries
-pub verify-body-least : (name hash signature : List ℕ)
-    → length name + length hash + length signature ≤ length (operationBody protobuf (verifySignature name hash signature))
-verify-body-least name hash signature =
-    omega (arith, verify-body-length name hash signature, bytes-field-least 1 name, bytes-field-least 2 hash, bytes-field-least 3 signature)
-
--- ---- how long the bodies of the other legal operations are at most
+-- ---- how long a field is at most, in Protocol Buffers
 
 one-byte : (n : ℕ) → n < 128 → length (varint n) ≡ 1
 unfolding varint
@@ -121,37 +106,12 @@ two-bytes n h = go (ltb n 128) refl
         let last : n / 128 < 128 = omega arith in
         omega (arith, ap length (goes-on 8 n more), ap length (ends 8 (n / 128) last))
 
-flag-short : (n : ℕ) (b : Bool) → 8 * n < 128 → length (numberField n (if b then 1 else 0)) ≤ 1 + 1
-flag-short n b h =
-    let value : (if b then 1 else 0) < 128 = either (λ (n : ℕ). n < 128) b (λ _. omega arith) (λ _. omega arith) in
-    omega (arith, number-field-within n (if b then 1 else 0), one-byte (8 * n) h, one-byte (if b then 1 else 0) value)
-
-pub provider-body-short : (provider : ℕ) → length (operationBody protobuf (listOpcodes provider)) ≤ bodyMost
-provider-body-short provider = rw (provider-body protobuf) (omega (arith, number-field-within 1 provider, varint-short (8 * 1), varint-short provider))
-
-name-field-short : (name : List ℕ) → length name ≤ keyNameMost → length (bytesField 1 name) ≤ 1 + 1 + keyNameMost
-name-field-short name h = omega (arith, bytes-field-within 1 name, one-byte (8 * 1 + 2) (omega arith), one-byte (length name) (omega arith))
-
-pub bytes-body-short : (name : List ℕ) → length name ≤ keyNameMost → length (messageBytes protobuf (octets name ∷ [])) ≤ bodyMost
-bytes-body-short name h = rw (one-body protobuf) (omega (arith, name-field-short name h))
-
-pub key-body-short : (key : Key) → length (key .name) ≤ keyNameMost → length (key .bytes) ≤ dataMost → key .bits ≤ bitsMost
-    → length (operationBody protobuf (importKey key)) ≤ bodyMost
-unfolding keyNumbers
-key-body-short key n d b =
-    let data′ : length (bytesField 2 (key .bytes)) ≤ 1 + 2 + dataMost
-    = omega (arith, bytes-field-within 2 (key .bytes), one-byte (8 * 2 + 2) (omega arith), two-bytes (length (key .bytes)) (omega arith)) in
-    let bits : length (numberField 3 (key .bits)) ≤ 1 + 2
-    = omega (arith, number-field-within 3 (key .bits), one-byte (8 * 3) (omega arith), two-bytes (key .bits) (omega arith)) in
-    let exported = flag-short 4 (key .exportAllowed) (omega arith) in
-    let verified = flag-short 5 (key .verifyAllowed) (omega arith) in
-    rw (key-body protobuf) (simp length-append (omega (arith, name-field-short (key .name) n)))
-
--- ---- how long a field is at most, in Protocol Buffers
-
 pub number-within : (n value : ℕ) → length (numberField n value) ≤ fieldRoom
 number-within n value = omega (arith, number-field-within n value, varint-short (8 * n), varint-short value)
 
 pub bytes-within : (bytes : List ℕ) → length bytes ≤ dataMost → length (bytesField 1 bytes) ≤ 3 + length bytes
 bytes-within bytes h =
     omega (arith, bytes-field-within 1 bytes, one-byte (8 * 1 + 2) (omega arith), two-bytes (length bytes) (omega arith))
+
+pub bytes-room : (n : ℕ) (bytes : List ℕ) → length (bytesField n bytes) ≤ length bytes + fieldRoom
+bytes-room n bytes = omega (arith, bytes-field-within n bytes, varint-short (8 * n + 2), varint-short (length bytes))

@@ -1,4 +1,4 @@
--- An operation or an output told by its places in the bytes that it was read from, and a packed list taken apart.
+-- An operation or an output told by its places in the bytes that it was read from, and a list taken apart.
 use Prim.Native.Nat.{ℕ, _+_, _%_, _^_, _≤_}
 use mathlib.Core.Option.{Option, none, some}
 use mathlib.Core.List.{List, [], _∷_, _++_}
@@ -10,6 +10,9 @@ use Rattle.protobuf.specs.declared.varint.Varint.{Varint}
 use Rattle.protobuf.specs.declared.varint.Varint.the-variants.{Read as readVarint, Unreadable as noVarint}
 use Rattle.messages.specs.Operations.{ping, listProviders, listOpcodes, importKey, destroyKey, exportPublicKey, verifySignature, Asking, asks, garbled, Output, nothing, version, providers, opcodes, exported, offset}
 use Rattle.keys.specs.Key.{Key}
+use Rattle.messages.specs.Tagged.{fours}
+use Rattle.messages.specs.declared.format.BodyFormat.{BodyFormat}
+use Rattle.messages.specs.declared.format.BodyFormat.the-variants.{Protobuf, Tagged}
 use Rattle.messages.specs.declared.read.Span.{Span}
 use Rattle.messages.specs.declared.ask.KeyPlaces.{KeyPlaces}
 use Rattle.messages.specs.declared.ask.Asked.{Asked}
@@ -19,24 +22,28 @@ use Rattle.messages.specs.declared.read.Output.the-variants.{Nothing, Ve
 use Rattle.messages.specs.declared.read.OutputRead.{OutputRead}
 use Rattle.messages.specs.declared.read.OutputRead.the-variants.{Read, Unreadable}
 
--- ---- a packed list taken apart, as far as it can be read
+-- ---- a list taken apart, as far as it can be read
 
 abbrev pub entryTurn : List ℕ → Varint → Turn (List ℕ) (List ℕ)
 entryTurn ns (readVarint v next) = on (ns ++ (v % 2 ^ 32 ∷ [])) next
 entryTurn ns noVarint = out ns
 
--- its entries up to the first that is no varint
+-- of a packed one the entries up to the first that is no varint
 unfoldable pub firstEntries : (packed : List ℕ) → List ℕ
 firstEntries packed = scanAt (λ at ns. entryTurn ns (varintAt packed at)) (λ ns. ns) (length packed) 0 []
+
+abbrev pub entriesOf : BodyFormat → List ℕ → List ℕ
+entriesOf Protobuf list = firstEntries list
+entriesOf Tagged list = fours list
 
 pub record ListOutcome : Type 0 where
   pub count : ℕ
   pub entries : List ℕ
 
 -- as many of them as there is room for, over the front of the room
-unfoldable pub readListOutcome : (packed room : List ℕ) → ListOutcome
-readListOutcome packed room =
-    let written = take (length room) (firstEntries packed) in
+unfoldable pub readListOutcome : BodyFormat → (list room : List ℕ) → ListOutcome
+readListOutcome format list room =
+    let written = take (length room) (entriesOf format list) in
     record { count = length written; entries = over written room }
 
 -- ---- places
@@ -63,21 +70,21 @@ askingIn bytes (ExportPublicKey name) = asks (exportPublicKey (spanIn bytes name
 askingIn bytes (VerifySignature name hash signature) = asks (verifySignature (spanIn bytes name) (spanIn bytes hash) (spanIn bytes signature))
 askingIn bytes (notAsked at) = garbled at
 
--- the entries of the packed list that lies there, as `read_list` takes it apart
-abbrev pub listIn : (bytes : List ℕ) → Span → List ℕ
-listIn bytes span = firstEntries (spanIn bytes span)
+-- the entries of the list that lies there, as `read_list` takes it apart
+abbrev pub listIn : BodyFormat → (bytes : List ℕ) → Span → List ℕ
+listIn format bytes span = entriesOf format (spanIn bytes span)
 
-abbrev pub outputIn : (bytes : List ℕ) → OutputPlaces → Output
-outputIn bytes Nothing = nothing
-outputIn bytes (Version major minor) = version major minor
-outputIn bytes (Providers span) = providers (listIn bytes span)
-outputIn bytes (Opcodes span) = opcodes (listIn bytes span)
-outputIn bytes (Data span) = exported (spanIn bytes span)
-outputIn bytes (Offset at) = offset at
+abbrev pub outputIn : BodyFormat → (bytes : List ℕ) → OutputPlaces → Output
+outputIn format bytes Nothing = nothing
+outputIn format bytes (Version major minor) = version major minor
+outputIn format bytes (Providers span) = providers (listIn format bytes span)
+outputIn format bytes (Opcodes span) = opcodes (listIn format bytes span)
+outputIn format bytes (Data span) = exported (spanIn bytes span)
+outputIn format bytes (Offset at) = offset at
 
-abbrev pub readIn : (bytes : List ℕ) → OutputRead → Option Output
-readIn bytes (Read output) = some (outputIn bytes output)
-readIn bytes Unreadable = none
+abbrev pub readIn : BodyFormat → (bytes : List ℕ) → OutputRead → Option Output
+readIn format bytes (Read output) = some (outputIn format bytes output)
+readIn format bytes Unreadable = none
 
 -- ---- they lie within so many bytes
 

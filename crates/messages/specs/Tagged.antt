@@ -28,6 +28,10 @@ unfoldable pub taggedField : (number : ℕ) → List ℕ → List ℕ
 taggedField n [] = []
 taggedField n (b ∷ s) = recordBytes n (b ∷ s)
 
+-- four bytes an entry
+abbrev pub fours : List ℕ → List ℕ
+fours s = map littleEndian (blocks (length s / 4) 4 s)
+
 abbrev pub given : Bool → Value → Option Value
 given test value = if test then some value else none
 
@@ -36,7 +40,7 @@ abbrev pub ofValue : List ℕ → Kind → Option Value
 ofValue s uint32 = given (eqb (length s) 4 && not (eqb (littleEndian s) 0)) (number (littleEndian s))
 ofValue s bool = given (same s (1 ∷ [])) (flag true)
 ofValue s bytes = given (leb 1 (length s)) (octets s)
-ofValue s uint32s = given (leb 1 (length s) && eqb (length s % 4) 0) (numbers (map littleEndian (blocks (length s / 4) 4 s)))
+ofValue s uint32s = given (leb 1 (length s) && eqb (length s % 4) 0) (numbers (fours s))
 
 -- the record that stands at a place
 unfoldable pub taggedAt : Schema → (body : List ℕ) (at : ℕ) → Field

@@ -1,5 +1,6 @@
 // The formats of a body, and its fields read and written by one of them (document 02, "A second body format").
 use crate::tagged::read_tagged;
+use crate::tagged::tagged_size;
 use crate::tagged::write_tagged;
 use crate::tagged::write_tagged_flag;
 use crate::tagged::write_tagged_list;
@@ -7,20 +8,22 @@ use crate::tagged::write_tagged_number;
 use fields::Body;
 use fields::Schema;
 use protobuf::body::read_body;
+use protobuf::write::bytes_field_size;
 use protobuf::write::write_bytes_field;
 use protobuf::write::write_number_field;
 ghost use mathlib.Core.Path.{_≡_};
 ghost use mathlib.Core.Bool.{true};
-ghost use Prim.Native.Nat.{_+_, _*_, _^_, _<_, _≤_};
+ghost use mathlib.Core.List.{List};
+ghost use Prim.Native.Nat.{ℕ, _+_, _*_, _^_, _<_, _≤_};
 ghost use lib.ListN.{length};
 ghost use lib.Dec.{ltb};
 ghost use Rattle.wire.specs.Choice.{if_then_else_};
-ghost use Rattle.wire.specs.Lists.{all};
+ghost use Rattle.wire.specs.Lists.{all, oneOf};
 ghost use Rattle.wire.specs.code.Wrote.{Wrote};
 ghost use Rattle.fields.specs.code.Fields.{BodyIn};
 ghost use Rattle.messages.specs.Message as message;
 ghost use Rattle.messages.specs.Format.{readMessage};
-ghost use Rattle.messages.specs.Formats.{formatOf, formatFor, contentTypeOf};
+ghost use Rattle.messages.specs.Formats.{formatOf, formatFor, contentTypeOf, contentTypes};
 ghost use Rattle.messages.specs.code.Places.{schemaPlaced, NoLists, seen};
 ghost use Rattle.messages.specs.code.Bodies.{fieldRoom};
 
@@ -38,6 +41,15 @@ pub fn format_for(content_type: u8) -> BodyFormat
         return BodyFormat::Tagged;
     }
     BodyFormat::Protobuf
+}
+
+pub fn is_content_type(content_type: u8) -> bool
+    ensures { λ r. ⌜ r ≡ oneOf contentTypes «content_type» ⌝ }
+{
+    if content_type == 1 {
+        return true;
+    }
+    content_type == 2
 }
 
 pub fn content_type_of(format: BodyFormat) -> u8
@@ -96,6 +108,17 @@ pub fn write_bytes(format: BodyFormat, out: &mut [u8], number: u8, bytes: &[u8])
     match format {
         BodyFormat::Protobuf => write_bytes_field(out, number as u64, bytes),
         BodyFormat::Tagged => write_tagged(out, number, bytes),
+    }
+}
+
+// How many bytes a field of `len` bytes takes.
+pub fn bytes_size(format: BodyFormat, number: u8, len: usize) -> usize
+    requires { ⌜ len < 2 ^ 32 ⌝ }
+    ensures { λ r. ⌜ ((bytes : List ℕ) → length bytes ≡ len → r ≡ length (formatOf format .bytesOf number (message.octets bytes))) × (r ≤ len + fieldRoom) ⌝ }
+{
+    match format {
+        BodyFormat::Protobuf => bytes_field_size(number as u64, len),
+        BodyFormat::Tagged => tagged_size(len),
     }
 }
 

@@ -1,5 +1,7 @@
 // A response's body read as the output that an opcode has, told by its places in the body: no copy is made ("Operations and
 // their fields").
+use crate::format::BodyFormat;
+use crate::format::read_fields;
 use crate::opcodes::LIST_OPCODES;
 use crate::opcodes::LIST_PROVIDERS;
 use crate::opcodes::PING;
@@ -7,22 +9,25 @@ use crate::opcodes::PSA_ASYMMETRIC_VERIFY;
 use crate::opcodes::PSA_DESTROY_KEY;
 use crate::opcodes::PSA_EXPORT_PUBLIC_KEY;
 use crate::opcodes::PSA_IMPORT_KEY;
+use crate::tagged::read_tagged;
 use fields::Body;
 use fields::Kind;
 use fields::Schema;
-use protobuf::body::read_body;
 use protobuf::field::Field;
 use protobuf::field::read_field;
 use protobuf::group::Group;
 use protobuf::group::skip_group;
 use protobuf::varint::Varint;
 use protobuf::varint::read_varint;
+use wire::number::read_u32;
 ghost use mathlib.Core.Path.{_≡_};
 ghost use mathlib.Core.List.{[], _∷_};
 ghost use lib.ListN.{length};
 ghost use Rattle.wire.specs.Choice.{isSome};
 ghost use Rattle.messages.specs.Message.{uint32, bytes, numberOf, octetsOf, numbersOf, valueAt};
 ghost use Rattle.messages.specs.Protobuf.{packedOf, protobuf};
+ghost use Rattle.messages.specs.Tagged.{tagged};
+ghost use Rattle.messages.specs.Formats.{formatOf};
 ghost use Rattle.messages.specs.Operations.{nothing, version, exported, readBody, outputOf, offsetOf, answerOf};
 ghost use Rattle.messages.specs.Placed.{readIn, ReadWithin, readListOutcome};
 ghost use Rattle.messages.specs.code.ListBody.{listSchema, fieldIn, skippedField, FieldWithin, entriesIn, ListWithin};
@@ -33,7 +38,7 @@ pub struct Span {
     pub len: usize,
 }
 
-// A list is a span of packed varints; `read_list` takes it apart.
+// A list is a span of packed varints, or of four bytes an entry; `read_list` takes it apart.
 pub enum Output {
     Nothing,
     Version(u32, u32),
@@ -119,9 +124,9 @@ fn read_list_field(body: &[u8], at: usize) -> ListField
     ListField::At(Span { start, len }, next)
 }
 
-// The list in the body: each of its fields is read, and the last one counts; an absent one is empty.
-fn read_list_body(body: &[u8]) -> ListRead
-    ensures { λ r. ⌜ (entriesIn (now (body .entry)) r ≡ readBody protobuf listSchema (now (body .entry)) (λ m. numbersOf (valueAt m 1))) × ListWithin (length (now (body .entry))) r ⌝ }
+// Format 1's list: each of its fields is read, and the last one counts; an absent one is empty.
+fn read_packed_body(body: &[u8]) -> ListRead
+    ensures { λ r. ⌜ (entriesIn BodyFormat.Protobuf (now (body .entry)) r ≡ readBody protobuf listSchema (now (body .entry)) (λ m. numbersOf (valueAt m 1))) × ListWithin (length (now (body .entry))) r ⌝ }
 {
     let mut span = Span { start: 0, len: 0 };
     let mut at = 0;
@@ -142,26 +147,9 @@ fn read_list_body(body: &[u8]) -> ListRead
     ListRead::List(span)
 }
 
-// Two uint32 fields.
-fn read_version(body: &[u8]) -> OutputRead
-    ensures { λ r. ⌜ (readIn (now (body .entry)) r ≡ readBody protobuf (uint32 ∷ uint32 ∷ []) (now (body .entry)) (λ m. version (numberOf (valueAt m 1)) (numberOf (valueAt m 2)))) × ReadWithin (length (now (body .entry))) r ⌝ }
-{
-    let schema = Schema {
-        k1: Kind::Uint32,
-        k2: Kind::Uint32,
-        k3: Kind::Unlisted,
-        k4: Kind::Unlisted,
-        k5: Kind::Unlisted,
-    };
-    match read_body(body, schema) {
-        Body::Message(m) => OutputRead::Read(Output::Version(m.f1.number, m.f2.number)),
-        Body::Unreadable(_) => OutputRead::Unreadable,
-    }
-}
-
-// One field of bytes.
-fn read_data(body: &[u8]) -> OutputRead
-    ensures { λ r. ⌜ (readIn (now (body .entry)) r ≡ readBody protobuf (bytes ∷ []) (now (body .entry)) (λ m. exported (octetsOf (valueAt m 1)))) × ReadWithin (length (now (body .entry))) r ⌝ }
+// Format 2's: its one field, read as bytes, must be whole entries.
+fn read_fours_body(body: &[u8]) -> ListRead
+    ensures { λ r. ⌜ (entriesIn BodyFormat.Tagged (now (body .entry)) r ≡ readBody tagged listSchema (now (body .entry)) (λ m. numbersOf (valueAt m 1))) × ListWithin (length (now (body .entry))) r ⌝ }
 {
     let schema = Schema {
         k1: Kind::Bytes,
@@ -170,7 +158,58 @@ fn read_data(body: &[u8]) -> OutputRead
         k4: Kind::Unlisted,
         k5: Kind::Unlisted,
     };
-    match read_body(body, schema) {
+    match read_tagged(body, schema) {
+        Body::Message(m) => {
+            if m.f1.len % 4 != 0 {
+                return ListRead::Unreadable;
+            }
+            ListRead::List(Span {
+                start: m.f1.start,
+                len: m.f1.len,
+            })
+        }
+        Body::Unreadable(_) => ListRead::Unreadable,
+    }
+}
+
+fn read_list_body(format: BodyFormat, body: &[u8]) -> ListRead
+    ensures { λ r. ⌜ (entriesIn format (now (body .entry)) r ≡ readBody (formatOf format) listSchema (now (body .entry)) (λ m. numbersOf (valueAt m 1))) × ListWithin (length (now (body .entry))) r ⌝ }
+{
+    match format {
+        BodyFormat::Protobuf => read_packed_body(body),
+        BodyFormat::Tagged => read_fours_body(body),
+    }
+}
+
+// Two uint32 fields.
+fn read_version(format: BodyFormat, body: &[u8]) -> OutputRead
+    ensures { λ r. ⌜ (readIn format (now (body .entry)) r ≡ readBody (formatOf format) (uint32 ∷ uint32 ∷ []) (now (body .entry)) (λ m. version (numberOf (valueAt m 1)) (numberOf (valueAt m 2)))) × ReadWithin (length (now (body .entry))) r ⌝ }
+{
+    let schema = Schema {
+        k1: Kind::Uint32,
+        k2: Kind::Uint32,
+        k3: Kind::Unlisted,
+        k4: Kind::Unlisted,
+        k5: Kind::Unlisted,
+    };
+    match read_fields(format, body, schema) {
+        Body::Message(m) => OutputRead::Read(Output::Version(m.f1.number, m.f2.number)),
+        Body::Unreadable(_) => OutputRead::Unreadable,
+    }
+}
+
+// One field of bytes.
+fn read_data(format: BodyFormat, body: &[u8]) -> OutputRead
+    ensures { λ r. ⌜ (readIn format (now (body .entry)) r ≡ readBody (formatOf format) (bytes ∷ []) (now (body .entry)) (λ m. exported (octetsOf (valueAt m 1)))) × ReadWithin (length (now (body .entry))) r ⌝ }
+{
+    let schema = Schema {
+        k1: Kind::Bytes,
+        k2: Kind::Unlisted,
+        k3: Kind::Unlisted,
+        k4: Kind::Unlisted,
+        k5: Kind::Unlisted,
+    };
+    match read_fields(format, body, schema) {
         Body::Message(m) => OutputRead::Read(Output::Data(Span {
             start: m.f1.start,
             len: m.f1.len,
@@ -180,8 +219,8 @@ fn read_data(body: &[u8]) -> OutputRead
 }
 
 // No field.
-fn read_nothing(body: &[u8]) -> OutputRead
-    ensures { λ r. ⌜ (readIn (now (body .entry)) r ≡ readBody protobuf [] (now (body .entry)) (λ m. nothing)) × ReadWithin (length (now (body .entry))) r ⌝ }
+fn read_nothing(format: BodyFormat, body: &[u8]) -> OutputRead
+    ensures { λ r. ⌜ (readIn format (now (body .entry)) r ≡ readBody (formatOf format) [] (now (body .entry)) (λ m. nothing)) × ReadWithin (length (now (body .entry))) r ⌝ }
 {
     let schema = Schema {
         k1: Kind::Unlisted,
@@ -190,15 +229,15 @@ fn read_nothing(body: &[u8]) -> OutputRead
         k4: Kind::Unlisted,
         k5: Kind::Unlisted,
     };
-    match read_body(body, schema) {
+    match read_fields(format, body, schema) {
         Body::Message(_) => OutputRead::Read(Output::Nothing),
         Body::Unreadable(_) => OutputRead::Unreadable,
     }
 }
 
 // Where a body broke: one uint32 field.
-fn read_offset(body: &[u8]) -> OutputRead
-    ensures { λ r. ⌜ (readIn (now (body .entry)) r ≡ offsetOf protobuf (now (body .entry))) × ReadWithin (length (now (body .entry))) r ⌝ }
+fn read_offset(format: BodyFormat, body: &[u8]) -> OutputRead
+    ensures { λ r. ⌜ (readIn format (now (body .entry)) r ≡ offsetOf (formatOf format) (now (body .entry))) × ReadWithin (length (now (body .entry))) r ⌝ }
 {
     let schema = Schema {
         k1: Kind::Uint32,
@@ -207,55 +246,55 @@ fn read_offset(body: &[u8]) -> OutputRead
         k4: Kind::Unlisted,
         k5: Kind::Unlisted,
     };
-    match read_body(body, schema) {
+    match read_fields(format, body, schema) {
         Body::Message(m) => OutputRead::Read(Output::Offset(m.f1.number)),
         Body::Unreadable(_) => OutputRead::Unreadable,
     }
 }
 
 // The output that a response with status 0 has, by the opcode of its request.
-pub fn read_output(opcode: u16, body: &[u8]) -> OutputRead
-    ensures { λ r. ⌜ (readIn (now (body .entry)) r ≡ outputOf protobuf opcode (now (body .entry))) × ReadWithin (length (now (body .entry))) r ⌝ }
+pub fn read_output(format: BodyFormat, opcode: u16, body: &[u8]) -> OutputRead
+    ensures { λ r. ⌜ (readIn format (now (body .entry)) r ≡ outputOf (formatOf format) opcode (now (body .entry))) × ReadWithin (length (now (body .entry))) r ⌝ }
 {
     if opcode == PING {
-        return read_version(body);
+        return read_version(format, body);
     }
     if opcode == LIST_PROVIDERS {
-        return match read_list_body(body) {
+        return match read_list_body(format, body) {
             ListRead::List(span) => OutputRead::Read(Output::Providers(span)),
             ListRead::Unreadable => OutputRead::Unreadable,
         };
     }
     if opcode == LIST_OPCODES {
-        return match read_list_body(body) {
+        return match read_list_body(format, body) {
             ListRead::List(span) => OutputRead::Read(Output::Opcodes(span)),
             ListRead::Unreadable => OutputRead::Unreadable,
         };
     }
     if opcode == PSA_IMPORT_KEY {
-        return read_nothing(body);
+        return read_nothing(format, body);
     }
     if opcode == PSA_DESTROY_KEY {
-        return read_nothing(body);
+        return read_nothing(format, body);
     }
     if opcode == PSA_EXPORT_PUBLIC_KEY {
-        return read_data(body);
+        return read_data(format, body);
     }
     if opcode == PSA_ASYMMETRIC_VERIFY {
-        return read_nothing(body);
+        return read_nothing(format, body);
     }
     OutputRead::Unreadable
 }
 
 // The output that a response has, by its status and the opcode of its request.
-pub fn read_answer(opcode: u16, status: u16, body: &[u8]) -> OutputRead
-    ensures { λ r. ⌜ (readIn (now (body .entry)) r ≡ answerOf protobuf opcode status (now (body .entry))) × ReadWithin (length (now (body .entry))) r ⌝ }
+pub fn read_answer(format: BodyFormat, opcode: u16, status: u16, body: &[u8]) -> OutputRead
+    ensures { λ r. ⌜ (readIn format (now (body .entry)) r ≡ answerOf (formatOf format) opcode status (now (body .entry))) × ReadWithin (length (now (body .entry))) r ⌝ }
 {
     if status == 0 {
-        return read_output(opcode, body);
+        return read_output(format, opcode, body);
     }
     if status == 7 {
-        return read_offset(body);
+        return read_offset(format, body);
     }
     if body.len() == 0 {
         return OutputRead::Read(Output::Nothing);
@@ -265,8 +304,8 @@ pub fn read_answer(opcode: u16, status: u16, body: &[u8]) -> OutputRead
 
 // Takes a packed list apart: its first entries over the front of `entries`, as many as there is room for, up to the first that
 // is no varint. Says how many.
-pub fn read_list(packed: &[u8], entries: &mut [u32]) -> usize
-    ensures { λ r. ⌜ record { count = r; entries = now (entries .exit) } ≡ readListOutcome (now (packed .entry)) (now (entries .entry)) ⌝ }
+fn read_packed(packed: &[u8], entries: &mut [u32]) -> usize
+    ensures { λ r. ⌜ record { count = r; entries = now (entries .exit) } ≡ readListOutcome BodyFormat.Protobuf (now (packed .entry)) (now (entries .entry)) ⌝ }
 {
     let mut count: usize = 0;
     let mut at = 0;
@@ -282,4 +321,31 @@ pub fn read_list(packed: &[u8], entries: &mut [u32]) -> usize
         at = next;
     }
     count
+}
+
+// One of four bytes an entry: bytes behind the last whole entry are none.
+fn read_fours(list: &[u8], entries: &mut [u32]) -> usize
+    ensures { λ r. ⌜ record { count = r; entries = now (entries .exit) } ≡ readListOutcome BodyFormat.Tagged (now (list .entry)) (now (entries .entry)) ⌝ }
+{
+    let mut count: usize = 0;
+    let mut at: usize = 0;
+    while count < entries.len() {
+        if list.len() - at < 4 {
+            return count;
+        }
+        entries[count] = read_u32(list, at);
+        count += 1;
+        at += 4;
+    }
+    count
+}
+
+// Takes a list apart: its first entries over the front of `entries`, as many as there is room for. Says how many.
+pub fn read_list(format: BodyFormat, list: &[u8], entries: &mut [u32]) -> usize
+    ensures { λ r. ⌜ record { count = r; entries = now (entries .exit) } ≡ readListOutcome format (now (list .entry)) (now (entries .entry)) ⌝ }
+{
+    match format {
+        BodyFormat::Protobuf => read_packed(list, entries),
+        BodyFormat::Tagged => read_fours(list, entries),
+    }
 }

@@ -14,8 +14,8 @@ use wire::number::bytes_of_u32;
 use wire::number::read_u32;
 ghost use mathlib.Core.Path.{_≡_};
 ghost use mathlib.Core.Option.{bind};
-ghost use mathlib.Core.List.{_∷_, flatMap};
-ghost use Prim.Native.Nat.{_+_, _*_, _^_, _<_, _≤_};
+ghost use mathlib.Core.List.{List, _∷_, flatMap};
+ghost use Prim.Native.Nat.{ℕ, _+_, _*_, _^_, _<_, _≤_};
 ghost use lib.ListN.{length, take, drop};
 ghost use Rattle.wire.specs.Numbers.{littleEndianOf};
 ghost use Rattle.wire.specs.code.Wrote.{Wrote};
@@ -148,6 +148,17 @@ pub fn write_tagged(out: &mut [u8], number: u8, value: &[u8]) -> usize
     let start = copy_into(out, &head);
     let size = copy_into(&mut out[start..], value);
     start + size
+}
+
+// How many bytes a field of `len` bytes takes.
+pub fn tagged_size(len: usize) -> usize
+    requires { ⌜ len < 2 ^ 32 ⌝ }
+    ensures { λ r. ⌜ ((number : ℕ) (bytes : List ℕ) → length bytes ≡ len → r ≡ length (tagged.taggedField number bytes)) × (r ≤ len + 3) ⌝ }
+{
+    if len < 1 {
+        return 0;
+    }
+    len + 3
 }
 
 // A number's field; 0 is left out.

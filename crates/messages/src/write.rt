@@ -1,10 +1,10 @@
 // The bodies of requests and of responses, written over the front of a lent buffer ("Operations and their fields").
 use crate::format::BodyFormat;
+use crate::format::bytes_size;
 use crate::format::write_bytes;
 use crate::format::write_flag;
 use crate::format::write_list;
 use crate::format::write_number;
-use protobuf::write::bytes_field_size;
 ghost use mathlib.Core.Path.{_≡_};
 ghost use mathlib.Core.Bool.{true};
 ghost use mathlib.Core.List.{[], _∷_};
@@ -16,7 +16,6 @@ ghost use Rattle.wire.specs.code.Wrote.{Wrote};
 ghost use Rattle.messages.specs.Message.{octets, numbers};
 ghost use Rattle.messages.specs.Format.{messageBytes};
 ghost use Rattle.messages.specs.Formats.{formatOf};
-ghost use Rattle.messages.specs.Protobuf.{protobuf};
 ghost use Rattle.messages.specs.Operations.{listOpcodes, importKey, verifySignature, operationBody, version, offset, outputBytes};
 ghost use Rattle.messages.specs.code.Bodies.{fieldRoom, bytesBodyRoom, keyNumbers, keyNumbersRoom, keyBodyRoom, verifyBodyRoom, versionBodyRoom, listBodyRoom};
 
@@ -93,13 +92,13 @@ pub fn write_verify_body(
 }
 
 // How many bytes Verify's would take, for a client that must refuse it before it writes any.
-pub fn verify_body_size(name: &[u8], hash: &[u8], signature: &[u8]) -> usize
+pub fn verify_body_size(format: BodyFormat, name: &[u8], hash: &[u8], signature: &[u8]) -> usize
     requires { ⌜ (length (now name) < 2 ^ 32) × (length (now hash) < 2 ^ 32) × (length (now signature) < 2 ^ 32) ⌝ }
-    ensures { λ r. ⌜ r ≡ length (operationBody protobuf (verifySignature (now (name .entry)) (now (hash .entry)) (now (signature .entry)))) ⌝ }
+    ensures { λ r. ⌜ r ≡ length (operationBody (formatOf format) (verifySignature (now (name .entry)) (now (hash .entry)) (now (signature .entry)))) ⌝ }
 {
-    let name_size = bytes_field_size(1, name.len());
-    let hash_size = bytes_field_size(2, hash.len());
-    let signature_size = bytes_field_size(3, signature.len());
+    let name_size = bytes_size(format, 1, name.len());
+    let hash_size = bytes_size(format, 2, hash.len());
+    let signature_size = bytes_size(format, 3, signature.len());
     name_size + hash_size + signature_size
 }
 

@@ -1,11 +1,8 @@
--- How much room bodies ask for, how long those of legal requests are but Verify's, and the part of Import's
--- that is written by itself.
+-- How much room bodies ask for, and the part of Import's that is written by itself.
 use Prim.Native.Nat.{ℕ, _+_, _*_}
 use mathlib.Core.Bool.{Bool}
 use mathlib.Core.List.{List, _++_}
 use lib.ListN.{length}
-use Rattle.keys.specs.Names.{keyNameMost}
-use Rattle.keys.specs.Key.{dataMost}
 use Rattle.messages.specs.Message.{number, flag}
 use Rattle.messages.specs.Format.{Format}
 
@@ -35,8 +32,3 @@ listBodyRoom list = 4 * length list + fieldRoom
 
 abbrev pub versionBodyRoom : ℕ
 versionBodyRoom = 2 * fieldRoom
-
--- but for Verify's, whose signature only the client bounds, the longest body of a legal operation is Import's: tag, length and
--- name; tag, length and data; bits; two permissions
-abbrev pub bodyMost : ℕ
-bodyMost = (1 + 1 + keyNameMost) + (1 + 2 + dataMost) + (1 + 2) + 2 * (1 + 1)

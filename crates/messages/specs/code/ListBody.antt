@@ -10,6 +10,8 @@ use Rattle.protobuf.specs.declared.group.Group.the-variants.{Skipped, Unreadabl
 use Rattle.messages.specs.Message.{Schema, uint32s, numbers}
 use Rattle.messages.specs.Format.{Field, field, skipped, unreadable}
 use Rattle.messages.specs.Placed.{listIn, SpanWithin}
+use Rattle.messages.specs.declared.format.BodyFormat.{BodyFormat}
+use Rattle.messages.specs.declared.format.BodyFormat.the-variants.{Protobuf}
 use Rattle.messages.specs.declared.read.ListField.{ListField}
 use Rattle.messages.specs.declared.read.ListField.the-variants.{At, Skipped as skippedTo, Unreadable as noField}
 use Rattle.messages.specs.declared.read.ListRead.{ListRead}
@@ -19,7 +21,7 @@ abbrev pub listSchema : Schema
 listSchema = uint32s ∷ []
 
 abbrev pub fieldIn : (body : List ℕ) → ListField → Field
-fieldIn body (At span next) = field 1 (numbers (listIn body span)) next
+fieldIn body (At span next) = field 1 (numbers (listIn Protobuf body span)) next
 fieldIn body (skippedTo next) = skipped next
 fieldIn body noField = unreadable
 
@@ -42,9 +44,9 @@ FieldWithin most at (At span next) = SpanWithin most span × (at < next) × (nex
 FieldWithin most at (skippedTo next) = (at < next) × (next ≤ most)
 FieldWithin most at noField = Unit {0}
 
-abbrev pub entriesIn : (body : List ℕ) → ListRead → Option (List ℕ)
-entriesIn body (ListAt span) = some (listIn body span)
-entriesIn body noList = none
+abbrev pub entriesIn : BodyFormat → (body : List ℕ) → ListRead → Option (List ℕ)
+entriesIn format body (ListAt span) = some (listIn format body span)
+entriesIn format body noList = none
 
 abbrev pub ListWithin : (most : ℕ) → ListRead → Type 0
 ListWithin most (ListAt span) = SpanWithin most span
