@@ -27,8 +27,8 @@ use Rattle.shipped.specs.Shipped.{keysIn}
 use Rattle.judgement.specs.Status.{statusNumber}
 use Rattle.messages.specs.Opcodes.{coreOpcodes, opcodesOf}
 use Rattle.judgement.specs.Operations.{Result, refuse, operated}
-use Rattle.messages.specs.Protobuf.{protobuf}
-use Rattle.messages.proofs.OperationLaws.{nothing-bytes}
+use Rattle.messages.specs.Formats.{formatOf, formatFor, contentTypeOf}
+use Rattle.messages.proofs.FormatsLaws.{nothing-bytes}
 use Rattle.judgement.specs.Counts.{Counts, countRefused, count}
 use Rattle.judgement.specs.Judgement.{applicationOf, refusals, askersSlots, resultOf, changedBy, verdictOf, refusedEarly, oversizedStatus, judgement}
 use Rattle.judgement.specs.code.Decided.{headerTestCount, headerTests, namedOr, authOf, askersLine, outputBytes, resultIn, Decided, AskerBelow}
@@ -132,7 +132,7 @@ module _ (list registry bytes : List ℕ) where
 
     operated-result : firstOf (authTests registry (requestOf bytes)) ≡ none
         → resultOf list registry (requestOf bytes)
-        ≡ operated protobuf (requestOf bytes .opcode) (requestOf bytes .body) (askersSlots registry (applicationOf registry (requestOf bytes))) (keysIn list)
+        ≡ operated (formatOf (formatFor (requestOf bytes .contentType))) (requestOf bytes .opcode) (requestOf bytes .body) (askersSlots registry (applicationOf registry (requestOf bytes))) (keysIn list)
     unfolding resultOf
     operated-result e = rw (later-tests ∙ e, resultOf)
 
@@ -159,7 +159,7 @@ module _ (list registry bytes : List ℕ) where
 
     pub by-application : (line : Line) → authFound registry bytes ≡ Accepted (Named line)
         → (applicationOf registry (requestOf bytes) ≡ some line)
-        × (resultOf list registry (requestOf bytes) ≡ operated protobuf (requestOf bytes .opcode) (requestOf bytes .body) (slotsOf registry line) (keysIn list))
+        × (resultOf list registry (requestOf bytes) ≡ operated (formatOf (formatFor (requestOf bytes .contentType))) (requestOf bytes .opcode) (requestOf bytes .body) (slotsOf registry line) (keysIn list))
     unfolding askersSlots
     by-application line e =
         let t : Told registry (requestOf bytes) (some line) none = subst (ToldBy registry (requestOf bytes)) e told-found in
@@ -190,7 +190,7 @@ module _ (request : List ℕ) where
 -- its response was written: `n` bytes
 pub decided-answered : {slots : List Entry} {list body : List ℕ} {x : Result} {d : Decision} {before after : List ℕ} {n : ℕ} (h : Header) (who : Asker)
     → Decided slots list body x d
-    → Wrote (responseBytes (h .provider) (h .session) (h .opcode) (statusNumber (d .status)) (outputBytes slots list (d .output))) before after n
+    → Wrote (responseBytes (h .provider) (h .session) (contentTypeOf (formatFor (h .«accept_type»))) (h .opcode) (statusNumber (d .status)) (outputBytes (formatOf (formatFor (h .«accept_type»))) slots list (d .output))) before after n
     → (recorded : ℕ) → ResultAnswered h x who before after (record { status = d .status; asker = who; written = n; recorded = recorded })
 unfolding resultIn
 decided-answered h who e w recorded = record { status = rw (← e .result); asker = refl; response = rw (← e .result) w }
@@ -228,9 +228,9 @@ refused-act list registry q status e h = rw (e, ne-eqb (statusNumber status) 0 (
 module _ {before after : List ℕ} {r : Answered} where
   -- before the last byte, or at the wrong start
   pub answered-early : (provider session opcode : ℕ) (status : Status) → 0 < statusNumber status
-      → RefusedWith provider session opcode status before after r
+      → RefusedWith provider session 1 opcode status before after r
       → (registry journal : List ℕ) → AnsweredBy (λ c. handing [] (refusedEarly registry c provider session opcode status)) registry before after journal journal r
-  unfolding refusedEarly
+  unfolding refusedEarly contentTypeOf
   answered-early provider session opcode status h w registry journal = record {
     response = w .2;
     recorded = no-record journal (r .recorded) (w .3);
@@ -240,18 +240,18 @@ module _ {before after : List ℕ} {r : Answered} where
   }
 
   pub answered-oversized : (header : List ℕ) (status : Status) → oversizedStatus header ≡ status → 0 < statusNumber status
-      → RefusedWith (headerOf header .provider) (headerOf header .session) (headerOf header .opcode) status before after r
+      → RefusedWith (headerOf header .provider) (headerOf header .session) 1 (headerOf header .opcode) status before after r
       → (list registry journal : List ℕ) → AnsweredBy (λ c. journalling list .onOversized registry c header) registry before after journal journal r
   unfolding journalling judgement headerOf
   answered-oversized header status e h w list registry journal = rw e (answered-early _ _ _ status h w registry journal)
 
   module _ (list registry request : List ℕ) where
     pub answered-refused : (journal : List ℕ) (status : Status) → resultOf list registry (requestOf request) ≡ refuse status → 0 < statusNumber status
-        → RefusedWith (headerOf request .provider) (headerOf request .session) (headerOf request .opcode) status before after r
+        → RefusedWith (headerOf request .provider) (headerOf request .session) (contentTypeOf (formatFor (headerOf request .«accept_type»))) (headerOf request .opcode) status before after r
         → AnsweredBy (λ c. journalling list .onRequest registry c request) registry before after journal journal r
     unfolding journalling recordedFor judgement verdictOf headerOf refuse
     answered-refused journal status e h w = record {
-      response = rw (e, nothing-bytes) (w .2);
+      response = rw (e, nothing-bytes (formatFor (headerOf request .«accept_type»))) (w .2);
       recorded = subst (λ (x : List ℕ). Wrote x journal journal (r .recorded)) (sym (refused-act list registry (requestOf request) status e h)) (no-record journal (r .recorded) (w .3));
       kept = rw e (sym (refused-kept registry (applicationOf registry (requestOf request)) status));
       counts = λ c. rw (e, w .0) (refused-count c _ status h ∙ sym (refused-count c _ status h));

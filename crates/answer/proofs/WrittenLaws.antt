@@ -15,12 +15,12 @@ use Rattle.wire.specs.Lists.{over}
 use Rattle.wire.proofs.BufferLaws.{lent}
 use Rattle.keys.specs.Key.{dataMost}
 use Rattle.messages.specs.Message.{numbers}
-use Rattle.messages.specs.Format.{messageBytes}
-use Rattle.messages.specs.Protobuf.{protobuf}
+use Rattle.messages.specs.Format.{Format, messageBytes}
+use Rattle.messages.specs.Formats.{formatOf}
+use Rattle.messages.specs.declared.format.BodyFormat.{BodyFormat}
 use Rattle.messages.specs.Opcodes.{coreOpcodes, keystoreOpcodes, opcodesOf}
 use Rattle.messages.specs.Operations as message
-use Rattle.messages.proofs.OperationLaws.{nothing-bytes}
-use Rattle.messages.proofs.WriteLaws.{version-short, providers-short, opcodes-short, offset-short, exported-short}
+use Rattle.messages.proofs.FormatsLaws.{nothing-bytes, version-short, providers-short, opcodes-short, offset-short, exported-short}
 use Rattle.registry.specs.Slots.{Entry, free, held}
 use Rattle.registry.specs.Registry.{lineCount, slotsOf}
 use Rattle.registry.specs.WellFormed.{wellFormedRegistry}
@@ -36,9 +36,9 @@ use Rattle.judgement.specs.declared.Output.{Output}
 use Rattle.judgement.specs.declared.Output.the-variants.{Nothing, Version, Providers, Opcodes, Data, Offset}
 use Rattle.judgement.proofs.SourceLaws.{bytes-at}
 
-pub header-length : (provider session size opcode status : ℕ) → length (responseHeader provider session size opcode status) ≡ 26
+pub header-length : (provider session type size opcode status : ℕ) → length (responseHeader provider session type size opcode status) ≡ 26
 unfolding responseHeader littleEndianOf
-header-length provider session size opcode status = refl
+header-length provider session type size opcode status = refl
 
 -- b was written over the part of d that starts at k, lent on as `&mut d[k..]`, and then a over the front
 before : (a b d m : List ℕ) (k : ℕ) → length a ≡ k → k ≤ length d → m ≡ over b (take (length d - k) (drop k d))
@@ -50,14 +50,14 @@ before a b d m k e h q =
     rw (z, append-nil, drop-at (take k d) m (length a) f, q, lent, drop-drop, append-assoc, length-append, e)
 
 -- the body was written behind the header's place, and then the header
-pub response-on : (provider session opcode status : ℕ) (d : List ℕ) {body l m : List ℕ} {k r : ℕ}
+pub response-on : (provider session type opcode status : ℕ) (d : List ℕ) {body l m : List ℕ} {k r : ℕ}
     → Wrote body (take (length d - 26) (drop 26 d)) m r → 26 ≤ length d
-    → Wrote (responseHeader provider session (length body) opcode status) (putMid 26 (length d - 26) d m) l k
-    → Wrote (responseBytes provider session opcode status body) d l (k + r)
+    → Wrote (responseHeader provider session type (length body) opcode status) (putMid 26 (length d - 26) d m) l k
+    → Wrote (responseBytes provider session type opcode status body) d l (k + r)
 unfolding responseBytes
-response-on provider session opcode status d {body} {l} {m} y h x =
-    let head : List ℕ = responseHeader provider session (length body) opcode status in
-    let n : length head ≡ 26 = header-length provider session (length body) opcode status in
+response-on provider session type opcode status d {body} {l} {m} y h x =
+    let head : List ℕ = responseHeader provider session type (length body) opcode status in
+    let n : length head ≡ 26 = header-length provider session type (length body) opcode status in
     record {
       count = omega (arith, x .count, y .count, length-append head body);
       bytes = x .bytes ∙ before head body d m 26 n h (y .bytes);
@@ -79,24 +79,24 @@ data-short r list w line h place safe = rw (bytes-at r list line place) (go plac
     go Nowhere s = omega arith
 
 -- every body is short
-pub output-short : (registry list : List ℕ) → wellFormedRegistry registry ≡ true → (line : Line) → line .0 < lineCount → (output : Output) → SafeOutput list output
-    → length (outputBytes (slotsOf registry line) list output) ≤ outputMost
+pub output-short : (f : BodyFormat) (registry list : List ℕ) → wellFormedRegistry registry ≡ true → (line : Line) → line .0 < lineCount → (output : Output) → SafeOutput list output
+    → length (outputBytes (formatOf f) (slotsOf registry line) list output) ≤ outputMost
 unfolding outputIn
-output-short r list w line h Nothing safe = omega (arith, ap length nothing-bytes)
-output-short r list w line h Version safe = omega (arith, version-short 1 0 (omega arith) (omega arith))
-output-short r list w line h Providers safe = omega (arith, providers-short (0 ∷ 1 ∷ []) refl (omega arith))
-output-short r list w line h (Opcodes provider) safe = omega (arith, opcodes-short provider)
-output-short r list w line h (Offset at) safe = omega (arith, offset-short at)
-output-short r list w line h (Data place) safe =
-    omega (arith, exported-short (bytesAt (slotsOf r line) list place) (rw (bytes-at r list line place) at (data-short r list w line h place safe)))
+output-short f r list w line h Nothing safe = omega (arith, ap length (nothing-bytes f))
+output-short f r list w line h Version safe = omega (arith, version-short f 1 0)
+output-short f r list w line h Providers safe = omega (arith, providers-short f)
+output-short f r list w line h (Opcodes provider) safe = omega (arith, opcodes-short f provider)
+output-short f r list w line h (Offset at) safe = omega (arith, offset-short f at)
+output-short f r list w line h (Data place) safe =
+    omega (arith, exported-short f (bytesAt (slotsOf r line) list place) (rw (bytes-at r list line place) at (data-short r list w line h place safe)))
 
 -- ---- the bodies of the lists
 
-module _ (slots : List Entry) (list : List ℕ) (provider : ℕ) where
-  pub core-body : provider ≡ 0 → outputBytes slots list (Opcodes provider) ≡ messageBytes protobuf (numbers coreOpcodes ∷ [])
+module _ (format : Format) (slots : List Entry) (list : List ℕ) (provider : ℕ) where
+  pub core-body : provider ≡ 0 → outputBytes format slots list (Opcodes provider) ≡ messageBytes format (numbers coreOpcodes ∷ [])
   unfolding outputIn message.outputBytes opcodesOf
   core-body e = rw (eq-eqb provider 0 e)
 
-  pub keystore-body : (provider ≡ 0 → ⊥) → outputBytes slots list (Opcodes provider) ≡ messageBytes protobuf (numbers keystoreOpcodes ∷ [])
+  pub keystore-body : (provider ≡ 0 → ⊥) → outputBytes format slots list (Opcodes provider) ≡ messageBytes format (numbers keystoreOpcodes ∷ [])
   unfolding outputIn message.outputBytes opcodesOf
   keystore-body e = rw (ne-eqb provider 0 e)

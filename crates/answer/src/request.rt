@@ -12,6 +12,9 @@ use judgement::Status;
 use judgement::operations::perform_operation;
 use judgement::order::authenticate;
 use judgement::order::check_header;
+use messages::format::BodyFormat;
+use messages::format::content_type_of;
+use messages::format::format_for;
 use registry::Line;
 use registry::change::add_use;
 use registry::change::clear_slot;
@@ -31,6 +34,7 @@ ghost use Rattle.wire.specs.Response.{bufferLeast};
 ghost use Rattle.wire.specs.code.Wrote.{Wrote};
 ghost use Rattle.stream.specs.Frame.{legalStart, oversized};
 ghost use Rattle.stream.specs.Rules.{judge};
+ghost use Rattle.messages.specs.Formats.{formatFor, contentTypeOf};
 ghost use Rattle.registry.specs.Registry.{lineCount, registrySize, slotsOf, changed};
 ghost use Rattle.registry.specs.WellFormed.{wellFormedRegistry};
 ghost use Rattle.shipped.specs.Shipped.{wellFormedList};
@@ -75,17 +79,32 @@ fn make_edit(registry: &mut [u8], line: Line, body: &[u8], edit: Edit)
 }
 
 // A refused request is nobody's: it counts by its status alone.
-fn refuse(out: &mut [u8], h: Header, status: Status) -> Answered
+fn refuse_as(out: &mut [u8], h: Header, format: BodyFormat, status: Status) -> Answered
     requires { ⌜ bufferLeast ≤ length (now out) ⌝ }
-    ensures { λ r. ⌜ RefusedWith (h .provider) (h .session) (h .opcode) status (now (out .entry)) (now (out .exit)) r ⌝ }
+    ensures { λ r. ⌜ RefusedWith (h .provider) (h .session) (contentTypeOf format) (h .opcode) status (now (out .entry)) (now (out .exit)) r ⌝ }
 {
-    let written = write_refused(out, h.provider, h.session, h.opcode, status);
+    let written = write_refused(
+        out,
+        h.provider,
+        h.session,
+        content_type_of(format),
+        h.opcode,
+        status,
+    );
     Answered {
         status,
         asker: Asker::Nobody,
         written,
         recorded: 0,
     }
+}
+
+// One that is refused at its last byte, in the format that the accept type asks for.
+fn refuse(out: &mut [u8], h: Header, status: Status) -> Answered
+    requires { ⌜ bufferLeast ≤ length (now out) ⌝ }
+    ensures { λ r. ⌜ RefusedWith (h .provider) (h .session) (contentTypeOf (formatFor (h .«accept_type»))) (h .opcode) status (now (out .entry)) (now (out .exit)) r ⌝ }
+{
+    refuse_as(out, h, format_for(h.accept_type), status)
 }
 
 // A request whose header and auth bytes have passed, answered for an application.
@@ -101,7 +120,14 @@ fn answer_named(
     requires { ⌜ (wellFormedRegistry (now registry) ≡ true) × (line .0 < lineCount) × (bufferLeast ≤ length (now out)) × (wellFormedList (now list) ≡ true) × (recordMost ≤ length (now journal)) × (length (now body) < 2 ^ 32) ⌝ }
     ensures { λ r. ⌜ ResultAnswered h (resultForNamed h (now (body .entry)) (now (registry .entry)) (now (list .entry)) line) (Asker.Named line) (now (out .entry)) (now (out .exit)) r × (now (registry .exit) ≡ changed (now (registry .entry)) line (resultForNamed h (now (body .entry)) (now (registry .entry)) (now (list .entry)) line .change)) × Wrote (recordFor (actOfChange (slotsOf (now (registry .entry)) line) line (resultForNamed h (now (body .entry)) (now (registry .entry)) (now (list .entry)) line .change))) (now (journal .entry)) (now (journal .exit)) (r .recorded) ⌝ }
 {
-    let d = perform_operation(h.opcode, body, registry, list, line);
+    let d = perform_operation(
+        format_for(h.content_type),
+        h.opcode,
+        body,
+        registry,
+        list,
+        line,
+    );
     let status = d.status;
     let output = d.output;
     let edit = d.edit;
@@ -132,7 +158,14 @@ fn answer_nobody<'a>(
     }
     // No core operation looks at a line.
     let line = Line(0);
-    let d = perform_operation(h.opcode, body, registry, list, line);
+    let d = perform_operation(
+        format_for(h.content_type),
+        h.opcode,
+        body,
+        registry,
+        list,
+        line,
+    );
     let status = d.status;
     let output = d.output;
     let written = write_response(out, h, status, registry, list, line, output);
@@ -185,9 +218,9 @@ fn answer_oversized(out: &mut [u8], header: &[u8]) -> Answered
 {
     let h = read_header(header);
     if CONTENT_MOST < h.content_length {
-        return refuse(out, h, Status::BodySizeExceedsLimit);
+        return refuse_as(out, h, BodyFormat::Protobuf, Status::BodySizeExceedsLimit);
     }
-    refuse(out, h, Status::AuthenticationError)
+    refuse_as(out, h, BodyFormat::Protobuf, Status::AuthenticationError)
 }
 
 // The response to an oversized request, whose header the bytes begin with.
@@ -204,7 +237,7 @@ pub fn answer_bad_start(out: &mut [u8]) -> Answered
     requires { ⌜ bufferLeast ≤ length (now out) ⌝ }
     ensures { λ r. ⌜ ((list registry journal : List ℕ) → AnsweredBy (λ c. journalling list .onBadStart registry c) registry (now (out .entry)) (now (out .exit)) journal journal r) ⌝ }
 {
-    let written = write_refused(out, 0, 0, 0, Status::InvalidHeader);
+    let written = write_refused(out, 0, 0, 1, 0, Status::InvalidHeader);
     Answered {
         status: Status::InvalidHeader,
         asker: Asker::Nobody,

@@ -16,7 +16,7 @@ use Rattle.wire.proofs.ListLaws.{part-of-part}
 use Rattle.keys.specs.Names.{legalName, keyNameMost}
 use Rattle.keys.specs.Key.{Key, importBits}
 use Rattle.keys.proofs.NameLaws.{legal-short}
-use Rattle.messages.specs.Protobuf.{protobuf}
+use Rattle.messages.specs.Formats.{formatOf, formatFor}
 use Rattle.messages.specs.Operations.{Operation, ping, listProviders, listOpcodes, importKey, destroyKey, exportPublicKey, verifySignature, Asking, asks as asksFor, garbled, asked as asking, operationIn, operationOf}
 use Rattle.registry.specs.Names.{nameIn}
 use Rattle.registry.specs.Slots.{Entry, free, nameOf, slotSize, keyTests, wellFormedSlot}
@@ -109,14 +109,14 @@ module _ (list r : List ℕ) (q : Request) where
   by-asker none operation s = refl
   by-asker (some line) operation s = operation-act (askersSlots r (some line)) (keysIn list) line operation s
 
-  served-act : isServed x ≡ true → actAsked asker (operationOf protobuf (q .opcode) (q .body)) ≡ actOfAsker (askersSlots r asker) asker (x .change)
+  served-act : isServed x ≡ true → actAsked asker (operationOf (formatOf (formatFor (q .contentType))) (q .opcode) (q .body)) ≡ actOfAsker (askersSlots r asker) asker (x .change)
   unfolding operationOf
-  served-act s = second (asking protobuf (q .opcode) (q .body)) refl
+  served-act s = second (asking (formatOf (formatFor (q .contentType))) (q .opcode) (q .body)) refl
     where
-      is : x ≡ operated protobuf (q .opcode) (q .body) (askersSlots r asker) (keysIn list)
+      is : x ≡ operated (formatOf (formatFor (q .contentType))) (q .opcode) (q .body) (askersSlots r asker) (keysIn list)
       is = unfold resultOf in rw (served-passes list r q (eqb-true _ _ s), resultOf)
 
-      second : (a : Asking) → asking protobuf (q .opcode) (q .body) ≡ a → actAsked asker (operationIn a) ≡ actOfAsker (askersSlots r asker) asker (x .change)
+      second : (a : Asking) → asking (formatOf (formatFor (q .contentType))) (q .opcode) (q .body) ≡ a → actAsked asker (operationIn a) ≡ actOfAsker (askersSlots r asker) asker (x .change)
       second (garbled at) w =
           let y : x ≡ refuseAt at = is ∙ (unfold operated in rw (w, operated)) in
           absurd (true≢false (sym s ∙ ap isServed y ∙ (unfold refuseAt statusNumber in refl)))

@@ -16,7 +16,7 @@ use Rattle.keys.specs.Names.{legalName, keyNameMost}
 use Rattle.keys.specs.Key.{Key, legalBits, importBits}
 use Rattle.keys.proofs.KeyLaws.{import-legal}
 use Rattle.keys.proofs.NameLaws.{legal-short}
-use Rattle.messages.specs.Protobuf.{protobuf}
+use Rattle.messages.specs.Formats.{formatOf, formatFor}
 use Rattle.messages.specs.Operations.{Operation, ping, listProviders, listOpcodes, importKey, destroyKey, exportPublicKey, verifySignature, Asking, asks as asksFor, garbled, asked as asking, operationIn, operationOf}
 use Rattle.registry.specs.Slots.{Entry}
 use Rattle.registry.specs.Registry.{namesIn, slotsOf, Change, unchanged, fill, clear, addUse, changed}
@@ -254,14 +254,14 @@ module _ (list g r : List ℕ) (a : Alike g r) where
     asked = applicationOf r q
 
     request-served : isServed x ≡ true
-        → replayAny g (actAsked asked (operationOf protobuf (q .opcode) (q .body))) ≡ some (changedFor g asked (x .change))
+        → replayAny g (actAsked asked (operationOf (formatOf (formatFor (q .contentType))) (q .opcode) (q .body))) ≡ some (changedFor g asked (x .change))
     unfolding operationOf
-    request-served s = second (asking protobuf (q .opcode) (q .body)) refl
+    request-served s = second (asking (formatOf (formatFor (q .contentType))) (q .opcode) (q .body)) refl
       where
-        is : x ≡ operated protobuf (q .opcode) (q .body) (askersSlots r asked) (keysIn list)
+        is : x ≡ operated (formatOf (formatFor (q .contentType))) (q .opcode) (q .body) (askersSlots r asked) (keysIn list)
         is = unfold resultOf in rw (served-passes list r q (eqb-true _ _ s), resultOf)
 
-        second : (a : Asking) → asking protobuf (q .opcode) (q .body) ≡ a
+        second : (a : Asking) → asking (formatOf (formatFor (q .contentType))) (q .opcode) (q .body) ≡ a
             → replayAny g (actAsked asked (operationIn a)) ≡ some (changedFor g asked (x .change))
         second (garbled at) w =
             let y : x ≡ refuseAt at = is ∙ (unfold operated in rw (w, operated)) in

@@ -10,7 +10,7 @@ use Rattle.stream.specs.Handed.{Handed, recording}
 use Rattle.registry.specs.declared.Line.{Line}
 use Rattle.judgement.specs.Status.{statusNumber}
 use Rattle.messages.specs.Operations.{Operation, ping, listProviders, listOpcodes, importKey, destroyKey, exportPublicKey, verifySignature, operationOf}
-use Rattle.messages.specs.Protobuf.{protobuf}
+use Rattle.messages.specs.Formats.{formatOf, formatFor}
 use Rattle.judgement.specs.Counts.{Counts}
 use Rattle.judgement.specs.Judgement.{applicationOf, resultOf, judgement}
 use Rattle.journal.specs.Record.{Act, importing, destroying, recordOf}
@@ -32,7 +32,7 @@ actAsked (some line) (some operation) = actOf line operation
 -- the import or destroy that a request is served
 unfoldable pub servedAct : (list registry : List ℕ) → Request → Option Act
 servedAct list registry q =
-    if eqb (statusNumber (resultOf list registry q .status)) 0 then actAsked (applicationOf registry q) (operationOf protobuf (q .opcode) (q .body))
+    if eqb (statusNumber (resultOf list registry q .status)) 0 then actAsked (applicationOf registry q) (operationOf (formatOf (formatFor (q .contentType))) (q .opcode) (q .body))
     else none
 
 -- its record; none is no bytes

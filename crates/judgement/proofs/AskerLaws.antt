@@ -13,7 +13,7 @@ use Rattle.wire.specs.Lists.{oneOf}
 use Rattle.wire.specs.Request.{Request}
 use Rattle.wire.proofs.TestLaws.{some≢none, none-at, AllHave, first-has, either}
 use Rattle.messages.specs.Format.{Format, Reading, read, broken, readMessage}
-use Rattle.messages.specs.Protobuf.{protobuf}
+use Rattle.messages.specs.Formats.{formatOf, formatFor}
 use Rattle.messages.specs.Opcodes.{coreOpcodes, opcodesOf}
 use Rattle.messages.specs.Operations.{Operation, ping, listProviders, listOpcodes, importKey, destroyKey, exportPublicKey, verifySignature, inputFields, Asking, asks, garbled, askingOf, askingBy, asked}
 use Rattle.registry.specs.Slots.{Entry}
@@ -78,7 +78,7 @@ served-type list r q e = ltb-false _ _ (none-at (refusals r q) 6 Success (served
 abbrev resultWith : List (Bool × Status) → List Entry → List ListedKey → Request → Result
 resultWith tests slots keys q = elim (firstOf tests) [
   | some status ↦ refuse status
-  | none ↦ operated protobuf (q .opcode) (q .body) slots keys
+  | none ↦ operated (formatOf (formatFor (q .contentType))) (q .opcode) (q .body) slots keys
 ]
 
 same-for : (list r r′ : List ℕ) (q : Request) (o : Option Line) → applicationOf r q ≡ o → applicationOf r′ q ≡ o
@@ -160,4 +160,4 @@ open-result list list′ r r′ q e =
   where
     go : (o : Option Status) → firstOf (refusals r′ q) ≡ o → resultOf list r′ q ≡ resultOf list′ r′ q
     go (some status) n = rw (n, resultOf)
-    go none n = rw (n, resultOf) (core-alone protobuf (q .opcode) (q .body) _ _ (keysIn list) (keysIn list′) (open-core r′ q e n))
+    go none n = rw (n, resultOf) (core-alone (formatOf (formatFor (q .contentType))) (q .opcode) (q .body) _ _ (keysIn list) (keysIn list′) (open-core r′ q e n))

@@ -14,10 +14,10 @@ use Rattle.stream.specs.Frame.{oversized}
 use Rattle.stream.specs.Rules.{Verdict, judge, Outcome, Progress, answer, finish, rulesFrom, start, rules}
 use Rattle.stream.proofs.AccountingLaws.{by-requests}
 use Rattle.keys.specs.Key.{dataMost}
-use Rattle.messages.specs.Protobuf.{protobuf}
+use Rattle.messages.specs.Formats.{formatOf, formatFor, contentTypeOf}
+use Rattle.messages.specs.declared.format.BodyFormat.{BodyFormat}
 use Rattle.messages.specs.Operations.{outputBytes, nothing, exported}
-use Rattle.messages.proofs.OperationLaws.{nothing-bytes}
-use Rattle.messages.proofs.WriteLaws.{offset-short, exported-short}
+use Rattle.messages.proofs.FormatsLaws.{nothing-bytes, offset-short, exported-short}
 use Rattle.registry.specs.Slots.{free}
 use Rattle.registry.specs.WellFormed.{wellFormedRegistry}
 use Rattle.registry.specs.declared.Line.{Line}
@@ -36,13 +36,13 @@ use Rattle.judgement.proofs.JudgementLaws.{asks, judge-good}
 abbrev bodyMost : ℕ
 bodyMost = 3 + dataMost
 
-response-length : (provider session opcode status : ℕ) (body : List ℕ) → length (responseBytes provider session opcode status body) ≡ 26 + length body
+response-length : (provider session type opcode status : ℕ) (body : List ℕ) → length (responseBytes provider session type opcode status body) ≡ 26 + length body
 unfolding responseBytes responseHeader littleEndianOf
-response-length provider session opcode status body = omega arith
+response-length provider session type opcode status body = omega arith
 
 -- no response is empty
-pub response-some : (provider session opcode status : ℕ) (body : List ℕ) → 0 < length (responseBytes provider session opcode status body)
-response-some provider session opcode status body = omega (arith, response-length provider session opcode status body)
+pub response-some : (provider session type opcode status : ℕ) (body : List ℕ) → 0 < length (responseBytes provider session type opcode status body)
+response-some provider session type opcode status body = omega (arith, response-length provider session type opcode status body)
 
 -- ---- the output of an operation
 
@@ -54,24 +54,24 @@ slots-of-asker r w q i = go (applicationOf r q) refl
     go none e = tt
     go (some line) e = slots-short r w line (asks r q line e .there) i
 
-output-short : (list r : List ℕ) → wellFormedRegistry r ≡ true → (q : Request) → length (outputBytes protobuf (resultOf list r q .output)) ≤ bodyMost
+output-short : (f : BodyFormat) (list r : List ℕ) → wellFormedRegistry r ≡ true → (q : Request) → length (outputBytes (formatOf f) (resultOf list r q .output)) ≤ bodyMost
 unfolding refuse refuseAt success
-output-short list r w q = by-result list r q (λ x. length (outputBytes protobuf (x .output)) ≤ bodyMost) (record {
-  refused = λ status. omega (arith, ap length nothing-bytes);
-  broken = λ at. omega (arith, offset-short at);
-  served = λ output h. omega arith;
-  imported = λ slot key v n e. omega (arith, ap length nothing-bytes);
-  destroyed = λ slot name e. omega (arith, ap length nothing-bytes);
+output-short f list r w q = by-result list r q (λ x. length (outputBytes (formatOf f) (x .output)) ≤ bodyMost) (record {
+  refused = λ status. omega (arith, ap length (nothing-bytes f));
+  broken = λ at. omega (arith, offset-short f at);
+  served = λ output h. omega (arith, h f);
+  imported = λ slot key v n e. omega (arith, ap length (nothing-bytes f));
+  destroyed = λ slot name e. omega (arith, ap length (nothing-bytes f));
   exported = λ source name e. rw (served-output source (exported (keyOf source .bytes)))
-      (omega (arith, exported-short (keyOf source .bytes) (source-short name (askersSlots r (applicationOf r q)) list (slots-of-asker r w q) source e)));
-  verified = λ source name e. rw (served-output source nothing) (omega (arith, ap length nothing-bytes));
+      (omega (arith, exported-short f (keyOf source .bytes) (source-short name (askersSlots r (applicationOf r q)) list (slots-of-asker r w q) source e)));
+  verified = λ source name e. rw (served-output source nothing) (omega (arith, ap length (nothing-bytes f)));
 })
 
 -- ---- one response
 
 early-short : (r : List ℕ) (c : Counts) (p s o : ℕ) (status : Status) → length (refusedEarly r c p s o status .response) ≤ longestResponse
-unfolding refusedEarly
-early-short r c p s o status = omega (arith, response-length p s o (statusNumber status) [])
+unfolding refusedEarly contentTypeOf
+early-short r c p s o status = omega (arith, response-length p s 1 o (statusNumber status) [])
 
 pub bad-short : (list r : List ℕ) (c : Counts) → length (judgement list .onBadStart r c .response) ≤ longestResponse
 unfolding judgement
@@ -85,8 +85,9 @@ pub judge-short : (list r : List ℕ) (c : Counts) (request : List ℕ) → well
 unfolding judge judgement verdictOf
 judge-short list r c request w =
     let q : Request = requestOf request in
-    let l = response-length (q .provider) (q .session) (q .opcode) (statusNumber (resultOf list r q .status)) (outputBytes protobuf (resultOf list r q .output)) in
-    let s = output-short list r w q in
+    let f : BodyFormat = formatFor (q .acceptType) in
+    let l = response-length (q .provider) (q .session) (contentTypeOf f) (q .opcode) (statusNumber (resultOf list r q .status)) (outputBytes (formatOf f) (resultOf list r q .output)) in
+    let s = output-short f list r w q in
     either (λ (v : Verdict (List ℕ) Counts (List ℕ)). length (v .response) ≤ longestResponse) (oversized request)
     (λ _. early-short r c _ _ _ _) (λ _. omega arith)
 

@@ -20,11 +20,13 @@ use Rattle.lookup.specs.Lookup.{Source, own, listed as shipped, keyOf, keyNamed
 use Rattle.rsa.specs.Signature.{verification}
 use Rattle.rsa.specs.declared.verify.Outcome.{Outcome}
 use Rattle.rsa.specs.declared.verify.Outcome.the-variants.{ValidSignature, InvalidSignature, InvalidKey}
-use Rattle.messages.specs.Protobuf.{protobuf}
+use Rattle.messages.specs.Format.{Format}
 use Rattle.messages.specs.Operations.{Operation, ping, listProviders, listOpcodes, importKey, destroyKey, exportPublicKey, verifySignature, Asking, asks, garbled, asked, Output, nothing, opcodes, exported}
 use Rattle.messages.specs.Operations as message
 use Rattle.messages.specs.Opcodes.{opcodesOf}
-use Rattle.messages.proofs.WriteLaws.{version-short, providers-short, opcodes-short}
+use Rattle.messages.specs.Formats.{formatOf, formatFor}
+use Rattle.messages.specs.declared.format.BodyFormat.{BodyFormat}
+use Rattle.messages.proofs.FormatsLaws.{shortMost, version-short, providers-short, opcodes-short}
 use Rattle.judgement.specs.Status.{statusNumber}
 use Rattle.judgement.specs.Operations.{Result, success, refuse, refuseAt, performImport, destroyOf, performDestroy, counted, exportOf, performExport, hashSize, checked, verifyWith, performVerify, performListOpcodes, perform, operated}
 use Rattle.judgement.specs.Judgement.{applicationOf, refusals, askersSlots, resultOf}
@@ -37,7 +39,7 @@ use Rattle.judgement.proofs.ImportLaws.{Taken, import-ends, new-there}
 pub record Ends (slots : List Entry) (keys : List ListedKey) (P : Result → Type 0) : Type 0 where
   pub refused : (status : Status) → P (refuse status)
   pub broken : (at : ℕ) → P (refuseAt at)
-  pub served : (output : Output) → length (message.outputBytes protobuf output) ≤ 6 → P (success output unchanged)
+  pub served : (output : Output) → ((f : BodyFormat) → length (message.outputBytes (formatOf f) output) ≤ shortMost) → P (success output unchanged)
   pub imported : (slot : Slot) (key : Key) → Taken importBits key → slotNamed (key .name) slots ≡ Nothing → slotNamed [] slots ≡ At slot
       → P (success nothing (fill slot key))
   pub destroyed : (slot : Slot) (name : List ℕ) → slotNamed name slots ≡ At slot → P (success nothing (clear slot))
@@ -155,12 +157,12 @@ module _ (slots : List Entry) (keys : List ListedKey) (P : Result → Type 0) (e
     where
       go : (t : Bool) → ltb 1 provider ≡ t → P (performListOpcodes provider)
       go true e = rw (e, performListOpcodes) (ends .refused _)
-      go false e = rw (e, performListOpcodes) (ends .served (opcodes (opcodesOf provider)) (opcodes-short provider))
+      go false e = rw (e, performListOpcodes) (ends .served (opcodes (opcodesOf provider)) (λ f. opcodes-short f provider))
 
   by-operation : (operation : Operation) → P (perform operation slots keys)
   unfolding perform
-  by-operation ping = ends .served _ (omega (arith, version-short 1 0 (omega arith) (omega arith)))
-  by-operation listProviders = ends .served _ (omega (arith, providers-short (0 ∷ 1 ∷ []) refl (omega arith)))
+  by-operation ping = ends .served _ (λ f. version-short f 1 0)
+  by-operation listProviders = ends .served _ (λ f. providers-short f)
   by-operation (listOpcodes provider) = by-opcodes provider
   by-operation (importKey key) = by-import key
   by-operation (destroyKey name) = by-destroy name
@@ -168,11 +170,14 @@ module _ (slots : List Entry) (keys : List ListedKey) (P : Result → Type 0) (e
   by-operation (verifySignature name hash signature) = by-verify name hash signature
 
 module _ (list r : List ℕ) (q : Request) (P : Result → Type 0) (ends : Ends (askersSlots r (applicationOf r q)) (keysIn list) P) where
-  by-operate : P (operated protobuf (q .opcode) (q .body) (askersSlots r (applicationOf r q)) (keysIn list))
+  abbrev format : Format
+  format = formatOf (formatFor (q .contentType))
+
+  by-operate : P (operated format (q .opcode) (q .body) (askersSlots r (applicationOf r q)) (keysIn list))
   unfolding operated
-  by-operate = go (asked protobuf (q .opcode) (q .body)) refl
+  by-operate = go (asked format (q .opcode) (q .body)) refl
     where
-      go : (o : Asking) → asked protobuf (q .opcode) (q .body) ≡ o → P (operated protobuf (q .opcode) (q .body) (askersSlots r (applicationOf r q)) (keysIn list))
+      go : (o : Asking) → asked format (q .opcode) (q .body) ≡ o → P (operated format (q .opcode) (q .body) (askersSlots r (applicationOf r q)) (keysIn list))
       go (garbled at) e = rw (e, operated) (ends .broken at)
       go (asks operation) e = rw (e, operated) (by-operation (askersSlots r (applicationOf r q)) (keysIn list) P ends operation)
 

@@ -64,8 +64,8 @@ module _ (list r : List ℕ) (c : Counts) (request : List ℕ) where
   pub verdict-some : 0 < length (verdictOn (judgement list) r c request .response)
   verdict-some =
       by-verdict list (λ v. 0 < length (v .response)) r c request
-      (λ p s o status. unfold refusedEarly in response-some p s o (statusNumber status) _)
-      (λ l o. unfold verdictOf in response-some _ _ _ _ _)
+      (λ p s o status. unfold refusedEarly in response-some p s _ o (statusNumber status) _)
+      (λ l o. unfold verdictOf in response-some _ _ _ _ _ _)
 
 -- ---- the line of an application
 

@@ -9,8 +9,9 @@ use Rattle.wire.specs.Choice.{if_then_else_, firstOf, isSome}
 use Rattle.wire.specs.Lists.{oneOf}
 use Rattle.wire.specs.Request.{contentLength, Request, requestOf}
 use Rattle.wire.specs.Response.{responseBytes}
-use Rattle.messages.specs.Protobuf.{protobuf}
+use Rattle.messages.specs.Formats.{formatOf, formatFor, contentTypeOf, contentTypes}
 use Rattle.messages.specs.Operations.{outputBytes}
+use Rattle.messages.specs.declared.format.BodyFormat.the-variants.{Protobuf}
 use Rattle.stream.specs.Frame.{contentMost}
 use Rattle.stream.specs.Rules.{Verdict, Judgement}
 use Rattle.registry.specs.Slots.{Entry}
@@ -26,10 +27,10 @@ use Rattle.judgement.specs.declared.Status.the-variants.{WrongProviderId
 
 -- ---- the order's first two steps: a wrong start, and an oversized request
 
--- an empty body, and the registry stays
+-- an empty body of content type 1, and the registry stays
 unfoldable pub refusedEarly : (registry : List ℕ) → Counts → (provider session opcode : ℕ) → Status → Verdict (List ℕ) Counts (List ℕ)
 refusedEarly registry counts provider session opcode status = record {
-  response = responseBytes provider session opcode (statusNumber status) [];
+  response = responseBytes provider session (contentTypeOf Protobuf) opcode (statusNumber status) [];
   registry = registry;
   counts = countRefused counts status;
 }
@@ -47,8 +48,8 @@ applicationOf registry q = if eqb (q .authType) 0 then none else applicationName
 unfoldable pub refusals : (registry : List ℕ) → Request → List (Bool × Status)
 refusals registry q =
     (not (eqb (q .major) 1 && eqb (q .minor) 0), WireProtocolVersionNotSupported)
-    ∷ (not (eqb (q .contentType) 1), ContentTypeNotSupported)
-    ∷ (not (eqb (q .acceptType) 1), AcceptTypeNotSupported)
+    ∷ (not (oneOf contentTypes (q .contentType)), ContentTypeNotSupported)
+    ∷ (not (oneOf contentTypes (q .acceptType)), AcceptTypeNotSupported)
     ∷ (not (oneOf (coreOpcodes ++ keystoreOpcodes) (q .opcode)), OpcodeDoesNotExist)
     ∷ (ltb 1 (q .provider), ProviderDoesNotExist)
     ∷ (not (oneOf (opcodesOf (q .provider)) (q .opcode)), WrongProviderId)
@@ -63,10 +64,11 @@ unfoldable pub askersSlots : (registry : List ℕ) → Option Line → List Entr
 askersSlots registry none = []
 askersSlots registry (some line) = slotsOf registry line
 
+-- the content type says how the body is read
 unfoldable pub resultOf : (list registry : List ℕ) → Request → Result
 resultOf list registry q = elim (firstOf (refusals registry q)) [
   | some status ↦ refuse status
-  | none ↦ operated protobuf (q .opcode) (q .body) (askersSlots registry (applicationOf registry q)) (keysIn list)
+  | none ↦ operated (formatOf (formatFor (q .contentType))) (q .opcode) (q .body) (askersSlots registry (applicationOf registry q)) (keysIn list)
 ]
 
 -- ---- the judgement: a response, the registry and the counts after a request; the list of keys that we ship is a fixed input
@@ -75,9 +77,15 @@ unfoldable pub changedBy : (registry : List ℕ) → Option Line → Result → 
 changedBy registry none r = registry
 changedBy registry (some line) r = changed registry line (r .change)
 
+-- the accept type says how the response's body is written
+abbrev pub answerBytes : Request → Result → List ℕ
+answerBytes q r =
+    let format = formatFor (q .acceptType) in
+    responseBytes (q .provider) (q .session) (contentTypeOf format) (q .opcode) (statusNumber (r .status)) (outputBytes (formatOf format) (r .output))
+
 unfoldable pub verdictOf : (registry : List ℕ) → Counts → Request → Result → Verdict (List ℕ) Counts (List ℕ)
 verdictOf registry counts q r = record {
-  response = responseBytes (q .provider) (q .session) (q .opcode) (statusNumber (r .status)) (outputBytes protobuf (r .output));
+  response = answerBytes q r;
   registry = changedBy registry (applicationOf registry q) r;
   counts = count counts (applicationOf registry q) (r .status);
 }

@@ -15,6 +15,7 @@ use lookup::key::is_exportable;
 use messages::ask::Asked;
 use messages::ask::KeyPlaces;
 use messages::ask::read_operation;
+use messages::format::BodyFormat;
 use registry::Found;
 use registry::Line;
 use registry::find::find_slot;
@@ -23,7 +24,7 @@ ghost use mathlib.Core.List.{List};
 ghost use mathlib.Core.Path.{_≡_};
 ghost use Prim.Native.Nat.{ℕ, _^_, _<_};
 ghost use lib.ListN.{length};
-ghost use Rattle.messages.specs.Protobuf.{protobuf};
+ghost use Rattle.messages.specs.Formats.{formatOf};
 ghost use Rattle.messages.specs.Placed.{keyIn};
 ghost use Rattle.registry.specs.Registry.{lineCount, registrySize, slotsOf};
 ghost use Rattle.registry.specs.WellFormed.{wellFormedRegistry};
@@ -179,6 +180,7 @@ fn export(registry: &[u8], list: &[u8], line: Line, name: &[u8]) -> Decision
 
 // The operation that an opcode and its body ask for, for the application of a line; no core operation looks at the line.
 pub fn perform_operation<'a>(
+    format: BodyFormat,
     opcode: u16,
     body: &[u8],
     registry: &'a [u8],
@@ -186,9 +188,9 @@ pub fn perform_operation<'a>(
     line: Line,
 ) -> Decision
     requires { ⌜ (wellFormedRegistry (now registry) ≡ true) × (line .0 < lineCount) × (wellFormedList (now list) ≡ true) × (length (now body) < 2 ^ 32) ⌝ }
-    ensures { λ r. ⌜ Decided (slotsOf (now (registry .entry)) line) (now (list .entry)) (now (body .entry)) (operated protobuf opcode (now (body .entry)) (slotsOf (now (registry .entry)) line) (keysIn (now (list .entry)))) r ⌝ }
+    ensures { λ r. ⌜ Decided (slotsOf (now (registry .entry)) line) (now (list .entry)) (now (body .entry)) (operated (formatOf format) opcode (now (body .entry)) (slotsOf (now (registry .entry)) line) (keysIn (now (list .entry)))) r ⌝ }
 {
-    match read_operation(opcode, body) {
+    match read_operation(format, opcode, body) {
         Asked::Ping => served(Output::Version),
         Asked::ListProviders => served(Output::Providers),
         Asked::ListOpcodes(provider) => list_opcodes(provider),

@@ -11,8 +11,19 @@ use wire::header::Header;
 ghost use mathlib.Core.Path.{_≡_};
 ghost use lib.ListN.{length};
 ghost use Rattle.wire.specs.Choice.{firstOf};
+ghost use Rattle.wire.specs.Lists.{oneOf};
+ghost use Rattle.messages.specs.Formats.{contentTypes};
 ghost use Rattle.registry.specs.Registry.{registrySize, applicationNamed};
 ghost use Rattle.judgement.specs.code.Decided.{headerTests, checkedOf, authOf};
+
+fn is_content_type(content_type: u8) -> bool
+    ensures { λ r. ⌜ r ≡ oneOf contentTypes «content_type» ⌝ }
+{
+    if content_type == 1 {
+        return true;
+    }
+    content_type == 2
+}
 
 // What the header alone decides: version, content type, accept type, opcode, provider, auth type.
 pub fn check_header(h: Header) -> Checked
@@ -24,10 +35,10 @@ pub fn check_header(h: Header) -> Checked
     if h.minor != 0 {
         return Checked::Refused(Status::WireProtocolVersionNotSupported);
     }
-    if h.content_type != 1 {
+    if !is_content_type(h.content_type) {
         return Checked::Refused(Status::ContentTypeNotSupported);
     }
-    if h.accept_type != 1 {
+    if !is_content_type(h.accept_type) {
         return Checked::Refused(Status::AcceptTypeNotSupported);
     }
     if !is_listed(h.opcode) {

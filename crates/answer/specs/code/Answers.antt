@@ -8,7 +8,7 @@ use Rattle.wire.specs.Choice.{if_then_else_, firstOf}
 use Rattle.wire.specs.Response.{responseBytes}
 use Rattle.wire.specs.code.Wrote.{Wrote}
 use Rattle.wire.specs.declared.header.Header.{Header}
-use Rattle.messages.specs.Protobuf.{protobuf}
+use Rattle.messages.specs.Formats.{formatOf, formatFor, contentTypeOf}
 use Rattle.messages.specs.Operations.{outputBytes}
 use Rattle.stream.specs.Rules.{Verdict}
 use Rattle.stream.specs.Handed.{Handed}
@@ -35,9 +35,9 @@ pub record AnsweredBy (v : Counts → Verdict (List ℕ) Counts Handed) (registr
   pub asker : AskerBelow (r .asker)
 
 -- a request was refused with this status: it is nobody's, counts by its status alone, and has no record
-abbrev pub RefusedWith : (provider session opcode : ℕ) → Status → (before after : List ℕ) → Answered → Type 0
-RefusedWith provider session opcode status before after r =
-    (r .status ≡ status) × (r .asker ≡ Nobody) × Wrote (responseBytes provider session opcode (statusNumber status) []) before after (r .written) × (r .recorded ≡ 0)
+abbrev pub RefusedWith : (provider session type opcode : ℕ) → Status → (before after : List ℕ) → Answered → Type 0
+RefusedWith provider session type opcode status before after r =
+    (r .status ≡ status) × (r .asker ≡ Nobody) × Wrote (responseBytes provider session type opcode (statusNumber status) []) before after (r .written) × (r .recorded ≡ 0)
 
 -- ---- a request whose header has passed
 
@@ -46,15 +46,15 @@ PassedHeader h = firstOf (headerTests h) ≡ none
 
 -- what comes of it for an application
 abbrev pub resultForNamed : Header → (body registry list : List ℕ) → Line → Result
-resultForNamed h body registry list line = operated protobuf (h .opcode) body (slotsOf registry line) (keysIn list)
+resultForNamed h body registry list line = operated (formatOf (formatFor (h .«content_type»))) (h .opcode) body (slotsOf registry line) (keysIn list)
 
 -- and for nobody that is named: the keystore is not for them
 unfoldable pub resultForNobody : Header → (body list : List ℕ) → Result
-resultForNobody h body list = if eqb (h .provider) 1 then refuse NotAuthenticated else operated protobuf (h .opcode) body [] (keysIn list)
+resultForNobody h body list = if eqb (h .provider) 1 then refuse NotAuthenticated else operated (formatOf (formatFor (h .«content_type»))) (h .opcode) body [] (keysIn list)
 
 -- the result `x` was answered for `who`: its response, with the header's provider, session and opcode, stands at the front of
 -- the buffer `before`, which is now `after`
 pub record ResultAnswered (h : Header) (x : Result) (who : Asker) (before after : List ℕ) (r : Answered) : Type 0 where
   pub status : r .status ≡ x .status
   pub asker : r .asker ≡ who
-  pub response : Wrote (responseBytes (h .provider) (h .session) (h .opcode) (statusNumber (x .status)) (outputBytes protobuf (x .output))) before after (r .written)
+  pub response : Wrote (responseBytes (h .provider) (h .session) (contentTypeOf (formatFor (h .«accept_type»))) (h .opcode) (statusNumber (x .status)) (outputBytes (formatOf (formatFor (h .«accept_type»))) (x .output))) before after (r .written)

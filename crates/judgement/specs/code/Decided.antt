@@ -11,7 +11,7 @@ use Rattle.wire.specs.Request.{Request}
 use Rattle.wire.specs.declared.header.Header.{Header}
 use Rattle.keys.specs.Key.{Key, dataMost, bitsMost}
 use Rattle.keys.specs.Names.{keyNameMost}
-use Rattle.messages.specs.Protobuf.{protobuf}
+use Rattle.messages.specs.Format.{Format}
 use Rattle.messages.specs.Operations as message
 use Rattle.messages.specs.Placed.{SpanWithin, keyIn}
 use Rattle.messages.specs.declared.ask.KeyPlaces.{KeyPlaces}
@@ -105,8 +105,8 @@ outputIn slots list (Data place) = message.exported (bytesAt slots list place)
 outputIn slots list (Offset at) = message.offset at
 
 -- the body of its response
-abbrev pub outputBytes : (slots : List Entry) (list : List ℕ) → Output → List ℕ
-outputBytes slots list output = message.outputBytes protobuf (outputIn slots list output)
+abbrev pub outputBytes : Format → (slots : List Entry) (list : List ℕ) → Output → List ℕ
+outputBytes format slots list output = message.outputBytes format (outputIn slots list output)
 
 unfoldable pub changeOf : (body : List ℕ) → Edit → Change
 changeOf body Stays = unchanged

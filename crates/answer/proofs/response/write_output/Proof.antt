@@ -5,7 +5,7 @@ use lib.ListN.{length}
 use Rattle.wire.proofs.BufferLaws.{wrote-none}
 use Rattle.keys.specs.Key.{dataMost}
 use Rattle.messages.specs.Operations.{outputBytes}
-use Rattle.messages.proofs.OperationLaws.{nothing-bytes}
+use Rattle.messages.proofs.FormatsLaws.{nothing-bytes}
 use Rattle.judgement.specs.code.Decided.{outputIn}
 use Rattle.judgement.proofs.SourceLaws.{bytes-at}
 use Rattle.answer.proofs.WrittenLaws.{data-short, core-body, keystore-body}
@@ -50,7 +50,7 @@ same-length : tie.Need-same-length
 same-length c = search needs
 
 returns : tie.Need-returns
-returns c = rw (c .before .before .before .before .before .before .before .output .given .1, core-body _ _ _ (c .before .before .before .before .before .if1 .taken)) (c .before .before .write-list-body2 .ensures)
+returns c = rw (c .before .before .before .before .before .before .before .output .given .1, core-body _ _ _ _ (c .before .before .before .before .before .if1 .taken)) (c .before .before .write-list-body2 .ensures)
 
 slice-aggregate-write-list-body-3 : tie.Need-slice-aggregate-write-list-body-3
 slice-aggregate-write-list-body-3 c = search needs
@@ -78,7 +78,7 @@ write-offset-body-requires c κs = search needs
 
 returns-2 : tie.Need-returns-2
 unfolding outputIn
-returns-2 c = rw (c .enum-told .given .1, nothing-bytes) (wrote-none (c .before .before .before .before .before .args .out .now))
+returns-2 c = let s = c .before .before .before .before .before .args in rw (c .enum-told .given .1, nothing-bytes (s .format)) (wrote-none (s .out .now))
 
 same-length-2 : tie.Need-same-length-2
 same-length-2 c = search needs
@@ -98,7 +98,7 @@ same-length-4 : tie.Need-same-length-4
 same-length-4 c = search needs
 
 returns-5 : tie.Need-returns-5
-returns-5 c = rw (c .before .before .before .before .before .before .before .output .given .1, keystore-body _ _ _ (c .before .before .before .before .before .if1 .left)) (c .before .before .write-list-body3 .ensures)
+returns-5 c = rw (c .before .before .before .before .before .before .before .output .given .1, keystore-body _ _ _ _ (c .before .before .before .before .before .if1 .left)) (c .before .before .write-list-body3 .ensures)
 
 same-length-5 : tie.Need-same-length-5
 same-length-5 c = search needs

@@ -3,7 +3,7 @@ use mathlib.Core.Path.{_≡_, refl, sym, _∙_, subst}
 use native.Mathlib.Nat.{add-sub-cancel-left}
 use native.Mathlib.Omega.{arith}
 use lib.ListN.{length}
-use Rattle.messages.specs.Protobuf.{protobuf}
+use Rattle.messages.specs.Formats.{formatOf}
 use Rattle.messages.specs.Operations.{Operation, asks, asked}
 use Rattle.messages.specs.Placed.{askingIn, SpanWithin, AskedWithin}
 use Rattle.messages.specs.declared.ask.Asked.{Asked}
@@ -24,10 +24,10 @@ start c = c .before .before .before .before
 
 -- what was read, by its places
 asks-as : (c : tie.After-read-operation) (a : Asked) → c .read-operation .result ≡ a
-    → (let s = start c .args in askingIn (s .body .now) a ≡ asked protobuf (s .opcode) (s .body .now))
+    → (let s = start c .args in askingIn (s .body .now) a ≡ asked (formatOf (s .format)) (s .opcode) (s .body .now))
 asks-as c a e =
     let s = start c .args in
-    subst (λ (x : Asked). askingIn (s .body .now) x ≡ asked protobuf (s .opcode) (s .body .now)) e (c .read-operation .ensures .0)
+    subst (λ (x : Asked). askingIn (s .body .now) x ≡ asked (formatOf (s .format)) (s .opcode) (s .body .now)) e (c .read-operation .ensures .0)
 
 inside : (c : tie.After-read-operation) (a : Asked) → c .read-operation .result ≡ a → AskedWithin (length (start c .args .body .now)) a
 inside c a e = subst (AskedWithin (length (start c .args .body .now))) e (c .read-operation .ensures .1)
@@ -45,11 +45,11 @@ verified c = inside (c .before .before) _ (c .name3 .given .1)
 -- an operation that was read is what is performed
 performed : (c : tie.After-read-operation) (a : Asked) (operation : Operation) → c .read-operation .result ≡ a
     → askingIn (start c .args .body .now) a ≡ asks operation
-    → (let s = start c .args in operated protobuf (s .opcode) (s .body .now) (slotsOf (s .registry .now) (s .line)) (keysIn (s .list .now))
+    → (let s = start c .args in operated (formatOf (s .format)) (s .opcode) (s .body .now) (slotsOf (s .registry .now) (s .line)) (keysIn (s .list .now))
     ≡ perform operation (slotsOf (s .registry .now) (s .line)) (keysIn (s .list .now)))
 performed c a operation e o =
     let s = start c .args in
-    readable (slotsOf (s .registry .now) (s .line)) (s .list .now) (s .body .now) protobuf (s .opcode) operation (sym o ∙ asks-as c a e)
+    readable (slotsOf (s .registry .now) (s .line)) (s .list .now) (s .body .now) (formatOf (s .format)) (s .opcode) operation (sym o ∙ asks-as c a e)
 
 read-operation-requires : tie.Need-read-operation-requires
 read-operation-requires c κs = search needs

@@ -46,11 +46,11 @@ left2 c = passes _ _ _ (rw (eq-eqb _ _ (c .before .before .if1 .left), eq-eqb _ 
 
 left3 : (c : tie.Else3) → from 0 (h3 c) ≡ from 2 (h3 c)
 unfolding headerTests refusals
-left3 c = left2 (c .before .before) ∙ passes _ _ _ (ap not (eq-eqb _ _ (c .if3 .left)))
+left3 c = left2 (c .before .before) ∙ passes _ _ _ (ap not (sym (c .before .is-content-type .ensures)) ∙ c .if3 .left)
 
 left4 : (c : tie.Else4) → from 0 (h4 c) ≡ from 3 (h4 c)
 unfolding headerTests refusals
-left4 c = left3 (c .before .before) ∙ passes _ _ _ (ap not (eq-eqb _ _ (c .if4 .left)))
+left4 c = left3 (c .before .before) ∙ passes _ _ _ (ap not (sym (c .before .is-content-type2 .ensures)) ∙ c .if4 .left)
 
 left5 : (c : tie.Else5) → from 0 (h5 c) ≡ from 4 (h5 c)
 unfolding headerTests refusals
@@ -76,13 +76,19 @@ returns-2 : tie.Need-returns-2
 unfolding headerTests refusals
 returns-2 c = sym (stops _ _ _ (rw (eq-eqb _ _ (c .before .before .if1 .left), ne-eqb _ _ (c .if2 .taken)) refl))
 
+is-content-type-requires : tie.Need-is-content-type-requires
+is-content-type-requires c κs = search needs
+
 returns-3 : tie.Need-returns-3
 unfolding headerTests refusals
-returns-3 c = sym (left2 (c .before .before) ∙ stops _ _ _ (ap not (ne-eqb _ _ (c .if3 .taken))))
+returns-3 c = sym (left2 (c .before .before) ∙ stops _ _ _ (ap not (sym (c .before .is-content-type .ensures)) ∙ c .if3 .taken))
+
+is-content-type-requires-2 : tie.Need-is-content-type-requires-2
+is-content-type-requires-2 c κs = search needs
 
 returns-4 : tie.Need-returns-4
 unfolding headerTests refusals
-returns-4 c = sym (left3 (c .before .before) ∙ stops _ _ _ (ap not (ne-eqb _ _ (c .if4 .taken))))
+returns-4 c = sym (left3 (c .before .before) ∙ stops _ _ _ (ap not (sym (c .before .is-content-type2 .ensures)) ∙ c .if4 .taken))
 
 is-listed-requires : tie.Need-is-listed-requires
 is-listed-requires c κs = search needs
@@ -116,7 +122,9 @@ check-header-spec =
     (tie.spec
     returns
     returns-2
+    is-content-type-requires
     returns-3
+    is-content-type-requires-2
     returns-4
     is-listed-requires
     returns-5
