@@ -8,7 +8,8 @@ use mathlib.Core.List.{List, [], _∷_, _++_}
 use lib.ListN.{length, replicate}
 use Rattle.registry.specs.Slots.{free, held}
 use Rattle.billing.specs.Ascii.{ascii}
-use Rattle.billing.proofs.Cases.{Case, showing, Holds, AllHold, case-of, longRequest, request, response, key, keyBody, nameBody, imported, holding, with-list}
+use Rattle.billing.specs.Claims.{Case, AllHold}
+use Rattle.billing.proofs.Cases.{showing, holds, case-of, longRequest, request, response, key, keyBody, nameBody, imported, holding, with-list}
 
 -- applications `b` and `c`
 roster-bc : List ℕ
@@ -80,5 +81,5 @@ pub table : List Case
 table = case-long-header ∷ case-two-keys ∷ case-uses ∷ case-skipped ∷ []
 
 pub beyond : AllHold table
-unfolding table Holds showing case-of longRequest request response key keyBody nameBody imported holding with-list roster-bc more imports importsOther exports exported destroys list-f pings importsMore case-long-header case-two-keys case-uses case-skipped
-beyond = (refl, (refl, (refl, (refl, tt))))
+unfolding table showing case-of longRequest request response key keyBody nameBody imported holding with-list roster-bc more imports importsOther exports exported destroys list-f pings importsMore case-long-header case-two-keys case-uses case-skipped
+beyond = (holds case-long-header refl, (holds case-two-keys refl, (holds case-uses refl, (holds case-skipped refl, tt))))

@@ -1,4 +1,4 @@
--- What a case of a table says, and that it is computed from the rules on a whole stream.
+-- A case of a table computed from the rules on a whole stream, and the cases' parts.
 use mathlib.Core.Path.{_≡_}
 use Prim.Native.Nat.{ℕ, _+_, _-_}
 use mathlib.Core.Bool.{true, false}
@@ -25,52 +25,30 @@ use Rattle.registry.specs.Registry.{slotCount, applicationNamed, slotsOf, usesO
 use Rattle.records.specs.Records.{isWhole, recordTurn, readRecords}
 use Rattle.shipped.specs.Shipped.{pairStep, pairsDone, listOf, wellFormedList, keysIn, listedNamed}
 use Rattle.lookup.specs.Lookup.{shippedKey, keyOf, ownIn, listedIn, keyNamed}
-use Rattle.roster.specs.Roster.{faultNumber, recordFaults, Roster, applications, faulty, recordStep, rosterOf}
+use Rattle.roster.specs.Roster.{faultNumber, recordFaults, recordStep, rosterOf}
 use Rattle.stream.specs.Frame.{legalStart, oversized, next}
-use Rattle.stream.specs.Rules.{Outcome, heldBytes, answer, finish, judge, rulesWithin, rulesFrom, start, rules}
+use Rattle.stream.specs.Rules.{heldBytes, answer, finish, judge, rulesWithin, rulesFrom, start, rules}
 use Rattle.judgement.specs.Status.{statusNumber}
 use Rattle.messages.specs.Opcodes.{opcodesOf}
 use Rattle.messages.specs.Format.{listed, messageBytes, readMessage}
 use Rattle.messages.specs.Protobuf.{packedOf}
 use Rattle.messages.specs.Operations.{readBody, inputFields, askingOf, asked, operationOf, outputBytes}
 use Rattle.judgement.specs.Operations.{success, refuse, withinBounds, placeKey, importBy, performImport, destroyOf, performDestroy, counted, exportOf, performExport, performListOpcodes, perform, refuseAt, operated}
-use Rattle.judgement.specs.Counts.{Counts, noCounts, increment, indexOf, countRefused, countServed, count}
+use Rattle.judgement.specs.Counts.{noCounts, increment, indexOf, countRefused, countServed, count}
 use Rattle.judgement.specs.Judgement.{applicationOf, refusals, askersSlots, resultOf, changedBy, verdictOf, refusedEarly, oversizedStatus, judgement}
 use Rattle.billing.specs.Ascii.{ascii}
 use Rattle.billing.specs.Bill.{digitsBefore, decimal, textLine, applicationLines, keyLine, slotLines, keyLines, refusedLines, billOf, refusedRoster, billFor, isListRefused, bill}
-
--- ---- what a case shows: the responses, the slots of application 0 afterwards, and the bill
-pub record Shown : Type 0 where
-  pub responses : List (List ℕ)
-  pub slots : List Entry
-  pub bill : List ℕ
-
-pub record Case : Type 0 where
-  pub roster : List ℕ
-  pub stream : List ℕ
-  pub list : List ℕ  -- of the keys that we ship
-  pub shown : Shown
-
-unfoldable pub shownBy : Outcome (List ℕ) Counts (List ℕ) → (bill : List ℕ) → Shown
-shownBy o bill = record { responses = o .responses; slots = slotsOf (o .state .registry) (record { 0 = 0 }); bill = bill }
-
-unfoldable pub startOf : Roster → List ℕ
-startOf (applications names) = registryOf names
-startOf (faulty fault) = []
+use Rattle.billing.specs.Claims.{Shown, Case, shownBy, startOf, shownFor}
 
 -- all that a case computes with
 unfoldable pub showing : (roster stream list : List ℕ) → Shown
 unfolding rosterOf readRecords recordTurn isWhole recordStep recordFaults firstOf legalName field littleEndian registryOf lineOf flatten rules rulesFrom rulesWithin start answer finish judge next legalStart oversized judgement noCounts requestOf resultOf refusals oneOf opcodesOf isSome applicationOf applicationNamed indexFrom refuseAt operated inputFields askingOf asked operationOf readBody scanAt scanFrom stepAt itemOf fieldAt contentAt numberAt spanAt fixedAt groupAt varintOf withValue perform withinBounds placeKey importBy performImport performDestroy destroyOf performExport counted exportOf keyNamed ownIn listedIn keyOf shippedKey keysIn listOf pairStep pairsDone listedNamed performListOpcodes success refuse numberField bytesField packedField flatMap varint varintWithin importBits legalData legalBits slotNamed keyBytes slotBytes used usedSlot askersSlots verdictOf refusedEarly oversizedStatus responseBytes responseHeader littleEndianOf statusNumber changedBy changed count countServed countRefused increment indexOf slotsOf usesOf slotOf billOf textLine decimal digitsBefore applicationLines keyLine slotLines keyLines refusedLines heldBytes ascii shownBy startOf bill billFor isListRefused wellFormedList refusedRoster faultNumber listed messageBytes readMessage packedOf outputBytes bind
 showing roster stream list = shownBy (rules (judgement list) (startOf (rosterOf roster)) stream) (bill (some roster) (some stream) (some list))
 
--- ---- a table holds
-
-unfoldable pub Holds : Case → Type 0
-Holds c = showing (c .roster) (c .stream) (c .list) ≡ c .shown
-
-abbrev pub AllHold : List Case → Type 0
-AllHold [] = Unit {0}
-AllHold (c ∷ cs) = Holds c × AllHold cs
+-- a case holds if it is computed so
+pub holds : (c : Case) → showing (c .roster) (c .stream) (c .list) ≡ c .shown → shownFor (c .roster) (c .stream) (c .list) ≡ c .shown
+unfolding showing shownFor
+holds c e = e
 
 -- ---- the cases' parts
 

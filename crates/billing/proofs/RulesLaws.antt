@@ -2,33 +2,32 @@
 -- bill for the roster and the joined stream of taken bytes.
 use mathlib.Core.Path.{_≡_, refl, ap, ap₂, _∙_}
 use mathlib.Core.Bool.{true}
-use mathlib.Core.List.{List, [], _∷_, _++_, flatten}
+use mathlib.Core.List.{List, [], _∷_, _++_}
 use Prim.Native.Nat.{ℕ, zero, suc, _+_, _-_}
 use native.Mathlib.Omega.{arith}
 use lib.ListN.{length, replicate}
 use Rattle.wire.specs.Lists.{all}
 use Rattle.wire.proofs.TestLaws.{and-left, and-right}
 use Rattle.reading.specs.Calls.{takenStream}
-use Rattle.stream.specs.Rules.{heldBytes, rules}
-use Rattle.stream.specs.Parts.{partsOf}
+use Rattle.stream.specs.Rules.{rules}
 use Rattle.stream.proofs.KeptLaws.{rules-connection}
 use Rattle.stream.proofs.CallsLaws.{Lawful}
 use Rattle.keys.specs.Names.{applicationNameMost}
 use Rattle.registry.specs.Registry.{lineCount, namesIn, registryOf}
 use Rattle.keys.proofs.NameLaws.{legal-some}
 use Rattle.registry.proofs.KeylessLaws.{isLegal, LegalNames, registry-names, registry-good}
-use Rattle.roster.specs.Roster.{applications, rosterOf}
+use Rattle.roster.specs.Roster.{applications}
 use Rattle.roster.proofs.RosterLaws.{roster-legal}
 use Rattle.judgement.specs.Judgement.{judgement}
 use Rattle.judgement.proofs.NamesLaws.{rules-names}
 use Rattle.counters.specs.Counters.{totalsOf}
-use Rattle.service.specs.Call.{Memory, stateIn, memoryOf, layout, fresh, Call}
+use Rattle.service.specs.Call.{stateIn, memoryOf, layout, fresh}
 use Rattle.service.proofs.Demand3.{lawful}
-use Rattle.service.specs.Contract.{Ran}
-use Rattle.service.specs.Claims.{Runs, answersIn, leftAfter}
+use Rattle.service.specs.Claims.{answersIn, leftAfter}
 use Rattle.service.proofs.CodeDemand3.{code-demand3}
 use Rattle.billing.specs.Bill.{billOf, requestsOn, billFor}
 use Rattle.billing.specs.Outcome.{usedNames, billIn}
+use Rattle.billing.specs.Claims.{BillOfCalls}
 use Rattle.billing.proofs.RequestLaws.{bill-requests}
 
 used-first : (names : List (List ℕ)) (k : ℕ) → all isLegal names ≡ true → usedNames (names ++ replicate k []) ≡ names
@@ -51,19 +50,7 @@ module _ (names : List (List ℕ)) (legal : LegalNames names) where
       (ap usedNames (rules-names list (registryOf names) (registry-good names legal) stream) ∙ registry-used)
       (lawful (rules (judgement list) (registryOf names) stream .state) (rules-connection (judgement list) (registryOf names) stream))
 
--- the bill of what calls left in memory, for a roster file with these names and the joined stream of taken bytes
-pub record BillOfCalls (list file : List ℕ) (names : List (List ℕ)) (stream : List ℕ) (m : Memory) : Type 0 where
-  -- its text is document 01's
-  pub text : billIn m ≡ billFor list (rosterOf file) stream
-  -- the bytes on it are those of answered requests, those dropped and those held: every byte of the stream, once
-  pub bytes : stateIn m .totals .taken ≡ length (flatten (partsOf stream .answered)) + stateIn m .totals .dropped + heldBytes (stateIn m .connection)
-  -- the requests on it are the answered ones, each once
-  pub requests : requestsOn names (stateIn m) ≡ length (partsOf stream .answered)
-
--- any calls of the code, all lent this list, from a fresh connection, zero counters and the registry of a good roster file
-pub bill-of-calls : (list file : List ℕ) (names : List (List ℕ)) → rosterOf file ≡ applications names
-    → (calls : List Call) (runs : List Ran) → Runs list (fresh (registryOf names)) calls runs
-    → BillOfCalls list file names (takenStream calls (answersIn runs)) (leftAfter (fresh (registryOf names)) runs)
+pub bill-of-calls : BillOfCalls
 unfolding stateIn totalsOf Lawful layout
 bill-of-calls list file names good calls runs p =
     let legal = roster-legal file names good in

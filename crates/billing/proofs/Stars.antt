@@ -5,7 +5,8 @@ use Prim.Native.Nat.{ℕ, _+_}
 use mathlib.Core.List.{List, [], _∷_, _++_, flatMap}
 use lib.ListN.{replicate}
 use Rattle.billing.specs.Ascii.{ascii}
-use Rattle.billing.proofs.Cases.{Case, showing, Holds, AllHold, case-of, longRequest, request, response, key, keyBody, nameBody, imported, holding}
+use Rattle.billing.specs.Claims.{Case, AllHold}
+use Rattle.billing.proofs.Cases.{showing, holds, case-of, longRequest, request, response, key, keyBody, nameBody, imported, holding}
 
 -- ---- the table
 
@@ -96,5 +97,5 @@ table =
 -- ---- the claim
 
 pub stars : AllHold table
-unfolding table Holds showing flatMap case-of longRequest request response ping pong oversizedRequest roster-b imports destroys key keyBody nameBody imported holding case-ping case-providers case-opcodes-0 case-opcodes-1 case-import case-bill case-oversized case-version case-opcode eight case-ninth case-held
-stars = (refl, (refl, (refl, (refl, (refl, (refl, (refl, (refl, (refl, (refl, (refl, tt)))))))))))
+unfolding table showing flatMap case-of longRequest request response ping pong oversizedRequest roster-b imports destroys key keyBody nameBody imported holding case-ping case-providers case-opcodes-0 case-opcodes-1 case-import case-bill case-oversized case-version case-opcode eight case-ninth case-held
+stars = (holds case-ping refl, (holds case-providers refl, (holds case-opcodes-0 refl, (holds case-opcodes-1 refl, (holds case-import refl, (holds case-bill refl, (holds case-oversized refl, (holds case-version refl, (holds case-opcode refl, (holds case-ninth refl, (holds case-held refl, tt)))))))))))

@@ -17,18 +17,18 @@ use Rattle.registry.specs.WellFormed.{wellFormedRegistry}
 use Rattle.registry.specs.declared.Line.{Line}
 use Rattle.reading.specs.Calls.{takenStream}
 use Rattle.stream.specs.Frame.{legalStart, oversized}
-use Rattle.stream.specs.Rules.{judge, rules}
+use Rattle.stream.specs.Rules.{judge}
 use Rattle.stream.specs.Parts.{partsOf, verdictOn}
 use Rattle.stream.proofs.PartsLaws.{registryFrom, rules-registry}
 use Rattle.judgement.specs.Counts.{Counts, noCounts, sum, increment}
 use Rattle.judgement.specs.Judgement.{refusedEarly, verdictOf, judgement}
 use Rattle.judgement.proofs.VerdictLaws.{verdict-kept}
 use Rattle.counters.proofs.RequestLaws.{sum-increment}
-use Rattle.service.specs.Call.{Memory, memoryOf, fresh, Call}
-use Rattle.service.specs.Contract.{Ran}
-use Rattle.service.specs.Claims.{Runs, answersIn, leftAfter}
+use Rattle.service.specs.Call.{Memory, memoryOf}
+use Rattle.service.specs.Claims.{answersIn}
 use Rattle.service.proofs.CodeDemand3.{code-demand3}
 use Rattle.uses.specs.Uses.{isUse, destroysKey, registryAfter, countIf}
+use Rattle.uses.specs.Claims.{UsesAddUp, UsesOfCalls}
 use Rattle.uses.proofs.RequestLaws.{Step, stays, adds, request-step}
 
 -- ---- counts that are not at their most
@@ -107,28 +107,15 @@ module _ (list : List ℕ) where
 
 -- ---- the claims
 
--- any stream under the rules: counts fall by Destroy alone, so that none is at its most before where none is afterwards
-pub uses-add-up : (list registry : List ℕ) → wellFormedRegistry registry ≡ true → (line : Line) → line .0 < lineCount → (stream : List ℕ)
-    → (let after : List ℕ = rules (judgement list) registry stream .state .registry in
-    let requests : List (List ℕ) = partsOf stream .answered in
-    countIf (destroysKey list line) list registry requests ≡ 0
-    → all (λ n. ltb n usesMost) (usesOf after line) ≡ true
-    → sum (usesOf after line) ≡ sum (usesOf registry line) + countIf (isUse list line) list registry requests)
+-- counts fall by Destroy alone, so that none is at its most before where none is afterwards
+pub uses-add-up : UsesAddUp
 unfolding Added
 uses-add-up list registry w line hl stream kept e =
     let same = rules-registry (judgement list) registry stream in
     ap (λ (r : List ℕ). sum (usesOf r line)) same
     ∙ each list line hl (partsOf stream .answered) registry _ w kept (subst (λ (r : List ℕ). notFull (usesOf r line) ≡ true) same e) .1
 
--- any calls of the code from a fresh connection and zero counters: the registry that they left, and the joined stream of taken
--- bytes
-pub uses-of-calls : (list registry : List ℕ) → wellFormedRegistry registry ≡ true → (line : Line) → line .0 < lineCount
-    → (calls : List Call) (runs : List Ran) → Runs list (fresh registry) calls runs
-    → (let after : List ℕ = leftAfter (fresh registry) runs .registry in
-    let requests : List (List ℕ) = partsOf (takenStream calls (answersIn runs)) .answered in
-    countIf (destroysKey list line) list registry requests ≡ 0
-    → all (λ n. ltb n usesMost) (usesOf after line) ≡ true
-    → sum (usesOf after line) ≡ sum (usesOf registry line) + countIf (isUse list line) list registry requests)
+pub uses-of-calls : UsesOfCalls
 unfolding memoryOf
 uses-of-calls list registry w line hl calls runs p kept e =
     let same = ap (λ (m : Memory). usesOf (m .registry) line) (code-demand3 list registry .follows calls runs p .memory) in
