@@ -13,13 +13,15 @@ use Rattle.wire.specs.Request.{contentMost}
 use Rattle.wire.proofs.TestLaws.{none-at, first-behind}
 use Rattle.keys.specs.Names.{keyNameMost, legalName}
 use Rattle.keys.specs.Key.{Key, legalData, importBits}
-use Rattle.messages.specs.Protobuf.{protobuf}
+use Rattle.messages.specs.Formats.{formatOf}
 use Rattle.messages.specs.Operations.{Operation, ping, importKey, destroyKey, verifySignature, operationBody}
-use Rattle.messages.proofs.WriteLaws.{verify-body-least}
-use Rattle.client_requests.specs.Writing.{Sender, requestBufferLeast, hashSize, legalSender, keyNameTest, legalBody, fieldTests, writeTests}
+use Rattle.messages.specs.declared.format.BodyFormat.{BodyFormat}
+use Rattle.messages.proofs.FormatsLaws.{verify-body-least}
+use Rattle.client_requests.specs.Writing.{Sender, bodyFormat, requestBufferLeast, hashSize, legalTypes, legalSender, keyNameTest, legalBody, fieldTests, writeTests}
 use Rattle.client_requests.specs.code.Judged.{judgedAs, firstRefusal}
+use Rattle.client_requests.specs.declared.Types.{Types}
 use Rattle.client_requests.specs.declared.WriteRefusal.{WriteRefusal}
-use Rattle.client_requests.specs.declared.WriteRefusal.the-variants.{BufferTooSmall, ApplicationNameIllegal, KeyNameIllegal, DataIllegal, BitsIllegal, HashIllegal, BodyTooLong}
+use Rattle.client_requests.specs.declared.WriteRefusal.the-variants.{BufferTooSmall, ApplicationNameIllegal, KeyNameIllegal, DataIllegal, BitsIllegal, HashIllegal, BodyTooLong, TypeUnlisted}
 use Rattle.client_requests.specs.declared.judge.Judged.{Judged}
 use Rattle.client_requests.specs.declared.judge.Judged.the-variants.{Legal, Refused}
 
@@ -49,23 +51,30 @@ joined ((false, refusal) ∷ ts) us = joined ts us
 abbrev alone : (test : Bool) → WriteRefusal → Judged
 alone test refusal = judgedAs (firstOf ((test, refusal) ∷ []))
 
-module _ (out : List ℕ) (sender : Sender) where
+module _ (out : List ℕ) (types : Types) (sender : Sender) where
   senderTests : Tests
-  senderTests = (ltb (length out) requestBufferLeast, BufferTooSmall) ∷ (not (legalSender sender), ApplicationNameIllegal) ∷ []
+  senderTests =
+      (not (legalTypes types), TypeUnlisted) ∷ (ltb (length out) requestBufferLeast, BufferTooSmall) ∷ (not (legalSender sender), ApplicationNameIllegal) ∷ []
 
-  pub sender-judged : firstRefusal (alone (ltb (length out) requestBufferLeast) BufferTooSmall) (alone (not (legalSender sender)) ApplicationNameIllegal)
-      ≡ judgedAs (firstOf (writeTests out sender ping))
+  pub sender-judged :
+      firstRefusal (alone (not (legalTypes types)) TypeUnlisted)
+      (firstRefusal (alone (ltb (length out) requestBufferLeast) BufferTooSmall) (alone (not (legalSender sender)) ApplicationNameIllegal))
+      ≡ judgedAs (firstOf (writeTests out types sender ping))
   unfolding writeTests firstOf
-  sender-judged = joined ((ltb (length out) requestBufferLeast, BufferTooSmall) ∷ []) ((not (legalSender sender), ApplicationNameIllegal) ∷ [])
+  sender-judged =
+      let listed : Tests = (not (legalTypes types), TypeUnlisted) ∷ [] in
+      let room : Tests = (ltb (length out) requestBufferLeast, BufferTooSmall) ∷ [] in
+      let who : Tests = (not (legalSender sender), ApplicationNameIllegal) ∷ [] in
+      ap (firstRefusal (judgedAs (firstOf listed))) (joined room who) ∙ joined listed (room ++ who)
 
-  pub name-judged : (name : List ℕ) → firstRefusal (judgedAs (firstOf (writeTests out sender ping))) (alone (not (legalName keyNameMost name)) KeyNameIllegal)
-      ≡ judgedAs (firstOf (writeTests out sender (destroyKey name)))
+  pub name-judged : (name : List ℕ) → firstRefusal (judgedAs (firstOf (writeTests out types sender ping))) (alone (not (legalName keyNameMost name)) KeyNameIllegal)
+      ≡ judgedAs (firstOf (writeTests out types sender (destroyKey name)))
   unfolding writeTests firstOf senderTests
   name-judged name = joined senderTests (keyNameTest name ∷ [])
 
   pub key-judged : (key : Key)
-      → firstRefusal (judgedAs (firstOf (writeTests out sender (destroyKey (key .name))))) (firstRefusal (alone (not (legalData (key .bytes))) DataIllegal) (alone (not (importBits (key .bits))) BitsIllegal))
-      ≡ judgedAs (firstOf (writeTests out sender (importKey key)))
+      → firstRefusal (judgedAs (firstOf (writeTests out types sender (destroyKey (key .name))))) (firstRefusal (alone (not (legalData (key .bytes))) DataIllegal) (alone (not (importBits (key .bits))) BitsIllegal))
+      ≡ judgedAs (firstOf (writeTests out types sender (importKey key)))
   unfolding writeTests firstOf senderTests
   key-judged key =
       let bytes : Tests = (not (legalData (key .bytes)), DataIllegal) ∷ [] in
@@ -74,59 +83,63 @@ module _ (out : List ℕ) (sender : Sender) where
       ∙ joined (senderTests ++ (keyNameTest (key .name) ∷ [])) (bytes ++ bits)
 
   pub verify-judged : (name hash signature : List ℕ)
-      → firstRefusal (judgedAs (firstOf (writeTests out sender (destroyKey name)))) (firstRefusal (alone (not (eqb (length hash) hashSize)) HashIllegal) (alone (not (legalBody name hash signature)) BodyTooLong))
-      ≡ judgedAs (firstOf (writeTests out sender (verifySignature name hash signature)))
+      → firstRefusal (judgedAs (firstOf (writeTests out types sender (destroyKey name)))) (firstRefusal (alone (not (eqb (length hash) hashSize)) HashIllegal) (alone (not (legalBody (bodyFormat types) name hash signature)) BodyTooLong))
+      ≡ judgedAs (firstOf (writeTests out types sender (verifySignature name hash signature)))
   unfolding writeTests firstOf senderTests
   verify-judged name hash signature =
       let size : Tests = (not (eqb (length hash) hashSize), HashIllegal) ∷ [] in
-      let body : Tests = (not (legalBody name hash signature), BodyTooLong) ∷ [] in
+      let body : Tests = (not (legalBody (bodyFormat types) name hash signature), BodyTooLong) ∷ [] in
       ap (firstRefusal (judgedAs (firstOf (senderTests ++ (keyNameTest name ∷ []))))) (joined size body)
       ∙ joined (senderTests ++ (keyNameTest name ∷ [])) (size ++ body)
 
 -- what verify carries is too long by itself
-pub too-long : (name hash signature : List ℕ) → contentMost < length name + length hash + length signature
-    → false ≡ legalBody name hash signature
-too-long name hash signature h =
-    let long : contentMost < length (operationBody protobuf (verifySignature name hash signature)) = omega (arith, verify-body-least name hash signature) in
+pub too-long : (format : BodyFormat) (name hash signature : List ℕ) → contentMost < length name + length hash + length signature
+    → false ≡ legalBody format name hash signature
+too-long format name hash signature h =
+    let long : contentMost < length (operationBody (formatOf format) (verifySignature name hash signature)) = omega (arith, verify-body-least format name hash signature) in
     sym (lt-leb _ _ long)
 
 -- ---- what holds where every test is passed
 
-pub record Passed (out : List ℕ) (sender : Sender) (operation : Operation) : Type 0 where
+pub record Passed (out : List ℕ) (types : Types) (sender : Sender) (operation : Operation) : Type 0 where
+  pub listed : legalTypes types ≡ true
   pub room : requestBufferLeast ≤ length out
   pub legal : legalSender sender ≡ true
-  pub fields : firstOf (fieldTests operation) ≡ none
+  pub fields : firstOf (fieldTests (bodyFormat types) operation) ≡ none
 
-pub passed : (out : List ℕ) (sender : Sender) (operation : Operation) → judgedAs (firstOf (writeTests out sender operation)) ≡ Legal → Passed out sender operation
+pub passed : (out : List ℕ) (types : Types) (sender : Sender) (operation : Operation) → judgedAs (firstOf (writeTests out types sender operation)) ≡ Legal → Passed out types sender operation
 unfolding writeTests firstOf senderTests
-passed out sender operation e =
-    let tests : Tests = writeTests out sender operation in
+passed out types sender operation e =
+    let tests : Tests = writeTests out types sender operation in
     let none′ : firstOf tests ≡ none = told-legal (firstOf tests) e in
-    let room : ltb (length out) requestBufferLeast ≡ false = none-at tests 0 BufferTooSmall none′ in
-    let legal : not (legalSender sender) ≡ false = none-at tests 1 BufferTooSmall none′ in
-    let first : firstOf (senderTests out sender) ≡ none = rw (room, legal) in
+    let listed : not (legalTypes types) ≡ false = none-at tests 0 BufferTooSmall none′ in
+    let room : ltb (length out) requestBufferLeast ≡ false = none-at tests 1 BufferTooSmall none′ in
+    let legal : not (legalSender sender) ≡ false = none-at tests 2 BufferTooSmall none′ in
+    let first : firstOf (senderTests out types sender) ≡ none = rw (listed, room, legal) in
     record {
+      listed = not-false _ listed;
       room = ltb-false _ _ room;
       legal = not-false _ legal;
-      fields = sym (first-behind (senderTests out sender) (fieldTests operation) first) ∙ none′;
+      fields = sym (first-behind (senderTests out types sender) (fieldTests (bodyFormat types) operation) first) ∙ none′;
     }
 
 -- of what the operation carries
-test-fails : (operation : Operation) (k : ℕ) → firstOf (fieldTests operation) ≡ none → getD (fieldTests operation) k (false, BufferTooSmall) .0 ≡ false
-test-fails operation k e = none-at (fieldTests operation) k BufferTooSmall e
+module _ (format : BodyFormat) where
+  test-fails : (operation : Operation) (k : ℕ) → firstOf (fieldTests format operation) ≡ none → getD (fieldTests format operation) k (false, BufferTooSmall) .0 ≡ false
+  test-fails operation k e = none-at (fieldTests format operation) k BufferTooSmall e
 
-pub name-passed : (name : List ℕ) → firstOf (fieldTests (destroyKey name)) ≡ none → legalName keyNameMost name ≡ true
-name-passed name e = not-false _ (test-fails (destroyKey name) 0 e)
+  pub name-passed : (name : List ℕ) → firstOf (fieldTests format (destroyKey name)) ≡ none → legalName keyNameMost name ≡ true
+  name-passed name e = not-false _ (test-fails (destroyKey name) 0 e)
 
-module _ (key : Key) (e : firstOf (fieldTests (importKey key)) ≡ none) where
-  pub import-name-passed : legalName keyNameMost (key .name) ≡ true
-  import-name-passed = not-false _ (test-fails (importKey key) 0 e)
+  module _ (key : Key) (e : firstOf (fieldTests format (importKey key)) ≡ none) where
+    pub import-name-passed : legalName keyNameMost (key .name) ≡ true
+    import-name-passed = not-false _ (test-fails (importKey key) 0 e)
 
-  pub import-data-passed : legalData (key .bytes) ≡ true
-  import-data-passed = not-false _ (test-fails (importKey key) 1 e)
+    pub import-data-passed : legalData (key .bytes) ≡ true
+    import-data-passed = not-false _ (test-fails (importKey key) 1 e)
 
-  pub import-bits-passed : importBits (key .bits) ≡ true
-  import-bits-passed = not-false _ (test-fails (importKey key) 2 e)
+    pub import-bits-passed : importBits (key .bits) ≡ true
+    import-bits-passed = not-false _ (test-fails (importKey key) 2 e)
 
-pub body-passed : (name hash signature : List ℕ) → firstOf (fieldTests (verifySignature name hash signature)) ≡ none → legalBody name hash signature ≡ true
-body-passed name hash signature e = not-false _ (test-fails (verifySignature name hash signature) 2 e)
+  pub body-passed : (name hash signature : List ℕ) → firstOf (fieldTests format (verifySignature name hash signature)) ≡ none → legalBody format name hash signature ≡ true
+  body-passed name hash signature e = not-false _ (test-fails (verifySignature name hash signature) 2 e)

@@ -1,5 +1,6 @@
 // What is refused before a byte of a request is written: the first test that holds (document 02, "The client's half", "Checking
 // signatures").
+use crate::Types;
 use crate::WriteRefusal;
 use keys::APPLICATION_NAME_MOST;
 use keys::KEY_NAME_MOST;
@@ -7,6 +8,9 @@ use keys::bits::are_import_bits;
 use keys::data::is_legal_data;
 use keys::names::is_legal;
 use messages::HASH_SIZE;
+use messages::format::BodyFormat;
+use messages::format::format_for;
+use messages::format::is_content_type;
 use messages::write::verify_body_size;
 use wire::header::CONTENT_MOST;
 ghost use mathlib.Core.Bool.{Bool};
@@ -14,7 +18,7 @@ ghost use mathlib.Core.List.{[], _∷_};
 ghost use mathlib.Core.Path.{_≡_};
 ghost use Rattle.wire.specs.Choice.{firstOf};
 ghost use Rattle.messages.specs.Operations.{ping, importKey, destroyKey, verifySignature};
-ghost use Rattle.client_requests.specs.Writing.{senderOf, legalSender, legalBody, writeTests};
+ghost use Rattle.client_requests.specs.Writing.{senderOf, legalTypes, legalSender, legalBody, writeTests};
 ghost use Rattle.client_requests.specs.code.Judged.{judgedAs, firstRefusal};
 
 // The shortest buffer for a request.
@@ -28,6 +32,16 @@ pub enum Judged {
     Refused(WriteRefusal),
 }
 
+// Whether both types are listed.
+fn are_legal_types(types: Types) -> bool
+    ensures { λ r. ⌜ r ≡ legalTypes types ⌝ }
+{
+    if !is_content_type(types.content) {
+        return false;
+    }
+    is_content_type(types.accept)
+}
+
 // Whether the application's name, if there is one, is legal.
 fn is_legal_sender(named: bool, application: &[u8]) -> bool
     ensures { λ r. ⌜ r ≡ legalSender (senderOf named (now (application .entry))) ⌝ }
@@ -39,8 +53,8 @@ fn is_legal_sender(named: bool, application: &[u8]) -> bool
 }
 
 // Whether verify's body is short enough. A field that is too long by itself is told before sizes are added up.
-fn is_legal_body(name: &[u8], hash: &[u8], signature: &[u8]) -> bool
-    ensures { λ r. ⌜ r ≡ legalBody (now (name .entry)) (now (hash .entry)) (now (signature .entry)) ⌝ }
+fn is_legal_body(format: BodyFormat, name: &[u8], hash: &[u8], signature: &[u8]) -> bool
+    ensures { λ r. ⌜ r ≡ legalBody format (now (name .entry)) (now (hash .entry)) (now (signature .entry)) ⌝ }
 {
     if BODY_MOST < name.len() {
         return false;
@@ -51,7 +65,7 @@ fn is_legal_body(name: &[u8], hash: &[u8], signature: &[u8]) -> bool
     if BODY_MOST < signature.len() {
         return false;
     }
-    verify_body_size(name, hash, signature) <= BODY_MOST
+    verify_body_size(format, name, hash, signature) <= BODY_MOST
 }
 
 // One test: whether it refuses.
@@ -75,9 +89,10 @@ fn first_refusal(judged: Judged, later: Judged) -> Judged
 }
 
 // The tests of an operation on no key, Ping for all.
-pub fn judge_sender(out: &[u8], named: bool, application: &[u8]) -> Judged
-    ensures { λ r. ⌜ r ≡ judgedAs (firstOf (writeTests (now (out .entry)) (senderOf named (now (application .entry))) ping)) ⌝ }
+pub fn judge_sender(out: &[u8], types: Types, named: bool, application: &[u8]) -> Judged
+    ensures { λ r. ⌜ r ≡ judgedAs (firstOf (writeTests (now (out .entry)) types (senderOf named (now (application .entry))) ping)) ⌝ }
 {
+    let listed = judge(!are_legal_types(types), WriteRefusal::TypeUnlisted);
     let room = judge(
         out.len() < REQUEST_BUFFER_LEAST,
         WriteRefusal::BufferTooSmall,
@@ -86,14 +101,14 @@ pub fn judge_sender(out: &[u8], named: bool, application: &[u8]) -> Judged
         !is_legal_sender(named, application),
         WriteRefusal::ApplicationNameIllegal,
     );
-    first_refusal(room, sender)
+    first_refusal(listed, first_refusal(room, sender))
 }
 
 // Of one on a key by its name, Destroy for both.
-pub fn judge_name(out: &[u8], named: bool, application: &[u8], name: &[u8]) -> Judged
-    ensures { λ r. ⌜ r ≡ judgedAs (firstOf (writeTests (now (out .entry)) (senderOf named (now (application .entry))) (destroyKey (now (name .entry))))) ⌝ }
+pub fn judge_name(out: &[u8], types: Types, named: bool, application: &[u8], name: &[u8]) -> Judged
+    ensures { λ r. ⌜ r ≡ judgedAs (firstOf (writeTests (now (out .entry)) types (senderOf named (now (application .entry))) (destroyKey (now (name .entry))))) ⌝ }
 {
-    let sender = judge_sender(out, named, application);
+    let sender = judge_sender(out, types, named, application);
     let key = judge(!is_legal(name, KEY_NAME_MOST), WriteRefusal::KeyNameIllegal);
     first_refusal(sender, key)
 }
@@ -101,15 +116,16 @@ pub fn judge_name(out: &[u8], named: bool, application: &[u8], name: &[u8]) -> J
 // Of Import, whatever its permissions are.
 pub fn judge_key(
     out: &[u8],
+    types: Types,
     named: bool,
     application: &[u8],
     name: &[u8],
     bytes: &[u8],
     bits: u32,
 ) -> Judged
-    ensures { λ r. ⌜ ((exported verified : Bool) → r ≡ judgedAs (firstOf (writeTests (now (out .entry)) (senderOf named (now (application .entry))) (importKey (record { name = now (name .entry); bytes = now (bytes .entry); bits = bits; exportAllowed = exported; verifyAllowed = verified }))))) ⌝ }
+    ensures { λ r. ⌜ ((exported verified : Bool) → r ≡ judgedAs (firstOf (writeTests (now (out .entry)) types (senderOf named (now (application .entry))) (importKey (record { name = now (name .entry); bytes = now (bytes .entry); bits = bits; exportAllowed = exported; verifyAllowed = verified }))))) ⌝ }
 {
-    let names = judge_name(out, named, application, name);
+    let names = judge_name(out, types, named, application, name);
     let data = judge(!is_legal_data(bytes.len()), WriteRefusal::DataIllegal);
     let size = judge(!are_import_bits(bits as usize), WriteRefusal::BitsIllegal);
     first_refusal(names, first_refusal(data, size))
@@ -118,18 +134,19 @@ pub fn judge_key(
 // Of verify.
 pub fn judge_verify(
     out: &[u8],
+    types: Types,
     named: bool,
     application: &[u8],
     name: &[u8],
     hash: &[u8],
     signature: &[u8],
 ) -> Judged
-    ensures { λ r. ⌜ r ≡ judgedAs (firstOf (writeTests (now (out .entry)) (senderOf named (now (application .entry))) (verifySignature (now (name .entry)) (now (hash .entry)) (now (signature .entry))))) ⌝ }
+    ensures { λ r. ⌜ r ≡ judgedAs (firstOf (writeTests (now (out .entry)) types (senderOf named (now (application .entry))) (verifySignature (now (name .entry)) (now (hash .entry)) (now (signature .entry))))) ⌝ }
 {
-    let names = judge_name(out, named, application, name);
+    let names = judge_name(out, types, named, application, name);
     let size = judge(hash.len() != HASH_SIZE, WriteRefusal::HashIllegal);
     let body = judge(
-        !is_legal_body(name, hash, signature),
+        !is_legal_body(format_for(types.content), name, hash, signature),
         WriteRefusal::BodyTooLong,
     );
     first_refusal(names, first_refusal(size, body))

@@ -2,7 +2,13 @@
 pub mod judge;
 pub mod write;
 
-// Why a request is not written; the first that applies.
+// The format of a request's body and the one that is asked for in the response, by their numbers: 1 and 2.
+pub struct Types {
+    pub content: u8,
+    pub accept: u8,
+}
+
+// Why a request is not written; the first that applies, `TypeUnlisted` before all others.
 pub enum WriteRefusal {
     BufferTooSmall,
     ApplicationNameIllegal,
@@ -11,6 +17,7 @@ pub enum WriteRefusal {
     BitsIllegal,
     HashIllegal,
     BodyTooLong,
+    TypeUnlisted,
 }
 
 // What writing a request comes to: how many bytes it has, or why it was refused.

@@ -1,12 +1,14 @@
 // Requests written over the front of a lent buffer, one function an operation (document 02, "The client's half", "Checking
 // signatures"). The body is written straight to its place, then the header before it and the auth bytes behind it. Bytes past
 // the request stay.
+use crate::Types;
 use crate::Written;
 use crate::judge::Judged;
 use crate::judge::judge_key;
 use crate::judge::judge_name;
 use crate::judge::judge_sender;
 use crate::judge::judge_verify;
+use messages::format::format_for;
 use messages::opcodes::LIST_OPCODES;
 use messages::opcodes::LIST_PROVIDERS;
 use messages::opcodes::PING;
@@ -53,6 +55,7 @@ fn auth_length(named: bool, application: &[u8]) -> usize
 fn write_around(
     out: &mut [u8],
     session: u64,
+    types: Types,
     named: bool,
     application: &[u8],
     provider: u8,
@@ -60,14 +63,14 @@ fn write_around(
     size: usize,
 ) -> usize
     requires { ⌜ (requestBufferLeast ≤ length (now out)) × (legalSender (senderOf named (now application)) ≡ true) × (size ≤ contentMost) ⌝ }
-    ensures { λ r. ⌜ Wrote (requestBytes (requestAround session (senderOf named (now (application .entry))) provider opcode (take size (drop requestLeast (now (out .entry)))))) (now (out .entry)) (now (out .exit)) r ⌝ }
+    ensures { λ r. ⌜ Wrote (requestBytes (requestAround session types (senderOf named (now (application .entry))) provider opcode (take size (drop requestLeast (now (out .entry)))))) (now (out .entry)) (now (out .exit)) r ⌝ }
 {
     let auth = auth_length(named, application);
     let head = request_header(
         provider,
         session,
-        1,
-        1,
+        types.content,
+        types.accept,
         auth_type(named),
         size as u32,
         auth as u16,
@@ -79,13 +82,19 @@ fn write_around(
     end + copied
 }
 
-pub fn write_ping(out: &mut [u8], session: u64, named: bool, application: &[u8]) -> Written
-    ensures { λ r. ⌜ record { answer = r; out = now (out .exit) } ≡ writeOutcome (now (out .entry)) session (senderOf named (now (application .entry))) ping ⌝ }
+pub fn write_ping(
+    out: &mut [u8],
+    session: u64,
+    types: Types,
+    named: bool,
+    application: &[u8],
+) -> Written
+    ensures { λ r. ⌜ record { answer = r; out = now (out .exit) } ≡ writeOutcome (now (out .entry)) session types (senderOf named (now (application .entry))) ping ⌝ }
 {
-    match judge_sender(out, named, application) {
+    match judge_sender(out, types, named, application) {
         Judged::Refused(refusal) => Written::Refused(refusal),
         Judged::Legal => {
-            let length = write_around(out, session, named, application, CORE, PING, 0);
+            let length = write_around(out, session, types, named, application, CORE, PING, 0);
             Written::Bytes(length)
         }
     }
@@ -94,15 +103,25 @@ pub fn write_ping(out: &mut [u8], session: u64, named: bool, application: &[u8])
 pub fn write_list_providers(
     out: &mut [u8],
     session: u64,
+    types: Types,
     named: bool,
     application: &[u8],
 ) -> Written
-    ensures { λ r. ⌜ record { answer = r; out = now (out .exit) } ≡ writeOutcome (now (out .entry)) session (senderOf named (now (application .entry))) listProviders ⌝ }
+    ensures { λ r. ⌜ record { answer = r; out = now (out .exit) } ≡ writeOutcome (now (out .entry)) session types (senderOf named (now (application .entry))) listProviders ⌝ }
 {
-    match judge_sender(out, named, application) {
+    match judge_sender(out, types, named, application) {
         Judged::Refused(refusal) => Written::Refused(refusal),
         Judged::Legal => {
-            let length = write_around(out, session, named, application, CORE, LIST_PROVIDERS, 0);
+            let length = write_around(
+                out,
+                session,
+                types,
+                named,
+                application,
+                CORE,
+                LIST_PROVIDERS,
+                0,
+            );
             Written::Bytes(length)
         }
     }
@@ -111,17 +130,31 @@ pub fn write_list_providers(
 pub fn write_list_opcodes(
     out: &mut [u8],
     session: u64,
+    types: Types,
     named: bool,
     application: &[u8],
     provider: u32,
 ) -> Written
-    ensures { λ r. ⌜ record { answer = r; out = now (out .exit) } ≡ writeOutcome (now (out .entry)) session (senderOf named (now (application .entry))) (listOpcodes provider) ⌝ }
+    ensures { λ r. ⌜ record { answer = r; out = now (out .exit) } ≡ writeOutcome (now (out .entry)) session types (senderOf named (now (application .entry))) (listOpcodes provider) ⌝ }
 {
-    match judge_sender(out, named, application) {
+    match judge_sender(out, types, named, application) {
         Judged::Refused(refusal) => Written::Refused(refusal),
         Judged::Legal => {
-            let size = write_provider_body(&mut out[REQUEST_LEAST..], provider);
-            let length = write_around(out, session, named, application, CORE, LIST_OPCODES, size);
+            let size = write_provider_body(
+                format_for(types.content),
+                &mut out[REQUEST_LEAST..],
+                provider,
+            );
+            let length = write_around(
+                out,
+                session,
+                types,
+                named,
+                application,
+                CORE,
+                LIST_OPCODES,
+                size,
+            );
             Written::Bytes(length)
         }
     }
@@ -130,6 +163,7 @@ pub fn write_list_opcodes(
 pub fn write_import(
     out: &mut [u8],
     session: u64,
+    types: Types,
     named: bool,
     application: &[u8],
     name: &[u8],
@@ -138,12 +172,13 @@ pub fn write_import(
     exported: bool,
     verified: bool,
 ) -> Written
-    ensures { λ r. ⌜ record { answer = r; out = now (out .exit) } ≡ writeOutcome (now (out .entry)) session (senderOf named (now (application .entry))) (importKey (record { name = now (name .entry); bytes = now (bytes .entry); bits = bits; exportAllowed = exported; verifyAllowed = verified })) ⌝ }
+    ensures { λ r. ⌜ record { answer = r; out = now (out .exit) } ≡ writeOutcome (now (out .entry)) session types (senderOf named (now (application .entry))) (importKey (record { name = now (name .entry); bytes = now (bytes .entry); bits = bits; exportAllowed = exported; verifyAllowed = verified })) ⌝ }
 {
-    match judge_key(out, named, application, name, bytes, bits) {
+    match judge_key(out, types, named, application, name, bytes, bits) {
         Judged::Refused(refusal) => Written::Refused(refusal),
         Judged::Legal => {
             let size = write_key_body(
+                format_for(types.content),
                 &mut out[REQUEST_LEAST..],
                 name,
                 bytes,
@@ -154,6 +189,7 @@ pub fn write_import(
             let length = write_around(
                 out,
                 session,
+                types,
                 named,
                 application,
                 KEYSTORE,
@@ -168,19 +204,21 @@ pub fn write_import(
 pub fn write_destroy(
     out: &mut [u8],
     session: u64,
+    types: Types,
     named: bool,
     application: &[u8],
     name: &[u8],
 ) -> Written
-    ensures { λ r. ⌜ record { answer = r; out = now (out .exit) } ≡ writeOutcome (now (out .entry)) session (senderOf named (now (application .entry))) (destroyKey (now (name .entry))) ⌝ }
+    ensures { λ r. ⌜ record { answer = r; out = now (out .exit) } ≡ writeOutcome (now (out .entry)) session types (senderOf named (now (application .entry))) (destroyKey (now (name .entry))) ⌝ }
 {
-    match judge_name(out, named, application, name) {
+    match judge_name(out, types, named, application, name) {
         Judged::Refused(refusal) => Written::Refused(refusal),
         Judged::Legal => {
-            let size = write_bytes_body(&mut out[REQUEST_LEAST..], name);
+            let size = write_bytes_body(format_for(types.content), &mut out[REQUEST_LEAST..], name);
             let length = write_around(
                 out,
                 session,
+                types,
                 named,
                 application,
                 KEYSTORE,
@@ -195,19 +233,21 @@ pub fn write_destroy(
 pub fn write_export(
     out: &mut [u8],
     session: u64,
+    types: Types,
     named: bool,
     application: &[u8],
     name: &[u8],
 ) -> Written
-    ensures { λ r. ⌜ record { answer = r; out = now (out .exit) } ≡ writeOutcome (now (out .entry)) session (senderOf named (now (application .entry))) (exportPublicKey (now (name .entry))) ⌝ }
+    ensures { λ r. ⌜ record { answer = r; out = now (out .exit) } ≡ writeOutcome (now (out .entry)) session types (senderOf named (now (application .entry))) (exportPublicKey (now (name .entry))) ⌝ }
 {
-    match judge_name(out, named, application, name) {
+    match judge_name(out, types, named, application, name) {
         Judged::Refused(refusal) => Written::Refused(refusal),
         Judged::Legal => {
-            let size = write_bytes_body(&mut out[REQUEST_LEAST..], name);
+            let size = write_bytes_body(format_for(types.content), &mut out[REQUEST_LEAST..], name);
             let length = write_around(
                 out,
                 session,
+                types,
                 named,
                 application,
                 KEYSTORE,
@@ -222,21 +262,29 @@ pub fn write_export(
 pub fn write_verify(
     out: &mut [u8],
     session: u64,
+    types: Types,
     named: bool,
     application: &[u8],
     name: &[u8],
     hash: &[u8],
     signature: &[u8],
 ) -> Written
-    ensures { λ r. ⌜ record { answer = r; out = now (out .exit) } ≡ writeOutcome (now (out .entry)) session (senderOf named (now (application .entry))) (verifySignature (now (name .entry)) (now (hash .entry)) (now (signature .entry))) ⌝ }
+    ensures { λ r. ⌜ record { answer = r; out = now (out .exit) } ≡ writeOutcome (now (out .entry)) session types (senderOf named (now (application .entry))) (verifySignature (now (name .entry)) (now (hash .entry)) (now (signature .entry))) ⌝ }
 {
-    match judge_verify(out, named, application, name, hash, signature) {
+    match judge_verify(out, types, named, application, name, hash, signature) {
         Judged::Refused(refusal) => Written::Refused(refusal),
         Judged::Legal => {
-            let size = write_verify_body(&mut out[REQUEST_LEAST..], name, hash, signature);
+            let size = write_verify_body(
+                format_for(types.content),
+                &mut out[REQUEST_LEAST..],
+                name,
+                hash,
+                signature,
+            );
             let length = write_around(
                 out,
                 session,
+                types,
                 named,
                 application,
                 KEYSTORE,

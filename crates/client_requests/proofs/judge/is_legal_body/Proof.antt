@@ -6,13 +6,19 @@ use Rattle.client_requests.proofs.judge.is_legal_body.Statement.{statem
 use Rattle.client_requests.proofs.judge.is_legal_body.Tie as tie
 
 returns : tie.Need-returns
-returns c = too-long _ _ _ (omega (arith, c .if1 .taken))
+returns c =
+    let a = c .before .before .before .before .args in
+    too-long (a .format) (a .name .now) (a .hash .now) (a .signature .now) (omega (arith, c .if1 .taken))
 
 returns-2 : tie.Need-returns-2
-returns-2 c = too-long _ _ _ (omega (arith, c .if2 .taken))
+returns-2 c =
+    let a = c .before .before .before .before .before .args in
+    too-long (a .format) (a .name .now) (a .hash .now) (a .signature .now) (omega (arith, c .if2 .taken))
 
 returns-3 : tie.Need-returns-3
-returns-3 c = too-long _ _ _ (omega (arith, c .if3 .taken))
+returns-3 c =
+    let a = c .before .before .before .before .before .before .args in
+    too-long (a .format) (a .name .now) (a .hash .now) (a .signature .now) (omega (arith, c .if3 .taken))
 
 verify-body-size-requires : tie.Need-verify-body-size-requires
 verify-body-size-requires c κs = search needs

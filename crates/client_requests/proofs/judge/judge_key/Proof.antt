@@ -32,7 +32,7 @@ returns c =
     let a = c .before .before .before .before .before .before .before .before .before .before .before .args in
     λ exported verified.
     rw (
-      ← key-judged (a .out .now) (senderOf (a .named) (a .application .now)) (record { name = a .name .now; bytes = a .bytes .now; bits = a .bits; exportAllowed = exported; verifyAllowed = verified }),
+      ← key-judged (a .out .now) (a .types) (senderOf (a .named) (a .application .now)) (record { name = a .name .now; bytes = a .bytes .now; bits = a .bits; exportAllowed = exported; verifyAllowed = verified }),
       ← c .before .before .before .are-import-bits .ensures,
       ← c .before .before .before .before .before .is-legal-data .ensures (a .bytes .now) refl,
       ← c .before .before .judge2 .ensures,

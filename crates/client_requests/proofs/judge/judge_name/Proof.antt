@@ -20,7 +20,7 @@ first-refusal-requires c κs = search needs
 returns : tie.Need-returns
 returns c =
     let a = c .before .before .before .before .before .before .before .args in
-    rw (← name-judged (a .out .now) (senderOf (a .named) (a .application .now)) (a .name .now), ← c .before .before .is-legal .ensures, ← c .before .judge .ensures, ← c .before .before .before .judge-sender .ensures)
+    rw (← name-judged (a .out .now) (a .types) (senderOf (a .named) (a .application .now)) (a .name .now), ← c .before .before .is-legal .ensures, ← c .before .judge .ensures, ← c .before .before .before .judge-sender .ensures)
     (c .first-refusal .ensures)
 
 pub judge-name-spec : {M : Type 1} → statement M

@@ -11,6 +11,9 @@ judge-name-requires c κs = search needs
 judge-requires : tie.Need-judge-requires
 judge-requires c κs = search needs
 
+format-for-requires : tie.Need-format-for-requires
+format-for-requires c κs = search needs
+
 is-legal-body-requires : tie.Need-is-legal-body-requires
 is-legal-body-requires c κs = search needs
 
@@ -25,13 +28,14 @@ first-refusal-requires-2 c κs = search needs
 
 returns : tie.Need-returns
 returns c =
-    let a = c .before .before .before .before .before .before .before .before .before .before .before .args in
+    let a = c .before .before .before .before .before .before .before .before .before .before .before .before .args in
     rw (
-      ← verify-judged (a .out .now) (senderOf (a .named) (a .application .now)) (a .name .now) (a .hash .now) (a .signature .now),
+      ← verify-judged (a .out .now) (a .types) (senderOf (a .named) (a .application .now)) (a .name .now) (a .hash .now) (a .signature .now),
+      ← c .before .before .before .before .format-for .ensures,
       ← c .before .before .before .is-legal-body .ensures,
       ← c .before .before .judge2 .ensures,
-      ← c .before .before .before .before .judge .ensures,
-      ← c .before .before .before .before .before .judge-name .ensures,
+      ← c .before .before .before .before .before .judge .ensures,
+      ← c .before .before .before .before .before .before .judge-name .ensures,
       ← c .before .first-refusal .ensures,
     )
     (c .first-refusal2 .ensures)
@@ -42,6 +46,7 @@ judge-verify-spec =
     (tie.spec
     judge-name-requires
     judge-requires
+    format-for-requires
     is-legal-body-requires
     judge-requires-2
     first-refusal-requires

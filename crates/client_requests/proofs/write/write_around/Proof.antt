@@ -78,7 +78,7 @@ returns c =
     let t = h .before in
     let n = t .before in
     let s = start n in
-    around-on _ (sender s) _ _ _ (s .args .out .now) (omega (arith, s .pre .0, s .pre .2))
+    around-on _ (s .args .types) (sender s) _ _ _ (s .args .out .now) (omega (arith, s .pre .0, s .pre .2))
     (rw (auth-type-of, ← t .auth-type .ensures, ← n .auth-length .ensures, ← h .request-header .ensures) (head .copy-into .ensures))
     (rw (front n) at (auth .copy-into2 .ensures))
 

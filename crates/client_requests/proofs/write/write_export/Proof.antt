@@ -6,7 +6,7 @@ use Rattle.wire.specs.Choice.{firstOf}
 use Rattle.keys.specs.Names.{keyNameMost}
 use Rattle.keys.proofs.NameLaws.{legal-short}
 use Rattle.messages.specs.Operations.{Operation, exportPublicKey, operationBody}
-use Rattle.client_requests.specs.Writing.{Sender, senderOf, writeTests}
+use Rattle.client_requests.specs.Writing.{Sender, senderOf, bodyFormat, writeTests}
 use Rattle.client_requests.specs.code.Judged.{judgedAs}
 use Rattle.client_requests.specs.declared.judge.Judged.the-variants.{Legal}
 use Rattle.client_requests.proofs.JudgeLaws.{Passed, passed, name-passed}
@@ -23,12 +23,12 @@ operation s = exportPublicKey (s .args .name .now)
 abbrev sender : tie.Start → Sender
 sender s = senderOf (s .args .named) (s .args .application .now)
 
-legal : (c : tie.After-enum-told) → judgedAs (firstOf (writeTests (start c .args .out .now) (sender (start c)) (operation (start c)))) ≡ Legal
+legal : (c : tie.After-enum-told) → judgedAs (firstOf (writeTests (start c .args .out .now) (start c .args .types) (sender (start c)) (operation (start c)))) ≡ Legal
 unfolding writeTests
 legal c = sym (c .before .before .judge-name .ensures) ∙ c .enum-told .given .1
 
-passes : (c : tie.After-enum-told) → Passed (start c .args .out .now) (sender (start c)) (operation (start c))
-passes c = passed _ _ _ (legal c)
+passes : (c : tie.After-enum-told) → Passed (start c .args .out .now) (start c .args .types) (sender (start c)) (operation (start c))
+passes c = passed _ _ _ _ (legal c)
 
 judge-name-requires : tie.Need-judge-name-requires
 judge-name-requires c κs = search needs
@@ -39,31 +39,37 @@ enum-known-refusal c = search needs
 enum-told : tie.Need-enum-told
 enum-told c = search needs
 
+format-for-requires : tie.Need-format-for-requires
+format-for-requires c κs = search needs
+
 sub-write-bytes-body : tie.Need-sub-write-bytes-body
-sub-write-bytes-body c = omega (arith, passes c .room)
+sub-write-bytes-body c = omega (arith, passes (c .before) .room)
 
 part-write-bytes-body-start : tie.Need-part-write-bytes-body-start
-part-write-bytes-body-start c = omega (arith, passes c .room)
+part-write-bytes-body-start c = omega (arith, passes (c .before) .room)
 
 part-write-bytes-body-end : tie.Need-part-write-bytes-body-end
 part-write-bytes-body-end c = search needs
 
 write-bytes-body-requires : tie.Need-write-bytes-body-requires
-write-bytes-body-requires c κs = let p = passes (c .before) in omega (arith, p .room, legal-short keyNameMost _ (name-passed _ (p .fields)))
+write-bytes-body-requires c κs =
+    let p = passes (c .before .before) in
+    let a = start (c .before .before) .args in
+    omega (arith, p .room, legal-short keyNameMost (a .name .now) (name-passed (bodyFormat (a .types)) (a .name .now) (p .fields)))
 
 write-around-requires : tie.Need-write-around-requires
 unfolding operationBody
 write-around-requires c κs =
     let b = c .before .before .before in
-    let p = passes (b .before .before) in
-    (omega (arith, p .room), p .legal, written-short p (b .write-bytes-body .ensures))
+    let p = passes (b .before .before .before) in
+    (omega (arith, p .room), p .legal, written-short p (rw (b .before .before .format-for .ensures) at (b .write-bytes-body .ensures)))
 
 same-length : tie.Need-same-length
 same-length c = search needs
 
 returns : tie.Need-returns
 unfolding writeTests
-returns c = refused-outcome _ _ _ _ _ (sym (c .before .before .before .judge-name .ensures) ∙ c .before .refusal .given .1)
+returns c = refused-outcome _ _ _ _ _ _ (sym (c .before .before .before .judge-name .ensures) ∙ c .before .refusal .given .1)
 
 same-length-2 : tie.Need-same-length-2
 same-length-2 c = search needs
@@ -73,8 +79,8 @@ unfolding operationBody
 returns-2 c =
     let around = c .before .before in
     let b = around .before .before .before .before in
-    let told = b .before .before in
-    body-outcome _ _ _ _ (legal told) (omega (arith, passes told .room)) (b .write-bytes-body .ensures) (around .write-around .ensures)
+    let told = b .before .before .before in
+    body-outcome _ _ _ _ _ (legal told) (omega (arith, passes told .room)) (rw (b .before .before .format-for .ensures) at (b .write-bytes-body .ensures)) (around .write-around .ensures)
 
 pub write-export-spec : {M : Type 1} → statement M
 write-export-spec =
@@ -83,6 +89,7 @@ write-export-spec =
     judge-name-requires
     enum-known-refusal
     enum-told
+    format-for-requires
     sub-write-bytes-body
     part-write-bytes-body-start
     part-write-bytes-body-end

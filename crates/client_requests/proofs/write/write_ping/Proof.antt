@@ -22,11 +22,11 @@ operation s = ping
 abbrev sender : tie.Start → Sender
 sender s = senderOf (s .args .named) (s .args .application .now)
 
-legal : (c : tie.After-enum-told) → judgedAs (firstOf (writeTests (start c .args .out .now) (sender (start c)) (operation (start c)))) ≡ Legal
+legal : (c : tie.After-enum-told) → judgedAs (firstOf (writeTests (start c .args .out .now) (start c .args .types) (sender (start c)) (operation (start c)))) ≡ Legal
 legal c = sym (c .before .before .judge-sender .ensures) ∙ c .enum-told .given .1
 
-passes : (c : tie.After-enum-told) → Passed (start c .args .out .now) (sender (start c)) (operation (start c))
-passes c = passed _ _ _ (legal c)
+passes : (c : tie.After-enum-told) → Passed (start c .args .out .now) (start c .args .types) (sender (start c)) (operation (start c))
+passes c = passed _ _ _ _ (legal c)
 
 judge-sender-requires : tie.Need-judge-sender-requires
 judge-sender-requires c κs = search needs
@@ -44,7 +44,7 @@ same-length : tie.Need-same-length
 same-length c = search needs
 
 returns : tie.Need-returns
-returns c = refused-outcome _ _ _ _ _ (sym (c .before .before .before .judge-sender .ensures) ∙ c .before .refusal .given .1)
+returns c = refused-outcome _ _ _ _ _ _ (sym (c .before .before .before .judge-sender .ensures) ∙ c .before .refusal .given .1)
 
 same-length-2 : tie.Need-same-length-2
 same-length-2 c = search needs
@@ -53,7 +53,7 @@ returns-2 : tie.Need-returns-2
 unfolding operationBody messageBytes
 returns-2 c =
     let around = c .before .before in
-    written-outcome _ _ _ _ (legal (around .before .before)) (around .write-around .ensures)
+    written-outcome _ _ _ _ _ (legal (around .before .before)) (around .write-around .ensures)
 
 pub write-ping-spec : {M : Type 1} → statement M
 write-ping-spec =
