@@ -1,12 +1,14 @@
 //! The seven operations: what each reads from its body, does and writes.
 //! Document 01, "Operations and their fields"; document 02, "Unlisted fields" (a field that is not
-//! listed, or has another wire type, is skipped), "Checking signatures", "Keys we ship", "Use per key"
-//! and "Surviving a power cut".
+//! listed, or has another wire type, is skipped), "Checking signatures", "Keys we ship", "Use per key",
+//! "Surviving a power cut" and "No more odd key lengths".
 
 use crate::list::find_listed_key;
 use crate::opcode::{CoreOpcode, KeystoreOpcode, Provider};
 use crate::protobuf::{fields, low_32_bits, skip_fields, Unreadable, Value, Writer};
-use crate::registry::{self, bits_are_legal, key_name_is_legal, Key, Line, Slot, LONGEST_DATA};
+use crate::registry::{
+    self, bits_are_importable, data_is_legal, key_name_is_legal, Key, Line, Slot, LONGEST_DATA,
+};
 use crate::rsa::{self, Outcome, HASH_LENGTH};
 use crate::status::Status;
 use crate::wire::RESPONSE_HEADER_LENGTH;
@@ -83,7 +85,11 @@ pub fn perform_keystore<'a>(
     out: &mut [u8],
 ) -> Result<Performed<'a>, Status> {
     let change = match opcode {
-        KeystoreOpcode::Import => Change::Import(read_key_input(body)?),
+        KeystoreOpcode::Import => {
+            let key = read_key_input(body)?;
+            judge_key(&key)?;
+            Change::Import(key)
+        }
         KeystoreOpcode::Destroy => Change::Destroy(read_name(body)?),
         KeystoreOpcode::Export => {
             let source = find_key(registry, list, line, read_name(body)?)?;
@@ -106,7 +112,18 @@ pub fn perform_keystore<'a>(
     })
 }
 
-/// Import or Destroy by its own rules; a refusal changes nothing.
+/// Import's bounds: name and data, then bits.
+fn judge_key(key: &Key) -> Result<(), Status> {
+    if !key_name_is_legal(key.name) || !data_is_legal(key.data) {
+        return Err(Status::PsaErrorInvalidArgument);
+    }
+    if !bits_are_importable(key.bits) {
+        return Err(Status::PsaErrorNotSupported);
+    }
+    Ok(())
+}
+
+/// Import of a legal key, whose bounds the caller has judged, or Destroy; a refusal changes nothing.
 pub fn make_change(
     registry: &mut [u8],
     list: &[u8],
@@ -114,7 +131,7 @@ pub fn make_change(
     change: &Change,
 ) -> Result<(), Status> {
     match change {
-        Change::Import(key) => import(registry, list, line, key),
+        Change::Import(key) => place(registry, list, line, key),
         Change::Destroy(name) => destroy(registry, list, line, name),
     }
 }
@@ -159,11 +176,8 @@ fn find_key<'a>(
     Ok(Source::Listed(data))
 }
 
-/// Bounds of name, data and bits, then a name that is held or listed, then a full line.
-fn import(registry: &mut [u8], list: &[u8], line: Line, key: &Key) -> Result<(), Status> {
-    if !key.is_allowed() {
-        return Err(Status::PsaErrorInvalidArgument);
-    }
+/// Import behind its bounds: a name that is held or listed, then a full line.
+fn place(registry: &mut [u8], list: &[u8], line: Line, key: &Key) -> Result<(), Status> {
     // A held name may lie behind a free slot, so it is looked for in the whole line first.
     if find_key(registry, list, line, key.name).is_ok() {
         return Err(Status::PsaErrorAlreadyExists);
@@ -204,8 +218,8 @@ fn verify(source: &Source, input: &VerifyInput) -> Result<usize, Status> {
     if input.hash.len() != HASH_LENGTH {
         return Err(Status::PsaErrorInvalidArgument);
     }
-    // Those of an own key always are.
-    if !bits_are_legal(bits) {
+    // An own key of other bits is from before Import refused them.
+    if !bits_are_importable(bits) {
         return Err(Status::PsaErrorNotSupported);
     }
     match rsa::verify(data, bits, input.hash, input.signature).outcome {

@@ -1,6 +1,7 @@
 //! The registry in its lent memory: layout, well-formedness, finding, filling, freeing and counting.
 //! Document 01, "Roster, registry, connection, tally"; document 02, "Use per key", for the count of a
-//! slot; the layout is the one set down in docs/.
+//! slot, and "No more odd key lengths", for the two rules of bits; the layout is the one set down in
+//! docs/.
 
 use crate::bytes::{is_zero, read_u16, read_u32, write_at};
 
@@ -64,8 +65,8 @@ pub struct Key<'a> {
 }
 
 impl Key<'_> {
-    /// Are name, data and bits within Import's bounds?
-    pub fn is_allowed(&self) -> bool {
+    /// Are name, data and bits within the bounds of what a slot may hold?
+    pub fn is_legal(&self) -> bool {
         key_name_is_legal(self.name) && data_is_legal(self.data) && bits_are_legal(self.bits)
     }
 }
@@ -74,8 +75,14 @@ pub fn data_is_legal(data: &[u8]) -> bool {
     (1..=LONGEST_DATA).contains(&data.len())
 }
 
+/// What a slot and a record of the journal may have: Import once took all of these.
 pub fn bits_are_legal(bits: u32) -> bool {
     (1_024..=4_096).contains(&bits) && bits.is_multiple_of(8)
+}
+
+/// What Import takes, and what verify supports.
+pub fn bits_are_importable(bits: u32) -> bool {
+    matches!(bits, 2_048 | 3_072 | 4_096)
 }
 
 pub fn application_name_is_legal(name: &[u8]) -> bool {
@@ -148,7 +155,7 @@ fn slot_is_well_formed(slot: &[u8]) -> bool {
         && is_zero(&slot[DATA_AT + data_length..BITS_AT])
         && slot[EXPORT_ALLOWED_AT] <= 1
         && slot[VERIFY_ALLOWED_AT] <= 1
-        && key_in(slot).is_allowed()
+        && key_in(slot).is_legal()
 }
 
 /// Does the length fit the field, and are the bytes behind the name zero?
@@ -245,7 +252,7 @@ pub fn add_use(registry: &mut [u8], line: Line, slot: Slot) {
     write_at(slot, USES_AT, &uses.to_le_bytes());
 }
 
-/// Fills a free slot with a key that Import allows, its uses 0, and leaves all else alone.
+/// Fills a free slot with a legal key, its uses 0, and leaves all else alone.
 pub fn write_key(registry: &mut [u8], line: Line, slot: Slot, key: &Key) {
     let slot = slot_bytes_mut(registry, line, slot);
     slot[0] = key.name.len() as u8;

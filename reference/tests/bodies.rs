@@ -69,19 +69,19 @@ fn a_repeated_field_that_ends_empty_is_empty() {
 
 #[test]
 fn an_absent_field_is_zero_false_or_empty() {
-    let flags_absent = Body::new().field(1, b"a").field(2, &[1]).varint(3, 1_024);
+    let flags_absent = Body::new().field(1, b"a").field(2, &[1]).varint(3, 3_072);
     let expected = Key {
         data: vec![1],
-        bits: 1_024,
+        bits: 3_072,
         export_allowed: false,
         ..key(b"a")
     };
     expect_imported(flags_absent.bytes(), &expected);
     let no_bits = Body::new().field(1, b"a").field(2, &[1]);
-    expect_import(no_bits.bytes(), Status::PsaErrorInvalidArgument);
-    let no_data = Body::new().field(1, b"a").varint(3, 1_024);
+    expect_import(no_bits.bytes(), Status::PsaErrorNotSupported);
+    let no_data = Body::new().field(1, b"a").varint(3, 3_072);
     expect_import(no_data.bytes(), Status::PsaErrorInvalidArgument);
-    let no_name = Body::new().field(2, &[1]).varint(3, 1_024);
+    let no_name = Body::new().field(2, &[1]).varint(3, 3_072);
     expect_import(no_name.bytes(), Status::PsaErrorInvalidArgument);
     expect_import(Vec::new(), Status::PsaErrorInvalidArgument);
 }
@@ -209,10 +209,11 @@ fn cut_fields_are_unreadable() {
     for length in 0..whole.len() {
         let mut service = Service::new();
         let response = service.ask(&keystore(IMPORT, whole[..length].to_vec()));
-        let status = if between_fields.contains(&length) {
-            Status::PsaErrorInvalidArgument
-        } else {
-            Status::DeserializingBodyFailed
+        let status = match between_fields.iter().position(|&end| end == length) {
+            None => Status::DeserializingBodyFailed,
+            // Name and data are there, and bits are not.
+            Some(2) => Status::PsaErrorNotSupported,
+            Some(_) => Status::PsaErrorInvalidArgument,
         };
         assert_eq!(response.status, status.number(), "cut at {length}");
     }

@@ -248,23 +248,23 @@ fn key_with_bits(bits: u64) -> Key {
     Key { bits, ..key(b"a") }
 }
 
+/// Document 02, "No more odd key lengths".
 #[test]
-fn bits_of_1024_1032_and_4096_are_held() {
-    for bits in [1_024, 1_032, 4_096] {
-        expect_key_held(&key_with_bits(bits));
+fn bits_of_2048_3072_and_4096_are_held_and_any_other_is_not_supported() {
+    for bits in (0..=5_000).chain([u32::MAX.into()]) {
+        let key = key_with_bits(bits);
+        if IMPORTABLE_BITS.contains(&bits) {
+            expect_key_held(&key);
+        } else {
+            Service::new().expect_status(&import(&key), Status::PsaErrorNotSupported);
+        }
     }
 }
 
 #[test]
-fn bits_of_1016_1028_and_4104_are_invalid_argument() {
-    for bits in [1_016, 1_028, 4_104] {
-        expect_key_refused(&key_with_bits(bits));
-    }
-}
-
-#[test]
-fn bits_that_16_bits_would_cut_to_2048_are_invalid_argument() {
-    expect_key_refused(&key_with_bits(65_536 + 2_048));
+fn bits_that_16_bits_would_cut_to_2048_are_not_supported() {
+    let key = key_with_bits(65_536 + 2_048);
+    Service::new().expect_status(&import(&key), Status::PsaErrorNotSupported);
 }
 
 #[test]

@@ -5,7 +5,7 @@ mod common;
 
 use common::client::{read_every_way, Client, OPCODES};
 use common::generate::Random;
-use common::vectors::blocks;
+use common::vectors::{blocks, Block};
 use common::*;
 use reference::{rules, write_request, Operation, Output, Reading, Status, MIN_REQUEST_BUFFER};
 
@@ -111,7 +111,9 @@ fn a_key_is_imported_exported_and_destroyed() {
 
 #[test]
 fn a_signature_is_verified_with_the_imported_key() {
-    let block = &blocks("signatures.txt")[0];
+    let blocks = blocks("signatures.txt");
+    let is_importable = |block: &&Block| block.title == "2048-3";
+    let block = blocks.iter().find(is_importable).expect("the key");
     let (data, hash) = (block.bytes("data"), block.bytes("hash"));
     let signature = block.bytes("signature");
     let import = Operation::ImportKey {
@@ -192,9 +194,9 @@ fn a_name_not_on_the_roster_is_an_authentication_error() {
 fn the_service_imports_the_key_that_the_client_was_given() {
     let longest_application = [b'~'; 64];
     for (name, data, bits) in [
-        (&[b'!'; 1][..], &[0x00; 1][..], 1_024),
+        (&[b'!'; 1][..], &[0x00; 1][..], 2_048),
         (&[b'~'; 32], &[0xFF; 600], 4_096),
-        (b"a", &[0xAA, 0xBB], 2_056),
+        (b"a", &[0xAA, 0xBB], 3_072),
     ] {
         for flags in [(false, false), (false, true), (true, false), (true, true)] {
             let mut service = Service::with_roster(&[&longest_application]);

@@ -80,7 +80,7 @@ fn with_name(name: &[u8]) -> [Operation<'_>; 4] {
         Operation::ImportKey {
             name,
             data: &[1],
-            bits: 1_024,
+            bits: 2_048,
             export_allowed: false,
             verify_allowed: false,
         },
@@ -190,13 +190,13 @@ fn a_flag_that_is_not_set_is_left_out() {
         let body = body_of(&Operation::ImportKey {
             name: b"a",
             data: &[0],
-            bits: 1_024,
+            bits: 2_048,
             export_allowed,
             verify_allowed,
         });
         assert_eq!(
             body[..9],
-            [0x0A, 1, b'a', 0x12, 1, 0x00, 0x18, 0x80, 0x08],
+            [0x0A, 1, b'a', 0x12, 1, 0x00, 0x18, 0x80, 0x10],
             "data of one zero byte is no zero value"
         );
         body[9..].to_vec()
@@ -210,10 +210,10 @@ fn a_flag_that_is_not_set_is_left_out() {
 #[test]
 fn a_length_above_127_takes_two_bytes() {
     let data = [0x77; 128];
-    let body = body_of(&import_of(&data, 1_024));
+    let body = body_of(&import_of(&data, 2_048));
     assert_eq!(body[3..6], [0x12, 0x80, 0x01]);
     assert_eq!(body[6..134], data);
-    let body = body_of(&import_of(&data[..127], 1_024));
+    let body = body_of(&import_of(&data[..127], 2_048));
     assert_eq!(body[3..6], [0x12, 0x7F, 0x77]);
 }
 
@@ -318,28 +318,15 @@ fn data_has_1_to_600_bytes() {
     }
 }
 
+/// Document 02, "No more odd key lengths".
 #[test]
-fn bits_are_1024_to_4096_in_multiples_of_8() {
-    let bad = [
-        0,
-        8,
-        1_016,
-        1_023,
-        1_025,
-        1_028,
-        4_092,
-        4_095,
-        4_097,
-        4_104,
-        65_536 + 2_048,
-        u32::MAX,
-        u32::MAX - 7,
-    ];
-    for bits in bad {
-        assert_eq!(refusal(&import_of(&[1], bits)), Some(WriteRefusal::BadBits));
-    }
-    for bits in (1_024..=4_096).step_by(8) {
-        assert_eq!(refusal(&import_of(&[1], bits)), None);
+fn bits_are_2048_3072_or_4096() {
+    for bits in (0..=5_000).chain([65_536 + 2_048, u32::MAX]) {
+        let expected = match bits {
+            2_048 | 3_072 | 4_096 => None,
+            _ => Some(WriteRefusal::BadBits),
+        };
+        assert_eq!(refusal(&import_of(&[1], bits)), expected, "{bits}");
     }
 }
 
@@ -507,7 +494,7 @@ fn generated_requests_are_those_of_another_builder() {
             _ => Operation::ImportKey {
                 name: &name,
                 data: &data,
-                bits: 1_024 + 8 * random.below(385) as u32,
+                bits: random.pick(&[2_048, 3_072, 4_096]),
                 export_allowed: random.once_in(2),
                 verify_allowed: random.once_in(2),
             },

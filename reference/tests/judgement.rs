@@ -409,14 +409,43 @@ fn the_body_comes_before_the_operations_own() {
 #[test]
 fn invalid_argument_comes_before_already_exists() {
     let mut service = Service::with_keys(&[b"a"]);
-    let held_name_bad_bits = Key {
-        bits: 1_028,
+    let held_name_no_data = Key {
+        data: Vec::new(),
         ..key(b"a")
     };
-    service.expect_status(
-        &import(&held_name_bad_bits),
-        Status::PsaErrorInvalidArgument,
-    );
+    service.expect_status(&import(&held_name_no_data), Status::PsaErrorInvalidArgument);
+}
+
+/// Bits that a registry may hold, and bits that nothing may.
+const OTHER_BITS: [u64; 6] = [0, 1_024, 1_028, 2_056, 4_104, u32::MAX as u64];
+
+#[test]
+fn invalid_argument_comes_before_not_supported() {
+    for bits in OTHER_BITS {
+        let bad_name = Key {
+            bits,
+            ..key(b"a b")
+        };
+        let bad_data = Key {
+            bits,
+            data: vec![0; 601],
+            ..key(b"a")
+        };
+        for key in [bad_name, bad_data] {
+            Service::new().expect_status(&import(&key), Status::PsaErrorInvalidArgument);
+        }
+    }
+}
+
+#[test]
+fn not_supported_comes_before_already_exists_and_insufficient_storage() {
+    let mut service = Service::with_keys(&EIGHT);
+    for bits in OTHER_BITS {
+        for name in [b"a", b"i"] {
+            let key = Key { bits, ..key(name) };
+            service.expect_status(&import(&key), Status::PsaErrorNotSupported);
+        }
+    }
 }
 
 #[test]

@@ -88,11 +88,11 @@ fn list_with(data: &[u8]) -> Vec<u8> {
 
 /// `k` is listed and the application's own, if any, from before.
 fn service_with(own: Option<&Key>, listed: &[u8]) -> Service {
-    let mut service = Service::new();
-    if let Some(key) = own {
-        service.expect_status(&import(key), Status::Success);
+    let service = Service::new().with_list(&list_with(listed));
+    match own {
+        Some(key) => service.holding(0, 0, key),
+        None => service,
     }
-    service.with_list(&list_with(listed))
 }
 
 fn own(export_allowed: bool, verify_allowed: bool) -> Key {
@@ -152,11 +152,11 @@ fn an_own_key_is_exported_before_a_listed_one() {
 
 #[test]
 fn an_own_key_without_the_use_is_not_permitted_though_a_listed_one_would_do() {
-    let signed = Signed::find("1024-3");
+    let signed = Signed::find("2048-3");
     for (export_allowed, verify_allowed) in [(false, true), (true, false), (false, false)] {
         let key = Key {
             data: signed.data.clone(),
-            bits: 1_024,
+            bits: 2_048,
             ..own(export_allowed, verify_allowed)
         };
         let mut service = service_with(Some(&key), &signed.data);
@@ -209,7 +209,7 @@ fn imports_bounds_come_before_a_listed_name_and_that_before_a_full_line() {
         bits: 1_016,
         ..key(b"k")
     };
-    service.expect_status(&import(&bad), Status::PsaErrorInvalidArgument);
+    service.expect_status(&import(&bad), Status::PsaErrorNotSupported);
     service.expect_status(&import(&key(b"k")), Status::PsaErrorAlreadyExists);
     service.expect_status(&import(&key(b"i")), Status::PsaErrorInsufficientStorage);
 }
@@ -291,17 +291,23 @@ impl Signed {
 }
 
 #[test]
-fn every_signature_of_a_listed_key_is_valid_by_its_moduluss_bits() {
+fn every_signature_of_a_listed_key_is_valid_where_import_takes_its_moduluss_bits() {
     let all = blocks("signatures.txt");
     assert_eq!(all.len(), 23);
     for block in &all {
-        Signed::of(block).expect(Status::Success);
+        let signed = Signed::of(block);
+        match IMPORTABLE_BITS.contains(&block.number("bits").into()) {
+            true => signed.expect(Status::Success),
+            false => signed.expect(Status::PsaErrorNotSupported),
+        }
+        let mut service = service_with(None, &signed.data);
+        expect_export(&mut service, &export(b"k"), &signed.data);
     }
 }
 
 #[test]
 fn a_wrong_signature_of_a_listed_key_is_invalid() {
-    let mut signed = Signed::find("1024-3");
+    let mut signed = Signed::find("2048-3");
     signed.signature[9] ^= 1;
     signed.expect(Status::PsaErrorInvalidSignature);
     signed.signature.pop();
@@ -325,31 +331,24 @@ fn a_listed_keys_hash_comes_before_its_data_and_that_before_the_signature() {
 /// The structures that no stored bits make good; what other bits alone made bad is good here.
 #[test]
 fn listed_data_that_is_no_rsa_public_key_is_not_supported() {
-    let mut reached = [0; 3];
+    let mut reached = [0; 2];
     for block in blocks("keys.txt") {
+        let signed = Signed::of(&block);
+        let bits = reference::rsa::modulus_bits(&signed.data);
         let status = match block.text("name") {
-            "eight bits more stored" | "eight bits less stored" => Status::Success,
-            // Its 2,040 bits are Import's, those of the shorter key are not.
-            "modulus of eight bits less" if block.number("bits") == 2_048 => {
-                Status::PsaErrorInvalidSignature
-            }
+            "eight bits more stored" | "eight bits less stored" if bits == 2_048 => Status::Success,
             _ => Status::PsaErrorNotSupported,
         };
-        Signed::of(&block).expect(status);
-        reached[match status {
-            Status::Success => 0,
-            Status::PsaErrorInvalidSignature => 1,
-            _ => 2,
-        }] += 1;
+        signed.expect(status);
+        reached[usize::from(status != Status::Success)] += 1;
     }
-    assert_eq!(reached, [3, 1, 75]);
+    assert_eq!(reached, [2, 77]);
 }
 
 #[test]
-fn a_listed_modulus_has_1024_to_4096_bits_in_multiples_of_8() {
-    let all = (1_000..1_050).chain(2_040..2_060).chain(4_080..4_130);
-    for bits in all.chain([8, 16, 512]) {
-        let status = match (1_024..=4_096).contains(&bits) && bits % 8 == 0 {
+fn a_listed_modulus_has_2048_3072_or_4096_bits() {
+    for bits in 1..4_200 {
+        let status = match IMPORTABLE_BITS.contains(&(bits as u64)) {
             true => Status::PsaErrorInvalidSignature,
             false => Status::PsaErrorNotSupported,
         };
@@ -366,10 +365,10 @@ fn a_listed_modulus_has_1024_to_4096_bits_in_multiples_of_8() {
 
 #[test]
 fn an_own_key_verifies_before_a_listed_one() {
-    let (first, second) = (Signed::find("1024-3"), Signed::find("1024-17"));
+    let (first, second) = (Signed::find("2048-3"), Signed::find("2048-17"));
     let key = Key {
         data: first.data.clone(),
-        bits: 1_024,
+        bits: 2_048,
         ..own(false, true)
     };
     let mut service = service_with(Some(&key), &second.data);
@@ -383,10 +382,10 @@ fn an_own_key_verifies_before_a_listed_one() {
 /// Its stored bits count, not its modulus's, though the listed one's would be good.
 #[test]
 fn an_own_key_of_other_stored_bits_is_not_supported() {
-    let signed = Signed::find("1024-3");
+    let signed = Signed::find("2048-3");
     let key = Key {
         data: signed.data.clone(),
-        bits: 1_032,
+        bits: 3_072,
         ..own(false, true)
     };
     let mut service = service_with(Some(&key), &signed.data);

@@ -145,8 +145,8 @@ fn records_have_9_to_645_bytes() {
 }
 
 #[test]
-fn a_record_has_the_bits_of_every_legal_length() {
-    for bits in (1_024..=4_096).step_by(8) {
+fn a_record_has_the_bits_that_were_imported() {
+    for bits in IMPORTABLE_BITS {
         let key = Key { bits, ..key(b"a") };
         expect_record(&mut Service::new(), &import(&key), &import_record(0, &key));
     }
@@ -176,9 +176,6 @@ fn a_refused_import_has_no_record() {
         with(|key| key.name = b"a b".to_vec()),
         with(|key| key.data.clear()),
         with(|key| key.data = vec![0; 601]),
-        with(|key| key.bits = 1_016),
-        with(|key| key.bits = 1_028),
-        with(|key| key.bits = 4_104),
     ];
     for request in invalid {
         expect_no_record(
@@ -186,6 +183,15 @@ fn a_refused_import_has_no_record() {
             &request,
             Status::PsaErrorInvalidArgument,
         );
+    }
+    let not_supported = [
+        with(|key| key.bits = 1_016),
+        with(|key| key.bits = 1_024),
+        with(|key| key.bits = 1_028),
+        with(|key| key.bits = 4_104),
+    ];
+    for request in not_supported {
+        expect_no_record(&mut service.clone(), &request, Status::PsaErrorNotSupported);
     }
     for name in [&b"a"[..], b"listed"] {
         let request = import(&key(name));
@@ -289,10 +295,10 @@ fn a_wrong_start_has_no_record() {
 #[test]
 fn served_exports_verifies_and_core_operations_have_no_record() {
     let blocks = blocks("signatures.txt");
-    let block = blocks.iter().find(|block| block.title == "1024-3").unwrap();
+    let block = blocks.iter().find(|block| block.title == "2048-3").unwrap();
     let key = Key {
         data: block.bytes("data"),
-        bits: 1_024,
+        bits: 2_048,
         verify_allowed: true,
         ..key(b"a")
     };

@@ -17,15 +17,15 @@ struct Signed {
 }
 
 impl Signed {
-    /// Of 1,024 bits and exponent 3, the quickest, under the name `k`.
+    /// Of 2,048 bits and exponent 3, the quickest that is imported, under the name `k`.
     fn short() -> Signed {
         let blocks = blocks("signatures.txt");
-        let block = blocks.iter().find(|block| block.title == "1024-3");
+        let block = blocks.iter().find(|block| block.title == "2048-3");
         let block = block.expect("the key");
         Signed {
             key: Key {
                 data: block.bytes("data"),
-                bits: 1_024,
+                bits: 2_048,
                 export_allowed: true,
                 verify_allowed: true,
                 ..key(b"k")

@@ -56,7 +56,7 @@ impl Asked<'_> {
             (IMPORT, _, _) if is_full => ", no slot free",
             (VERIFY, 1134, Some((_, data))) if !is_own => match modulus_bits(&data) {
                 0 => ", no RSAPublicKey",
-                bits if (1_024..=4_096).contains(&bits) && bits % 8 == 0 => ", Import's bits",
+                2_048 | 3_072 | 4_096 => ", Import's bits",
                 _ => ", other bits",
             },
             _ => "",

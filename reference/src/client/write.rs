@@ -1,12 +1,12 @@
 //! Writing a request into a lent buffer, and what is refused before a byte is written.
-//! Document 02, "The client's half", its last sentence, and "Checking signatures"; document 01, "Bytes
-//! on the wire" and "Operations and their fields".
+//! Document 02, "The client's half", its last sentence, "Checking signatures" and "No more odd key
+//! lengths"; document 01, "Bytes on the wire" and "Operations and their fields".
 
 use crate::bytes::write_at;
 use crate::opcode::{CoreOpcode, KeystoreOpcode, Opcode};
 use crate::protobuf::{bytes_field_length, Writer};
 use crate::registry::{
-    application_name_is_legal, bits_are_legal, data_is_legal, key_name_is_legal,
+    application_name_is_legal, bits_are_importable, data_is_legal, key_name_is_legal,
 };
 use crate::rsa::HASH_LENGTH;
 use crate::wire::{Header, MAX_CONTENT_LENGTH, SHORTEST_HEADER_LENGTH};
@@ -170,7 +170,7 @@ fn judge_key(name: &[u8], data: &[u8], bits: u32) -> Result<(), WriteRefusal> {
     if !data_is_legal(data) {
         return Err(WriteRefusal::BadData);
     }
-    if !bits_are_legal(bits) {
+    if !bits_are_importable(bits) {
         return Err(WriteRefusal::BadBits);
     }
     Ok(())

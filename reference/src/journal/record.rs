@@ -1,6 +1,7 @@
 //! One record of the journal, written and carried out: tag, length of the value, value, CRC-32 over
 //! these three.
-//! Document 02, "Surviving a power cut"; the layout is the one set down in docs/.
+//! Document 02, "Surviving a power cut" and, for old records, "No more odd key lengths"; the layout is
+//! the one set down in docs/.
 
 use crate::bytes::{read_u16, write_at};
 use crate::crc::crc32;
@@ -86,6 +87,10 @@ fn write_name(value: &mut [u8], name: &[u8]) -> usize {
 pub fn carry_out(record: &Record, registry: &mut [u8]) -> Result<(), JournalFault> {
     let (line, change) = read_value(record).ok_or(JournalFault::WrongLayout)?;
     let line = find_used_line(registry, line).ok_or(JournalFault::RefusedChange)?;
+    // Old records are of bits that Import takes no more.
+    if matches!(change, Change::Import(key) if !key.is_legal()) {
+        return Err(JournalFault::RefusedChange);
+    }
     // The list of shipped keys is left aside.
     make_change(registry, &[], line, &change).map_err(|_| JournalFault::RefusedChange)
 }

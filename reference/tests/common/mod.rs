@@ -16,8 +16,8 @@ pub mod lists;
 pub mod vectors;
 
 use reference::{
-    call, load_roster, Counters, Refusal, Status, Taken, CONNECTION_SIZE, MAX_CHUNK,
-    MIN_JOURNAL_BUFFER, MIN_RESPONSE_BUFFER, REGISTRY_SIZE,
+    call, load_roster, registry_is_well_formed, Counters, Refusal, Status, Taken, CONNECTION_SIZE,
+    MAX_CHUNK, MIN_JOURNAL_BUFFER, MIN_RESPONSE_BUFFER, REGISTRY_SIZE,
 };
 
 pub const MAGIC: [u8; 4] = [0x10, 0xA7, 0xC0, 0x5E];
@@ -183,6 +183,9 @@ pub struct Key {
 
 /// The names of as many keys as an application may hold.
 pub const EIGHT: [&[u8]; SLOTS] = [b"a", b"b", b"c", b"d", b"e", b"f", b"g", b"h"];
+
+/// What Import takes.
+pub const IMPORTABLE_BITS: [u64; 3] = [2_048, 3_072, 4_096];
 
 /// A key that Import allows.
 pub fn key(name: &[u8]) -> Key {
@@ -408,6 +411,14 @@ impl Service {
             service.expect_status(&import(&key(name)), Status::Success);
         }
         service
+    }
+
+    /// The same service with this key in a slot, as a registry from before may hold it: Import need
+    /// not take it.
+    pub fn holding(mut self, line: usize, slot: usize, key: &Key) -> Service {
+        self.registry[slot_at(line, slot)..][..SLOT_SIZE].copy_from_slice(&key.slot());
+        assert!(registry_is_well_formed(&self.registry));
+        self
     }
 
     /// The same service with this list from now on.
