@@ -340,7 +340,7 @@ def signatures():
         verify("recon-b", "mr-0001", series[1:], signature, 1133),
         verify("viewer", "series", series[1:], signature, 1135),
         # A key of fewer bits than it was said to have, and data that is no key at all.
-        import_data("viewer", "short", key.data(), 2056),
+        import_data("viewer", "short", key.data(), 3072),
         import_data("viewer", "note", b"no key", 2048),
         verify("viewer", "short", series, signature, 1134),
         verify("viewer", "note", series, signature, 1134),
