@@ -3,6 +3,7 @@
 
 use crate::ask::{DESTROY, EXPORT, IMPORT, LIST_OPCODES, LIST_PROVIDERS, OPCODES, PING, VERIFY};
 use crate::generate::Random;
+use crate::layout::IMPORT_BITS;
 use crate::oracle::key_name_is_legal;
 use crate::signatures::verify_body;
 use razidkot_client::raw::{self, Request};
@@ -17,8 +18,8 @@ pub const BITS_ILLEGAL: u32 = 5;
 pub const HASH_ILLEGAL: u32 = 6;
 pub const BODY_TOO_LONG: u32 = 7;
 
-/// Either side of each bound and step, and numbers whose low 16 bits would be allowed.
-pub const BITS: [u32; 22] = [
+/// Around what is allowed and what once was, and numbers whose low 16 bits would be allowed.
+pub const BITS: [u32; 29] = [
     0,
     1,
     8,
@@ -30,15 +31,22 @@ pub const BITS: [u32; 22] = [
     1_028,
     1_031,
     1_032,
+    2_040,
+    2_047,
     2_048,
+    2_049,
+    2_056,
+    3_071,
+    3_072,
+    3_073,
     4_088,
     4_095,
     4_096,
     4_097,
     4_104,
     0xFFFF,
-    0x1_0400,
-    0x8000_0400,
+    0x1_0800,
+    0x8000_0800,
     u32::MAX - 7,
     u32::MAX,
 ];
@@ -95,7 +103,7 @@ impl Asked {
             bits: match random.below(6) {
                 0 => random.pick(&BITS),
                 1 => random.word() as u32,
-                _ => 1_024 + 8 * random.below(385) as u32,
+                _ => random.pick(&IMPORT_BITS).into(),
             },
             export_allowed: random.once_in(2),
             verify_allowed: random.once_in(2),
@@ -116,7 +124,7 @@ impl Asked {
                 let length = random.pick(&[0, 601, 1_000]);
                 self.data = random.bytes(length);
             }
-            BITS_ILLEGAL => self.bits = random.pick(&[0, 1_016, 1_028, 4_104, 0x1_0400]),
+            BITS_ILLEGAL => self.bits = random.pick(&[0, 1_024, 1_028, 2_056, 4_104, 0x1_0800]),
             HASH_ILLEGAL => self.hash.resize(random.pick(&[0, 31, 33, 64]), 0),
             BODY_TOO_LONG => self
                 .signature
@@ -205,13 +213,13 @@ impl Asked {
     pub fn applying(&self, buffer_length: usize) -> Vec<u32> {
         let (imports, verifies) = (self.opcode == IMPORT, self.opcode == VERIFY);
         let body_length = verify_body(&self.name, &self.hash, &self.signature).len();
-        let bits_are_legal = (1_024..=4_096).contains(&self.bits) && self.bits.is_multiple_of(8);
+        let are_import_bits = IMPORT_BITS.map(u32::from).contains(&self.bits);
         let applies = [
             buffer_length < 5_120,
             self.named && !application_name_is_legal(&self.application),
             self.has_key_name() && !key_name_is_legal(&self.name),
             imports && !(1..=600).contains(&self.data.len()),
-            imports && !bits_are_legal,
+            imports && !are_import_bits,
             verifies && self.hash.len() != 32,
             verifies && body_length > 4_096,
         ];

@@ -7,7 +7,7 @@ use crate::client_asked::{legal_name, some_session, Asked};
 use crate::client_program::{Program, Said, WAITING};
 use crate::client_states::STATE_SIZE;
 use crate::generate::{name, Random, KEY_NAMES};
-use crate::layout::SLOTS;
+use crate::layout::{IMPORT_BITS, SLOTS};
 use crate::lent::{Lengths, Lent};
 use crate::oracle::key_name_is_legal;
 use crate::shipped::some_list;
@@ -216,7 +216,7 @@ fn some_asked(random: &mut Random, names: &[Vec<u8>], few: usize) -> Asked {
         },
         provider: random.pick(&[0, 0, 1, 1, 2, u32::MAX]),
         name: vec![random.pick(KEY_NAMES)],
-        bits: 1_024 + 8 * random.below(385) as u32,
+        bits: random.pick(&IMPORT_BITS).into(),
         ..any.clone()
     };
     let asked = match random.below(3) {

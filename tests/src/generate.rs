@@ -1,13 +1,13 @@
 //! Inputs from a seed, the same on every run.
 
-use crate::ask::{import_body, name_body, record, registry_of, request, DESTROY, IMPORT};
+use crate::ask::{record, registry_of};
+use crate::journals::{destroy_record, import_record};
 use crate::layout::*;
 use crate::listed::MOST_USES;
 use crate::oracle::{bytes_field, varint};
 use crate::signatures::with_signed_data;
 use crate::unlisted::{whole_field, START_GROUP};
-use reference::rules;
-use reference::REGISTRY_SIZE;
+use reference::{read_journal, REGISTRY_SIZE};
 
 /// The names that many keys have, one byte each: two more than an application may hold.
 pub const KEY_NAMES: &[u8] = b"abcdefghij";
@@ -80,16 +80,24 @@ pub fn name(random: &mut Random, number: usize, length: usize) -> Vec<u8> {
     name
 }
 
-/// A key that Import allows; some are as long as may be.
+/// A key that a slot may hold; some are as long as may be, some of bits that Import takes no more.
 pub fn key(random: &mut Random, number: usize) -> Key {
     let name_length = random.pick(&[1, 2, 9, 31, 32]);
     let data_length = random.pick(&[1, 2, 33, 255, 256, 599, 600]);
     Key {
         name: name(random, number, name_length),
         data: random.bytes(data_length),
-        bits: random.pick(&[1_024, 1_032, 2_048, 4_088, 4_096]),
+        bits: random.pick(&[1_024, 2_048, 2_056, 3_072, 4_088, 4_096]),
         export_allowed: random.once_in(2),
         verify_allowed: random.once_in(2),
+    }
+}
+
+/// A key that Import allows.
+pub fn importable_key(random: &mut Random, number: usize) -> Key {
+    Key {
+        bits: random.pick(&IMPORT_BITS),
+        ..key(random, number)
     }
 }
 
@@ -126,7 +134,8 @@ impl Filling {
     ];
 }
 
-/// A registry that the reference made of a roster, imports and destroys, its keys used any number of times.
+/// A registry that the reference restored from a roster and a journal of imports and destroys, old ones
+/// too, its keys used any number of times.
 pub fn registry(random: &mut Random, filling: Filling) -> Vec<u8> {
     let count = match filling {
         Filling::Empty => 0,
@@ -142,16 +151,15 @@ pub fn registry(random: &mut Random, filling: Filling) -> Vec<u8> {
             name(random, line, length)
         })
         .collect();
-    let stream: Vec<u8> = match filling {
+    let journal: Vec<u8> = match filling {
         Filling::Empty | Filling::NamesOnly => Vec::new(),
-        Filling::Some | Filling::Full => names
-            .iter()
-            .flat_map(|application| keys_of(random, application, filling))
+        Filling::Some | Filling::Full => (0..count)
+            .flat_map(|line| keys_of(random, line as u8, filling))
             .collect(),
     };
-    let outcome = rules::run(&registry_of(&names), &stream);
-    assert_eq!(outcome.counters.refused, [0; 19], "all requests are served");
-    let mut registry = outcome.registry;
+    let restored = read_journal(&registry_of(&names), &journal);
+    assert_eq!(restored.fault, None, "all records are carried out");
+    let mut registry = restored.registry;
     for place in used_places(&registry) {
         set_uses(&mut registry, place, uses(random));
     }
@@ -170,8 +178,8 @@ pub fn uses(random: &mut Random) -> u32 {
     }
 }
 
-/// The requests that fill an application's slots: an import each, and for holes some destroys.
-fn keys_of(random: &mut Random, application: &[u8], filling: Filling) -> Vec<u8> {
+/// The records that fill a line's slots: an import each, and for holes some destroys.
+fn keys_of(random: &mut Random, line: u8, filling: Filling) -> Vec<u8> {
     let mut some_key = |slot| {
         let key = key(random, slot);
         with_signed_data(random, key)
@@ -183,16 +191,14 @@ fn keys_of(random: &mut Random, application: &[u8], filling: Filling) -> Vec<u8>
             key.data = random.bytes(LONGEST_DATA);
         }
     }
-    let mut stream = Vec::new();
-    for key in &keys {
-        stream.extend(request(IMPORT, Some(application), &import_body(key)));
-    }
+    let imports = keys.iter().flat_map(|key| import_record(line, key));
+    let mut journal: Vec<u8> = imports.collect();
     for key in &keys {
         if filling == Filling::Some && random.once_in(2) {
-            stream.extend(request(DESTROY, Some(application), &name_body(&key.name)));
+            journal.extend(destroy_record(line, &key.name));
         }
     }
-    stream
+    journal
 }
 
 // ---- damage to a registry
@@ -270,7 +276,7 @@ impl Damage {
         let place = place(random);
         let length = random.pick(&[0, 1, 255, 256, 599, 600, 601, 0x200, 0xFFFF]);
         let bits = random.pick(&[
-            0, 1_016, 1_023, 1_024, 1_028, 1_032, 2_048, 4_095, 4_096, 4_104, 0xFFFF,
+            0, 1_016, 1_023, 1_024, 1_028, 1_032, 2_048, 2_056, 4_095, 4_096, 4_104, 0xFFFF,
         ]);
         let flag = random.pick(&[0, 0, 1, 1, 2, 0x80, 0xFF]);
         let uses = uses(random);
@@ -458,9 +464,9 @@ pub fn message(random: &mut Random, wire_types: &[u64]) -> Vec<u8> {
 
 /// An Import that is allowed more often than not.
 pub fn import_message(random: &mut Random) -> Vec<u8> {
-    let key = key(random, 0);
+    let key = importable_key(random, 0);
     let name = random.pick(&[key.name.clone(), key.name, vec![b'n'; 33], b"a b".to_vec()]);
-    let bits = random.pick(&[1_024, 2_048, 4_096, 1 << 32 | 2_048, 1_016, 1_028, 4_104]);
+    let bits = random.pick(&[2_048, 3_072, 4_096, 1 << 32 | 2_048, 1_024, 2_056, 4_104]);
     let flags = [random.number(), u64::from(key.export_allowed)];
     let mut fields = vec![
         bytes_field(1, &name),

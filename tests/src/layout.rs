@@ -1,5 +1,6 @@
 //! Where things lie in registry memory, by docs/LAYOUT.md.
 
+use crate::oracle::slot_of;
 use std::ops::Range;
 
 pub const LINES: usize = 8;
@@ -30,6 +31,14 @@ impl Place {
     pub fn all() -> impl Iterator<Item = Place> {
         (0..LINES).flat_map(|line| (0..SLOTS).map(move |slot| Place { line, slot }))
     }
+}
+
+/// What Import takes: document 02, "No more odd key lengths".
+pub const IMPORT_BITS: [u16; 3] = [2_048, 3_072, 4_096];
+
+/// What a slot and a journal's record may have: 01's earlier rule.
+pub fn bits_are_legal(bits: u64) -> bool {
+    (1_024..=4_096).contains(&bits) && bits.is_multiple_of(8)
 }
 
 /// What Import brings to a slot.
@@ -63,6 +72,11 @@ pub fn slot_bytes(registry: &[u8], place: Place) -> &[u8] {
 pub fn uses_at(registry: &[u8], place: Place) -> u32 {
     let uses = slot_bytes(registry, place)[USES_AT..].iter();
     uses.rfold(0, |number, &byte| number << 8 | u32::from(byte))
+}
+
+/// Puts the key into a slot as it would lie there, not used yet: Import need not take it.
+pub fn hold(registry: &mut [u8], place: Place, key: &Key) {
+    registry[slot_at(place)..][..SLOT_SIZE].copy_from_slice(&slot_of(key));
 }
 
 pub fn set_uses(registry: &mut [u8], place: Place, uses: u32) {

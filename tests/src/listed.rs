@@ -112,10 +112,11 @@ type Row<'a> = (u16, &'a str, &'a [(u16, &'a str)]);
 
 /// Every outcome that a long enough run has.
 pub fn expected() -> Vec<String> {
-    let room: &[(u16, &str)] = &[(1135, ""), (1139, "")];
-    let full: &[(u16, &str)] = &[(1135, ", no slot free"), (1139, ", no slot free")];
+    let statuses = [1134, 1135, 1139];
+    let room = statuses.map(|status| (status, ""));
+    let full = statuses.map(|status| (status, ", no slot free"));
     let held = [room, full].concat();
-    let new = [(0, ""), (1135, ""), (1142, ", no slot free")];
+    let new = [(0, ""), (1134, ""), (1135, ""), (1142, ", no slot free")];
     let used = [(0, ""), (1133, ""), (1134, ""), (1135, ""), (1149, "")];
     let listed = [
         (0, ""),

@@ -239,10 +239,11 @@ pub fn key_name_is_legal(name: &[u8]) -> bool {
     (1..=32).contains(&name.len()) && name.iter().all(|byte| (0x21..=0x7E).contains(byte))
 }
 
-/// "data 1 to 600 bytes, any content; bits 1,024 to 4,096 in multiples of 8; else 1135"
-pub fn import_allows(name: &[u8], data: &[u8], bits: u64) -> bool {
-    key_name_is_legal(name)
-        && (1..=600).contains(&data.len())
-        && (1_024..=4_096).contains(&bits)
-        && bits.is_multiple_of(8)
+/// What Import's bounds refuse: "data 1 to 600 bytes, any content; .. else 1135", then "only 2,048,
+/// 3,072 and 4,096 bits. Any other is 1134, judged after name and data".
+pub fn import_refusal(name: &[u8], data: &[u8], bits: u64) -> Option<u16> {
+    if !key_name_is_legal(name) || !(1..=600).contains(&data.len()) {
+        return Some(1135);
+    }
+    (![2_048, 3_072, 4_096].contains(&bits)).then_some(1134)
 }

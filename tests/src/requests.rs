@@ -3,7 +3,7 @@
 //! they are meant to reach all of.
 
 use crate::ask::*;
-use crate::generate::{import_message, key, message, mutated, Random, KEY_NAMES};
+use crate::generate::{import_message, importable_key, message, mutated, Random, KEY_NAMES};
 use crate::layout::{line_at, name_at, slot_at, Key, Place, LINES, SLOTS};
 use crate::signatures::{some_verify_body, with_signed_data};
 use crate::unlisted::{Class, Sample};
@@ -73,7 +73,7 @@ pub fn filling(random: &mut Random, application: &Application) -> Vec<Vec<u8>> {
         .map(|&name| {
             let key = Key {
                 name: vec![name],
-                ..key(random, 0)
+                ..importable_key(random, 0)
             };
             request(IMPORT, Some(&application.name), &import_body(&key))
         })
@@ -182,12 +182,12 @@ fn body(random: &mut Random, opcode: u16, application: &Application) -> Vec<u8> 
         IMPORT => {
             let key = Key {
                 name: key_name(random, application),
-                ..key(random, 0)
+                ..importable_key(random, 0)
             };
             let mut key = with_signed_data(random, key);
             match random.below(10) {
                 0 => key.data.resize(random.pick(&[0, 601]), 0xDA),
-                1 => key.bits = random.pick(&[0, 1_016, 1_028, 4_104]),
+                1 => key.bits = random.pick(&[0, 1_024, 1_028, 2_056, 4_104]),
                 _ => {}
             }
             import_body(&key)
@@ -239,7 +239,7 @@ fn bad_body(random: &mut Random, opcode: u16, application: &Application) -> Vec<
     match random.below(5) {
         0 if opcode == IMPORT => import_body(&Key {
             data: vec![0xDA; random.pick(&[0, 601])],
-            ..key(random, 0)
+            ..importable_key(random, 0)
         }),
         1 => [body, b"\x30\x01".to_vec()].concat(),
         2 => message(random, wire_types),

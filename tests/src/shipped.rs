@@ -69,7 +69,7 @@ fn some_data(random: &mut Random, name: &[u8]) -> Vec<u8> {
             let unsupported = Signed::unsupported();
             unsupported[random.below(unsupported.len())].data.clone()
         }
-        5 => rsa_public_key(random.pick(&[1_016, 1_023, 1_024, 1_028, 4_096, 4_097, 4_104])),
+        5 => rsa_public_key(random.pick(&[1_016, 1_024, 2_047, 2_048, 2_056, 3_072, 4_096, 4_097])),
         _ => {
             let length = random.pick(&[1, 2, 127, 128, LONGEST_DATA]);
             random.bytes(length)

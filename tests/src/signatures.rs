@@ -3,9 +3,9 @@
 
 use crate::ask::*;
 use crate::generate::Random;
-use crate::layout::Key;
+use crate::layout::{hold, Key, Place, IMPORT_BITS, SLOTS};
+use crate::lent::Lent;
 use crate::oracle::bytes_field;
-use crate::service;
 use crate::sha256::sha256;
 use crate::vectors::{blocks, from_hex, lines, Block};
 use std::sync::OnceLock;
@@ -72,16 +72,38 @@ impl Signed {
         })
     }
 
-    /// The one whose key an Import brings under this name, if it brings one that verifies: so a
-    /// Verify of the name has its signature. Long ones are rare, for the time they take.
+    /// A good signature of each key of bits that Import takes, the shortest first.
+    pub fn supported() -> &'static [Signed] {
+        static SUPPORTED: OnceLock<Vec<Signed>> = OnceLock::new();
+        SUPPORTED.get_or_init(|| {
+            let all = Signed::good().iter();
+            all.filter(|signed| signed.has_import_bits())
+                .cloned()
+                .collect()
+        })
+    }
+
+    pub fn has_import_bits(&self) -> bool {
+        IMPORT_BITS.contains(&self.bits)
+    }
+
+    /// What verify answers where it would answer this if the key's bits were Import's.
+    pub fn status_or_unsupported(&self, status: u16) -> u16 {
+        match self.has_import_bits() {
+            true => status,
+            false => NOT_SUPPORTED,
+        }
+    }
+
+    /// The one whose key a registry or an Import brings under this name, if it brings one that
+    /// verifies: so a Verify of the name has its signature. Long ones are rare, for the time they take.
     pub fn of_name(name: &[u8]) -> &'static Signed {
         let sum: usize = name.iter().map(|&byte| usize::from(byte)).sum();
         let good = Signed::good();
-        let place = match sum % 7 {
-            6 => sum / 7 % good.len(),
-            place => place,
-        };
-        &good[place]
+        match sum % 7 {
+            6 => &good[sum / 7 % good.len()],
+            place => &Signed::supported()[place],
+        }
     }
 
     pub fn body(&self, name: &[u8]) -> Vec<u8> {
@@ -170,33 +192,28 @@ fn of_key<'a>(signed: &'a [Signed], data: &'a [u8]) -> impl Iterator<Item = &'a 
     signed.iter().filter(move |signed| signed.data == data)
 }
 
-/// The status that the compiled service answers to each one's signature, its key imported before
-/// and destroyed behind. All else is what the rules give.
+/// The status that both answer to each one's signature, its key in a registry from before.
 pub fn statuses(all: &[Signed]) -> Vec<u16> {
-    let (application, name) = (b"scanner", b"key");
-    let ask = |opcode, body: &[u8]| request(opcode, Some(application), body);
-    let stream: Vec<u8> = all
-        .iter()
-        .flat_map(|signed| {
-            [
-                ask(IMPORT, &import_body(&signed.key(name))),
-                ask(VERIFY, &signed.body(name)),
-                ask(DESTROY, &name_body(name)),
-            ]
-        })
-        .flatten()
-        .collect();
-    let responses = service::responses(&[application.to_vec()], &stream, &[4_096]);
-    let status = |response: &Vec<u8>| u16::from_le_bytes([response[24], response[25]]);
-    let statuses: Vec<u16> = responses.iter().map(status).collect();
-    assert_eq!(statuses.len(), 3 * all.len());
-    let triples = statuses.chunks_exact(3);
-    triples
-        .map(|triple| {
-            assert_eq!([triple[0], triple[2]], [SUCCESS; 2], "import and destroy");
-            triple[1]
-        })
-        .collect()
+    all.chunks(SLOTS).flat_map(held_statuses).collect()
+}
+
+/// Of as many as a line holds.
+fn held_statuses(all: &[Signed]) -> Vec<u16> {
+    let application = b"scanner";
+    let mut registry = registry_of(&[application.to_vec()]);
+    let names = (b'a'..).map(|letter| [letter]);
+    let named: Vec<_> = names.zip(all).collect();
+    for (slot, (name, signed)) in named.iter().enumerate() {
+        hold(&mut registry, Place { line: 0, slot }, &signed.key(name));
+    }
+    let mut lent = Lent::fresh(&registry, b"");
+    let status = |(name, signed): &([u8; 1], &Signed)| {
+        let verify = request(VERIFY, Some(application), &signed.body(name));
+        let answer = lent.call_both(&verify);
+        assert_eq!(answer.written, 26, "one response, with no body");
+        u16::from_le_bytes([lent.response()[24], lent.response()[25]])
+    };
+    named.iter().map(status).collect()
 }
 
 // ---- NIST's vectors

@@ -6,7 +6,7 @@ use razidkot_tests::ask::{
     import_body, name_body, registry_of, request, DESTROY, EXPORT, IMPORT, PING,
 };
 use razidkot_tests::bill::{letters, ping, printed, printed_from_pipe, roster_of, text, Folder};
-use razidkot_tests::generate::{key, mutated, name, some_roster, Random};
+use razidkot_tests::generate::{importable_key, mutated, name, some_roster, Random};
 use razidkot_tests::layout::{Key, Place, LINES, SLOTS};
 use razidkot_tests::lists::{list_of, longest_list, pair, pairs};
 use razidkot_tests::requests::{applications, filling, requests, with_lengths};
@@ -225,7 +225,7 @@ fn a_stream_is_billed_with_the_keys_of_the_list() {
     let requests = [EXPORT, DESTROY].map(|opcode| request(opcode, Some(b"b"), &name_body(b"k")));
     let import = import_body(&Key {
         name: b"k".to_vec(),
-        ..key(&mut Random::new(1), 0)
+        ..importable_key(&mut Random::new(1), 0)
     });
     let stream = [requests.concat(), request(IMPORT, Some(b"b"), &import)].concat();
     let bill_with = |list: &[u8]| folder.bill_with_list(b"\x01\x01\x00b", &stream, list);
@@ -274,7 +274,7 @@ fn key_lines_stand_behind_all_roster_lines_by_line_and_then_slot() {
     let key = |name: &[u8]| Key {
         name: name.to_vec(),
         export_allowed: true,
-        ..key(&mut Random::new(0), 0)
+        ..importable_key(&mut Random::new(0), 0)
     };
     let import =
         |application: &[u8], name| request(IMPORT, Some(application), &import_body(&key(name)));
@@ -305,7 +305,7 @@ fn all_64_keys_of_eight_applications_are_billed() {
             let key = Key {
                 name: vec![b'a' + slot as u8],
                 export_allowed: true,
-                ..key(&mut Random::new(0), 0)
+                ..importable_key(&mut Random::new(0), 0)
             };
             stream.extend(request(IMPORT, Some(application), &import_body(&key)));
             let export = request(EXPORT, Some(application), &name_body(&key.name));

@@ -90,8 +90,8 @@ fn an_import_has_the_last_of_each_of_its_five_fields() {
             return answer.status == ask::DESERIALIZING_BODY_FAILED;
         };
         let (name, data) = (bytes_of(body, &name), bytes_of(body, &data));
-        if !oracle::import_allows(name, data, bits.number) {
-            return answer.status == ask::INVALID_ARGUMENT;
+        if let Some(status) = oracle::import_refusal(name, data, bits.number) {
+            return answer.status == status;
         }
         allowed.set(allowed.get() + 1);
         let key = Key {

@@ -146,11 +146,13 @@ fn key_names_data_and_bits_are_held_up_to_their_bounds() {
         assert_eq!(imported(Key { data, ..key(b"a") }), status, "{length}");
     }
     for (bits, status) in [
-        (1_024, 0),
+        (2_048, 0),
+        (3_072, 0),
         (4_096, 0),
-        (1_016, 1135),
-        (1_028, 1135),
-        (4_104, 1135),
+        (1_016, 1134),
+        (1_024, 1134),
+        (1_028, 1134),
+        (4_104, 1134),
     ] {
         assert_eq!(imported(Key { bits, ..key(b"a") }), status, "{bits}");
     }

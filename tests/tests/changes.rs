@@ -22,7 +22,7 @@ fn a_free_slot_is_filled_as_import_fills_it() {
             if application.is_empty() {
                 continue;
             }
-            let key = generate::key(random, 60);
+            let key = generate::importable_key(random, 60);
             let answer = ask(
                 &registry,
                 ask::IMPORT,

@@ -37,7 +37,7 @@ fn every_bound_with_every_other_is_judged_alike() {
     let mut written = Written::default();
     let applications = [(0, false), (0, true), (1, true), (64, true), (65, true)];
     let keys = each_with_each(&[0, 1, 32, 33], &[0, 1, 600, 601]);
-    let keys = each_with_each(&keys, &[1_016, 1_024, 1_028, 4_096, 4_104]);
+    let keys = each_with_each(&keys, &[1_024, 2_048, 2_056, 4_096, 4_104]);
     for_seeds(1, |random| {
         for ((length, named), ((name, data), bits)) in each_with_each(&applications, &keys) {
             let asked = Asked {
@@ -169,17 +169,17 @@ fn data_has_1_to_600_bytes_of_any_content() {
 }
 
 #[test]
-fn bits_are_1024_to_4096_in_multiples_of_8() {
+fn bits_are_2048_3072_or_4096() {
     let powers = (0..32).flat_map(|power| {
         let power: u32 = 1 << power;
-        [power - 1, power, power + 1, power.wrapping_add(1_024)]
+        [power - 1, power, power + 1, power.wrapping_add(2_048)]
     });
     for bits in (0..=5_000).chain(BITS).chain(powers) {
         let asked = Asked {
             bits,
             ..Asked::good(IMPORT)
         };
-        let is_legal = (1_024..=4_096).contains(&bits) && bits.is_multiple_of(8);
+        let is_legal = [2_048, 3_072, 4_096].contains(&bits);
         let code = if is_legal { 0 } else { BITS_ILLEGAL };
         assert_eq!(code_of(&asked, ENOUGH), code, "{bits}");
     }

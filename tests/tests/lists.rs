@@ -283,7 +283,7 @@ fn status_of(allowed: bool) -> u16 {
 
 #[test]
 fn an_own_key_comes_before_a_listed_one_whatever_it_allows() {
-    let (first, second) = (&Signed::good()[0], &Signed::good()[1]);
+    let (first, second) = (&Signed::supported()[0], &Signed::supported()[1]);
     for (export_allowed, verify_allowed) in USES {
         let registry = registry_with(Some(&own_key(first, export_allowed, verify_allowed)));
         let lent = &mut Lent::fresh(&registry, &list_with(&second.data));
@@ -320,7 +320,7 @@ fn bytes_of(data: &[u8]) -> Vec<u8> {
 
 #[test]
 fn import_and_destroy_under_a_listed_name() {
-    let signed = &Signed::good()[0];
+    let signed = &Signed::supported()[0];
     for (export_allowed, verify_allowed) in USES {
         let own = own_key(signed, export_allowed, verify_allowed);
         let lent = &mut Lent::fresh(&registry_with(Some(&own)), &list_with(b"listed"));
@@ -398,35 +398,38 @@ fn listed_statuses(all: &[Signed]) -> Vec<u16> {
 
 #[test]
 fn signatures_of_listed_keys_are_good_or_bad_as_those_of_own_ones() {
-    let good = listed_statuses(Signed::good());
-    assert_eq!(good, vec![SUCCESS; Signed::good().len()]);
-    let bad = listed_statuses(Signed::bad());
-    assert_eq!(bad, vec![INVALID_SIGNATURE; Signed::bad().len()]);
+    for (all, status) in [
+        (Signed::good(), SUCCESS),
+        (Signed::bad(), INVALID_SIGNATURE),
+    ] {
+        for (signed, answered) in all.iter().zip(listed_statuses(all)) {
+            let expected = signed.status_or_unsupported(status);
+            assert_eq!(answered, expected, "{}", signed.title);
+        }
+    }
 }
 
-/// A listed key has its modulus's bits: what other stored bits alone made bad is good.
+/// A listed key has its modulus's bits: what other stored bits alone made bad is good where they are
+/// Import's.
 #[test]
 fn listed_data_that_is_no_rsa_public_key_is_not_supported() {
     let all = Signed::unsupported();
     let mut outcomes = Outcomes::default();
     for (signed, status) in all.iter().zip(listed_statuses(all)) {
-        let is_key = signed.title.ends_with("stored");
-        let is_other_key = signed.title == "2048-65537: modulus of eight bits less";
-        let expected = match (is_key, is_other_key) {
-            (true, _) => SUCCESS,
-            (_, true) => INVALID_SIGNATURE,
-            _ => NOT_SUPPORTED,
-        };
+        let bits = reference::rsa::modulus_bits(&signed.data);
+        let is_key = signed.title.ends_with("stored") && bits == 2_048;
+        let expected = if is_key { SUCCESS } else { NOT_SUPPORTED };
         assert_eq!(status, expected, "{}", signed.title);
         outcomes.count(status);
     }
-    outcomes.assert_often(&[SUCCESS, INVALID_SIGNATURE, NOT_SUPPORTED], 1);
+    outcomes.assert_often(&[SUCCESS, NOT_SUPPORTED], 1);
 }
 
 #[test]
-fn a_listed_modulus_has_1024_to_4096_bits_in_multiples_of_8() {
-    for bits in (1_000..1_050).chain(2_040..2_060).chain(4_080..4_130) {
-        let is_supported = (1_024..=4_096).contains(&bits) && bits % 8 == 0;
+fn a_listed_modulus_has_2048_3072_or_4096_bits() {
+    let ends = (2_040..2_060).chain(3_060..3_080).chain(4_080..4_130);
+    for bits in (8..4_200).step_by(8).chain(1_000..1_050).chain(ends) {
+        let is_supported = [2_048, 3_072, 4_096].contains(&bits);
         let lent = &mut Lent::fresh(&registry_with(None), &list_with(&rsa_public_key(bits)));
         let body = verify_body(b"k", &[0; 32], &vec![0; bits.div_ceil(8)]);
         let (status, _) = asked(lent, VERIFY, APPLICATION, &body);

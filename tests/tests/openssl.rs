@@ -91,12 +91,13 @@ impl OpenSsl {
         self.run(&words).status.success()
     }
 
-    /// Both judge each of them so.
+    /// Both judge each of them so, the service those of bits that Import takes.
     fn expect(&self, all: &[Signed], is_good: bool) {
         let status = if is_good { SUCCESS } else { INVALID_SIGNATURE };
         for (signed, answered) in all.iter().zip(statuses(all)) {
             let title = &signed.title;
             assert_eq!(self.calls_good(signed), is_good, "openssl, {title}");
+            let status = signed.status_or_unsupported(status);
             assert_eq!(answered, status, "service, {title}");
         }
     }
@@ -157,12 +158,12 @@ fn kept_keys_of_every_modulus_and_exponent_sign_alike() {
 fn keys_made_now_sign_alike() {
     if let Some(openssl) = OpenSsl::find("keys-made-now") {
         let keys = [
-            (1_024, 3),
-            (1_024, 17),
-            (1_024, 65_537),
-            (1_024, u32::MAX),
-            (1_536, 65_537),
+            (2_048, 3),
+            (2_048, 17),
             (2_048, 65_537),
+            (2_048, u32::MAX),
+            (3_072, 65_537),
+            (1_024, 65_537),
         ];
         let keys = keys.map(|(bits, exponent)| openssl.generate(bits, exponent));
         openssl.expect_signatures_of(&keys);
@@ -174,13 +175,13 @@ fn keys_made_now_sign_alike() {
 fn signatures_that_another_program_made_are_judged_alike() {
     if let Some(openssl) = OpenSsl::find("made-elsewhere") {
         openssl.expect(Signed::good(), true);
-        let of_short_keys = |signed: &&Signed| signed.bits <= 1_032;
+        let of_short_keys = |signed: &&Signed| signed.bits <= 2_048;
         let bad: Vec<_> = Signed::bad()
             .iter()
             .filter(of_short_keys)
             .cloned()
             .collect();
-        assert_eq!(bad.len(), 80);
+        assert_eq!(bad.len(), 120);
         openssl.expect(&bad, false);
     }
 }

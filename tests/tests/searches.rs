@@ -185,7 +185,7 @@ fn the_empty_name_finds_the_lowest_numbered_free_slot() {
     let mut outcomes = Outcomes::default();
     for_seeds(500, |random| {
         let registry = some_registry(random);
-        let key = generate::key(random, 60);
+        let key = generate::importable_key(random, 60);
         for line in 0..LINES {
             let found = foreign::find_slot(&registry, line, &[]).expect("the exact size");
             assert_eq!(found, oracle::find_slot(&registry, line, &[]));

@@ -32,9 +32,11 @@ fn outcome(signed: &Signed) -> Outcome {
     verification(signed).outcome
 }
 
+/// Where the key has Import's bits; of others it is not supported, whatever the signature.
 fn assert_statuses(all: &[Signed], status: u16) {
     for (signed, answered) in all.iter().zip(statuses(all)) {
-        assert_eq!(answered, status, "{}", signed.title);
+        let expected = signed.status_or_unsupported(status);
+        assert_eq!(answered, expected, "{}", signed.title);
     }
 }
 
@@ -64,7 +66,7 @@ fn the_second_program_judges_nists_signatures_as_nist_does() {
 }
 
 #[test]
-fn the_service_judges_nists_signatures_as_nist_does() {
+fn the_service_judges_nists_signatures_of_its_lengths_as_nist_does() {
     let vectors = published();
     let all: Vec<_> = vectors.iter().map(|vector| vector.signed.clone()).collect();
     for (vector, status) in vectors.iter().zip(statuses(&all)) {
@@ -73,6 +75,7 @@ fn the_service_judges_nists_signatures_as_nist_does() {
         } else {
             INVALID_SIGNATURE
         };
+        let expected = vector.signed.status_or_unsupported(expected);
         let title = &vector.signed.title;
         assert_eq!(status, expected, "{title}: {}", vector.result);
     }
@@ -80,7 +83,7 @@ fn the_service_judges_nists_signatures_as_nist_does() {
 
 #[test]
 fn signatures_of_every_modulus_and_exponent_are_good() {
-    assert_eq!(Signed::good().len(), 23);
+    assert_eq!((Signed::good().len(), Signed::supported().len()), (23, 12));
     assert_statuses(Signed::good(), SUCCESS);
 }
 
@@ -100,8 +103,9 @@ fn other_key_data_is_not_supported() {
 #[test]
 fn a_bit_changed_in_hash_or_signature_is_an_invalid_signature() {
     let mut changed = Vec::new();
-    for (place, signed) in Signed::good().iter().enumerate() {
-        let step = if place == 0 { 1 } else { 97 };
+    for signed in Signed::good() {
+        let is_first = signed == &Signed::supported()[0];
+        let step = if is_first { 1 } else { 97 };
         for bit in (0..8 * signed.hash.len()).step_by(step) {
             let mut other = signed.clone();
             other.hash[bit / 8] ^= 1 << (bit % 8);
@@ -119,7 +123,7 @@ fn a_bit_changed_in_hash_or_signature_is_an_invalid_signature() {
 /// Another number in the key makes a good signature a bad one; what is no key at all is told so.
 #[test]
 fn a_bit_changed_in_the_key_is_judged_as_the_second_program_does() {
-    let signed = &Signed::good()[0];
+    let signed = &Signed::supported()[0];
     let changed: Vec<_> = (0..8 * signed.data.len())
         .map(|bit| {
             let mut other = signed.clone();
@@ -138,7 +142,7 @@ fn a_bit_changed_in_the_key_is_judged_as_the_second_program_does() {
     }
     let count = |status| statuses.iter().filter(|&&other| other == status).count();
     assert_eq!(count(SUCCESS), 0);
-    assert!(count(INVALID_SIGNATURE) > 1_000 && count(NOT_SUPPORTED) > 50);
+    assert!(count(INVALID_SIGNATURE) > 2_000 && count(NOT_SUPPORTED) > 50);
 }
 
 #[test]

@@ -40,7 +40,7 @@ fn other_key(name: &[u8]) -> Key {
 }
 
 fn signed() -> &'static Signed {
-    &Signed::good()[0]
+    &Signed::supported()[0]
 }
 
 /// An Export and a Verify that are served.
