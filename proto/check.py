@@ -270,7 +270,7 @@ def some_key(chance):
     return messages.PsaImportKeyRequest(
         name=some_name(chance, 32),
         data=chance.randbytes(chance.randint(1, 600)),
-        bits=chance.randrange(1_024, 4_097, 8),
+        bits=chance.choice([2_048, 3_072, 4_096]),
         export_allowed=chance.random() < 0.8,
         verify_allowed=chance.random() < 0.5,
     )
@@ -386,7 +386,7 @@ def signing_key():
     sys.path.append(str(Path(__file__).resolve().parent.parent / "samples"))
     from make import SigningKey
 
-    return SigningKey("proto", 1_024)
+    return SigningKey("proto", 2_048)
 
 
 def signature_is_checked(service, chance):
