@@ -1,7 +1,7 @@
 //! The seven operations: what each reads from its body, does and writes.
 //! Document 01, "Operations and their fields"; document 02, "Unlisted fields" (a field that is not
 //! listed, or has another wire type, is skipped), "Checking signatures", "Keys we ship", "Use per key",
-//! "Surviving a power cut" and "No more odd key lengths".
+//! "Surviving a power cut", "No more odd key lengths" and "Where the body broke".
 
 use crate::list::find_listed_key;
 use crate::opcode::{CoreOpcode, KeystoreOpcode, Provider};
@@ -16,14 +16,29 @@ use crate::wire::RESPONSE_HEADER_LENGTH;
 /// An export of the longest data: its tag and two bytes of length come before it.
 pub const LONGEST_RESPONSE: usize = RESPONSE_HEADER_LENGTH + 3 + LONGEST_DATA;
 
-impl From<Unreadable> for Status {
-    fn from(_: Unreadable) -> Status {
-        Status::DeserializingBodyFailed
+/// Why a request is not served.
+#[derive(Clone, Copy, Debug, PartialEq, Eq)]
+pub enum Refused {
+    /// With an empty body.
+    With(Status),
+    /// Status 7, whose body says where the request's broke.
+    Unreadable(Unreadable),
+}
+
+impl From<Status> for Refused {
+    fn from(status: Status) -> Refused {
+        Refused::With(status)
+    }
+}
+
+impl From<Unreadable> for Refused {
+    fn from(unreadable: Unreadable) -> Refused {
+        Refused::Unreadable(unreadable)
     }
 }
 
 /// Writes the response's body to `out` and says how long it is; a refusal writes nothing.
-pub fn perform_core(opcode: CoreOpcode, body: &[u8], out: &mut [u8]) -> Result<usize, Status> {
+pub fn perform_core(opcode: CoreOpcode, body: &[u8], out: &mut [u8]) -> Result<usize, Refused> {
     let mut writer = Writer::new(out);
     match opcode {
         CoreOpcode::Ping => {
@@ -83,7 +98,7 @@ pub fn perform_keystore<'a>(
     registry: &mut [u8],
     list: &[u8],
     out: &mut [u8],
-) -> Result<Performed<'a>, Status> {
+) -> Result<Performed<'a>, Refused> {
     let change = match opcode {
         KeystoreOpcode::Import => {
             let key = read_key_input(body)?;

@@ -1,13 +1,21 @@
 //! Message bodies: reading fields where they lie, and writing fields into lent memory.
 //! Document 01, "Operations and their fields", the paragraph on reading and writing; document 02,
-//! "Unlisted fields". Which fields are listed is for the caller, who skips a field by ignoring it.
+//! "Unlisted fields" and "Where the body broke". Which fields are listed is for the caller, who skips
+//! a field by ignoring it.
 
 /// Groups may stand inside each other so deep; an outermost one has depth 1.
 const DEEPEST_GROUP: usize = 16;
 
 /// A body that document 01 calls not readable.
 #[derive(Clone, Copy, Debug, PartialEq, Eq)]
-pub struct Unreadable;
+pub struct Unreadable {
+    /// Where in the body the tag of the first unreadable field starts, of the body's own fields.
+    pub at: usize,
+}
+
+/// What can't be read within a field, or within a packed list.
+#[derive(Clone, Copy, Debug, PartialEq, Eq)]
+pub struct Broken;
 
 /// What a field holds.
 #[derive(Clone, Copy, Debug, PartialEq, Eq)]
@@ -20,17 +28,20 @@ pub enum Value<'a> {
 
 #[derive(Clone, Copy, Debug, PartialEq, Eq)]
 pub struct Field<'a> {
+    /// Where in the body its tag starts.
+    pub at: usize,
     pub number: u32,
     pub value: Value<'a>,
 }
 
 /// The fields of a body in the order they come, up to the first unreadable one.
 pub struct Fields<'a> {
+    body: &'a [u8],
     rest: &'a [u8],
 }
 
 pub fn fields(body: &[u8]) -> Fields<'_> {
-    Fields { rest: body }
+    Fields { body, rest: body }
 }
 
 impl<'a> Iterator for Fields<'a> {
@@ -40,7 +51,8 @@ impl<'a> Iterator for Fields<'a> {
         if self.rest.is_empty() {
             return None;
         }
-        Some(self.read_field())
+        let at = self.body.len() - self.rest.len();
+        Some(self.read_field(at).map_err(|Broken| Unreadable { at }))
     }
 }
 
@@ -51,48 +63,49 @@ struct Tag {
 }
 
 impl<'a> Fields<'a> {
-    fn read_field(&mut self) -> Result<Field<'a>, Unreadable> {
+    fn read_field(&mut self, at: usize) -> Result<Field<'a>, Broken> {
         let tag = self.read_tag()?;
         let value = match tag.wire_type {
             3 => self.skip_group(tag.number)?,
             _ => self.read_value(tag)?,
         };
         Ok(Field {
+            at,
             number: tag.number,
             value,
         })
     }
 
-    fn read_tag(&mut self) -> Result<Tag, Unreadable> {
+    fn read_tag(&mut self) -> Result<Tag, Broken> {
         // The tag is the whole varint: one above 2^32 - 1 is not cut down to 32 bits.
-        let tag = u32::try_from(self.read_varint()?).map_err(|_| Unreadable)?;
+        let tag = u32::try_from(self.read_varint()?).map_err(|_| Broken)?;
         let (number, wire_type) = (tag >> 3, tag & 7);
         match number {
-            0 => Err(Unreadable),
+            0 => Err(Broken),
             _ => Ok(Tag { number, wire_type }),
         }
     }
 
     /// Of a field that is no group. An end tag that comes here has no group to end.
-    fn read_value(&mut self, tag: Tag) -> Result<Value<'a>, Unreadable> {
+    fn read_value(&mut self, tag: Tag) -> Result<Value<'a>, Broken> {
         match tag.wire_type {
             0 => Ok(Value::Varint(self.read_varint()?)),
             1 => self.take(8).map(|_| Value::Other),
             2 => Ok(Value::Bytes(self.read_bytes()?)),
             5 => self.take(4).map(|_| Value::Other),
-            _ => Err(Unreadable),
+            _ => Err(Broken),
         }
     }
 
     /// Skips to behind the end tag of the group whose start tag has been read.
-    fn skip_group(&mut self, number: u32) -> Result<Value<'a>, Unreadable> {
+    fn skip_group(&mut self, number: u32) -> Result<Value<'a>, Broken> {
         let mut open = vec![number];
         while let Some(&innermost) = open.last() {
             let tag = self.read_tag()?;
             match tag.wire_type {
-                3 if open.len() == DEEPEST_GROUP => return Err(Unreadable),
+                3 if open.len() == DEEPEST_GROUP => return Err(Broken),
                 3 => open.push(tag.number),
-                4 if tag.number != innermost => return Err(Unreadable),
+                4 if tag.number != innermost => return Err(Broken),
                 4 => {
                     open.pop();
                 }
@@ -105,11 +118,11 @@ impl<'a> Fields<'a> {
     }
 
     /// Up to ten bytes, longer-than-needed forms too; a tenth byte above 1 is not read.
-    fn read_varint(&mut self) -> Result<u64, Unreadable> {
+    fn read_varint(&mut self) -> Result<u64, Broken> {
         let mut value = 0;
         for (place, &byte) in self.rest.iter().take(10).enumerate() {
             if place == 9 && byte > 1 {
-                return Err(Unreadable);
+                return Err(Broken);
             }
             value |= u64::from(byte & 0x7F) << (7 * place);
             if byte < 0x80 {
@@ -117,17 +130,17 @@ impl<'a> Fields<'a> {
                 return Ok(value);
             }
         }
-        Err(Unreadable)
+        Err(Broken)
     }
 
     /// The length is the whole varint, so a huge one is a cut field.
-    fn read_bytes(&mut self) -> Result<&'a [u8], Unreadable> {
-        let length = usize::try_from(self.read_varint()?).map_err(|_| Unreadable)?;
+    fn read_bytes(&mut self) -> Result<&'a [u8], Broken> {
+        let length = usize::try_from(self.read_varint()?).map_err(|_| Broken)?;
         self.take(length)
     }
 
-    fn take(&mut self, length: usize) -> Result<&'a [u8], Unreadable> {
-        let (bytes, rest) = self.rest.split_at_checked(length).ok_or(Unreadable)?;
+    fn take(&mut self, length: usize) -> Result<&'a [u8], Broken> {
+        let (bytes, rest) = self.rest.split_at_checked(length).ok_or(Broken)?;
         self.rest = rest;
         Ok(bytes)
     }
@@ -144,7 +157,7 @@ pub fn low_32_bits(value: u64) -> u32 {
 }
 
 /// The entries of a packed list of uint32, each one whole within its bytes.
-pub fn packed_entries(bytes: &[u8]) -> Result<Vec<u32>, Unreadable> {
+pub fn packed_entries(bytes: &[u8]) -> Result<Vec<u32>, Broken> {
     let mut unread = fields(bytes);
     let mut entries = Vec::new();
     while !unread.rest.is_empty() {

@@ -1,10 +1,11 @@
 //! The judgement of one request and the writing of its response and of its record.
 //! Document 01, "Order of judgement on one request"; document 02, "Surviving a power cut", for the
-//! record.
+//! record, and "Where the body broke", for the body of a status 7 response.
 
 use crate::journal::write_record;
 use crate::opcode::{Opcode, Provider};
-use crate::operation::{perform_core, perform_keystore, Performed};
+use crate::operation::{perform_core, perform_keystore, Performed, Refused};
+use crate::protobuf::Writer;
 use crate::registry::{find_application, Line};
 use crate::status::Status;
 use crate::wire::{
@@ -37,7 +38,7 @@ pub struct Answer {
 
 /// Test 1: wrong magic or H; provider, session and opcode are zero.
 pub fn answer_bad_start(response: &mut [u8]) -> Answer {
-    refuse(Status::InvalidHeader, Echo::default(), response)
+    refuse(Status::InvalidHeader.into(), Echo::default(), response)
 }
 
 /// Test 2: C or A too large; provider, session and opcode repeat the header's.
@@ -47,7 +48,7 @@ pub fn answer_oversized(header: &Header, response: &mut [u8]) -> Answer {
     } else {
         Status::AuthenticationError
     };
-    refuse(status, header.echo(), response)
+    refuse(status.into(), header.echo(), response)
 }
 
 /// Test 3: a whole request, judged where it lies; only a served one changes the registry.
@@ -70,7 +71,7 @@ pub fn answer_whole(
                 recorded: record(caller, &performed, journal),
             }
         }
-        Err(status) => refuse(status, header.echo(), response),
+        Err(refused) => refuse(refused, header.echo(), response),
     }
 }
 
@@ -82,23 +83,32 @@ fn record(caller: Caller, performed: &Performed, journal: &mut [u8]) -> usize {
     }
 }
 
-fn refuse(status: Status, echo: Echo, response: &mut [u8]) -> Answer {
-    write_response_header(response, echo, status, 0);
+fn refuse(refused: Refused, echo: Echo, response: &mut [u8]) -> Answer {
+    let mut body = Writer::new(&mut response[RESPONSE_HEADER_LENGTH..]);
+    let status = match refused {
+        Refused::With(status) => status,
+        Refused::Unreadable(unreadable) => {
+            body.write_uint32(1, unreadable.at as u32);
+            Status::DeserializingBodyFailed
+        }
+    };
+    let body_length = body.written();
+    write_response_header(response, echo, status, body_length);
     Answer {
         verdict: Verdict::Refused(status),
-        written: RESPONSE_HEADER_LENGTH,
+        written: RESPONSE_HEADER_LENGTH + body_length,
         recorded: 0,
     }
 }
 
-/// The caller served and what was performed, or the first status that applies.
+/// The caller served and what was performed, or the first refusal that applies.
 fn judge<'a>(
     header: &Header,
     payload: &'a [u8],
     registry: &mut [u8],
     list: &[u8],
     body_out: &mut [u8],
-) -> Result<(Caller, Performed<'a>), Status> {
+) -> Result<(Caller, Performed<'a>), Refused> {
     let opcode = judge_header(header)?;
     let (body, auth) = payload.split_at(header.content_length as usize);
     let caller = authenticate(header.auth_type, auth, registry)?;
@@ -106,7 +116,9 @@ fn judge<'a>(
         (Opcode::Core(opcode), _) => {
             Performed::without_change(perform_core(opcode, body, body_out)?)
         }
-        (Opcode::Keystore(_), Caller::Unauthenticated) => return Err(Status::NotAuthenticated),
+        (Opcode::Keystore(_), Caller::Unauthenticated) => {
+            return Err(Status::NotAuthenticated.into())
+        }
         (Opcode::Keystore(opcode), Caller::Application(line)) => {
             perform_keystore(opcode, line, body, registry, list, body_out)?
         }

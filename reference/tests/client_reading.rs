@@ -275,7 +275,11 @@ fn every_status_number_without_a_body_is_read_as_it_stands() {
                 ..RawResponse::to(opcode, &[])
             };
             let answer = read_response(opcode, SESSION, &raw.bytes());
-            assert_eq!(answer, response(26, status, Output::Nothing));
+            let output = match status {
+                7 => Output::Offset(0),
+                _ => Output::Nothing,
+            };
+            assert_eq!(answer, response(26, status, output));
         }
     }
     for status in [5, 8, 17, 21, 1_132, 1_134, 1_149, 9_999, 0xFF00, u16::MAX] {
@@ -299,7 +303,7 @@ fn any_body_on_another_status_is_unreadable_at_its_last_byte() {
         (IMPORT, &[0x0B, 0x0C]),
         (DESTROY, &[0xFF; 998]),
     ] {
-        for status in [1, 5, 7, 17, 256, 1_135, 9_999, u16::MAX] {
+        for status in [1, 5, 6, 8, 17, 256, 1_135, 9_999, u16::MAX] {
             let raw = RawResponse {
                 status,
                 ..RawResponse::to(opcode, body)

@@ -1,6 +1,6 @@
 //! Reading a response, uncut and in chunks, and what is refused at which byte.
-//! Document 02, "The client's half", "Unlisted fields" and "Checking signatures"; document 01, "Bytes
-//! on the wire" and the paragraph on reading.
+//! Document 02, "The client's half", "Unlisted fields", "Checking signatures" and "Where the body
+//! broke"; document 01, "Bytes on the wire" and the paragraph on reading.
 
 use crate::opcode::{CoreOpcode, KeystoreOpcode, Opcode};
 use crate::protobuf::{fields, low_32_bits, packed_entries, skip_fields, Unreadable, Value};
@@ -15,14 +15,19 @@ pub const LONGEST_READABLE_RESPONSE: usize = RESPONSE_HEADER_LENGTH + LONGEST_CO
 
 const LONGEST_CONTENT: u32 = 998;
 
-/// What a response carries besides its status; any status but 0 carries nothing.
+/// What a response carries besides its status; any status but 0 and 7 carries nothing.
 #[derive(Clone, Debug, PartialEq, Eq)]
 pub enum Output {
     Nothing,
-    Version { major: u32, minor: u32 },
+    Version {
+        major: u32,
+        minor: u32,
+    },
     Providers(Vec<u32>),
     Opcodes(Vec<u32>),
     Data(Vec<u8>),
+    /// Of status 7: where in the request's body the tag of its first unreadable field starts.
+    Offset(u32),
 }
 
 /// Why a response is not read; the cases stand in the order in which they are tried.
@@ -136,12 +141,14 @@ fn is_invalid_header(header: &ResponseHeader) -> bool {
 fn read_whole(opcode: Opcode, status: u16, body: &[u8]) -> Reading {
     let output = if status == Status::Success.number() {
         read_output(opcode, body)
+    } else if status == Status::DeserializingBodyFailed.number() {
+        read_offset(body)
     } else {
         read_no_body(body)
     };
     match output {
         Ok(output) => Reading::Response { status, output },
-        Err(Unreadable) => Reading::Refused(ReadRefusal::UnreadableBody),
+        Err(_) => Reading::Refused(ReadRefusal::UnreadableBody),
     }
 }
 
@@ -157,13 +164,24 @@ fn read_output(opcode: Opcode, body: &[u8]) -> Result<Output, Unreadable> {
     }
 }
 
-/// On a status other than 0 any body is refused, one of unlisted fields too.
+/// On any other status a body is refused, one of unlisted fields too.
 fn read_no_body(body: &[u8]) -> Result<Output, Unreadable> {
     if body.is_empty() {
         Ok(Output::Nothing)
     } else {
-        Err(Unreadable)
+        Err(Unreadable { at: 0 })
     }
+}
+
+fn read_offset(body: &[u8]) -> Result<Output, Unreadable> {
+    let mut offset = 0;
+    for field in fields(body) {
+        let field = field?;
+        if let (1, Value::Varint(value)) = (field.number, field.value) {
+            offset = low_32_bits(value);
+        }
+    }
+    Ok(Output::Offset(offset))
 }
 
 fn read_version(body: &[u8]) -> Result<Output, Unreadable> {
@@ -186,7 +204,7 @@ fn read_list(body: &[u8]) -> Result<Vec<u32>, Unreadable> {
     for field in fields(body) {
         let field = field?;
         if let (1, Value::Bytes(value)) = (field.number, field.value) {
-            entries = packed_entries(value)?;
+            entries = packed_entries(value).map_err(|_| Unreadable { at: field.at })?;
         }
     }
     Ok(entries)

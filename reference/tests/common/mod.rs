@@ -271,6 +271,22 @@ pub fn long_varint(value: u64, length: usize) -> Vec<u8> {
     bytes
 }
 
+/// The body of a status 7 response: field 1, left out when 0.
+pub fn offset_body(offset: u64) -> Vec<u8> {
+    match offset {
+        0 => Vec::new(),
+        _ => Body::new().varint(1, offset).bytes(),
+    }
+}
+
+/// The offset that the body of a status 7 response has.
+pub fn offset_in(body: &[u8]) -> u64 {
+    let septets = body.iter().skip(1).rev();
+    let offset = septets.fold(0, |number, byte| number << 7 | u64::from(byte & 0x7F));
+    assert_eq!(body, offset_body(offset));
+    offset
+}
+
 pub fn roster_record(tag: u8, value: &[u8]) -> Vec<u8> {
     let length = (value.len() as u16).to_le_bytes();
     [&[tag], &length[..], value].concat()
@@ -469,8 +485,13 @@ impl Service {
         let before = self.registry.clone();
         let response = self.ask(request);
         assert_eq!(response.status, status.number());
-        if status != Status::Success {
+        if status == Status::DeserializingBodyFailed {
+            let offset = offset_in(&response.body);
+            assert!(offset < request.body.len() as u64, "{response:X?}");
+        } else if status != Status::Success {
             assert_eq!(response.body, [], "a refused request has an empty body");
+        }
+        if status != Status::Success {
             assert_eq!(self.registry, before, "a refused request changes nothing");
         }
     }
