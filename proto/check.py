@@ -29,7 +29,7 @@ from google.protobuf.descriptor import FieldDescriptor
 from google.protobuf.empty_pb2 import Empty
 from google.protobuf.internal import api_implementation
 from google.protobuf.message import DecodeError
-from proved import DATA, NOTHING, OPCODES, PROVIDERS, VERSION
+from proved import DATA, NOTHING, OFFSET, OPCODES, PROVIDERS, VERSION
 from proved import RESPONSE, RESPONSE_HEADER, UNREADABLE_BODY, Bodies, Client, Service
 
 SEED = 20
@@ -49,13 +49,14 @@ RESPONSES = [
     messages.ListProvidersResponse,
     messages.ListOpcodesResponse,
     messages.PsaExportPublicKeyResponse,
+    messages.DeserializingBodyFailedResponse,
 ]
 # `crates/probe` has no schema for its fields: it is read by the service alone.
 VERIFY_REQUEST = messages.PsaAsymmetricVerifyRequest
 
 CORE, KEYSTORE = 0, 1
 PING, DESTROY, VERIFY, IMPORT, EXPORT, LIST_PROVIDERS, LIST_OPCODES = 1, 3, 5, 6, 7, 8, 9
-SUCCESS, PROVIDER_DOES_NOT_EXIST = 0, 6
+SUCCESS, PROVIDER_DOES_NOT_EXIST, DESERIALIZING_BODY_FAILED = 0, 6, 7
 NOT_PERMITTED, NOT_SUPPORTED, INVALID_ARGUMENT, INVALID_SIGNATURE = 1133, 1134, 1135, 1149
 APPLICATION = b"recon-a"
 MAGIC = 0x5EC0A710
@@ -251,6 +252,11 @@ def read_there(kind, body):
 def exchange(service, chance, opcode, provider, message=None):
     """The status and the body of the response; its header repeats what it should."""
     body = message.SerializeToString() if message else b""
+    return exchange_body(service, chance, opcode, provider, body)
+
+
+def exchange_body(service, chance, opcode, provider, body):
+    """The same of a request with these bytes."""
     session = chance.getrandbits(64)
     lengths = (len(body), len(APPLICATION))
     header = (MAGIC, 22, 1, 0, provider, session, 1, 1, 1, *lengths, opcode)
@@ -298,16 +304,17 @@ def some_chunks(chance, stream):
     return [stream[start:end] for start, end in zip([0, *cuts], [*cuts, len(stream)])]
 
 
-def read_by_client(client, chance, operation, body):
+def read_by_client(client, chance, operation, body, status=SUCCESS):
     """The values of the output in a response with this body, or None if it is unreadable."""
     session = chance.getrandbits(64)
     repeated = (20, 1, 0, operation.provider, session, 1)
-    header = (MAGIC, *repeated, len(body), operation.opcode, SUCCESS)
+    header = (MAGIC, *repeated, len(body), operation.opcode, status)
     chunks = some_chunks(chance, struct.pack(RESPONSE_HEADER, *header) + body)
-    code, status, output, values = client.read(operation.opcode, session, chunks)
+    code, read, output, values = client.read(operation.opcode, session, chunks)
     if code == UNREADABLE_BODY:
         return None
-    expect((code, status, output), (RESPONSE, SUCCESS, operation.output))
+    expected = OFFSET if status == DESERIALIZING_BODY_FAILED else operation.output
+    expect((code, read, output), (RESPONSE, status, expected))
     return values
 
 
@@ -366,6 +373,24 @@ def core_answers_parse(service, chance):
         KEYSTORE: (SUCCESS, [DESTROY, VERIFY, IMPORT, EXPORT]),
     }
     expect((status, opcodes), listed.get(provider, (PROVIDER_DOES_NOT_EXIST, [])))
+
+
+def broken_body_has_its_offset(service, chance):
+    """Behind a message that Google's library serialised stands a field that nobody reads."""
+    kind = chance.choice([*REQUESTS, VERIFY_REQUEST])
+    readable = some_message(chance, kind).SerializeToString()[:4_000]
+    try:
+        kind.FromString(readable)
+    except DecodeError:
+        # Cut in the middle of a field.
+        return
+    unreadable = chance.choice([b"\x0e", b"\x0f\x01", b"\x00\x01", b"\x0a\x05abc", b"\x80"])
+    operation = chance.choice(OPERATIONS)
+    body = readable + unreadable
+    status, answer = exchange_body(service, chance, operation.opcode, operation.provider, body)
+    expect(status, DESERIALIZING_BODY_FAILED)
+    message = messages.DeserializingBodyFailedResponse.FromString(answer)
+    expect((message.offset, message.SerializeToString()), (len(readable), answer))
 
 
 def key_comes_back(service, chance):
@@ -441,6 +466,15 @@ def serialised_there_is_read_by_the_client(client, chance, operation):
     )
     values = values_of(operation.response.FromString(body), operation.gives)
     expect(read_by_client(client, chance, operation, body), values)
+
+
+def an_offset_is_read_by_the_client(client, chance, operation):
+    kind = messages.DeserializingBodyFailedResponse
+    body = short_enough(some_body, chance, kind)
+    message = read_there(kind, body)
+    expected = None if message is None else [message.offset]
+    found = read_by_client(client, chance, operation, body, DESERIALIZING_BODY_FAILED)
+    expect(found, expected)
 
 
 def any_form_is_read_alike_by_the_client(client, chance, operation):
@@ -546,12 +580,14 @@ def main():
     for kind in [*REQUESTS, *RESPONSES, VERIFY_REQUEST]:
         repeat(written_here_is_read_there, bodies, kind)
     repeat(core_answers_parse, service)
+    repeat(broken_body_has_its_offset, service)
     repeat(key_comes_back, service)
     repeat(signature_is_checked, service)
     expect({operation.name for operation in OPERATIONS}, set(Client.ARGUMENTS))
     for operation in OPERATIONS:
         repeat(written_by_the_client_is_read_there, client, operation)
         repeat(serialised_there_is_read_by_the_client, client, operation)
+        repeat(an_offset_is_read_by_the_client, client, operation)
         if operation.response is not None:
             repeat(any_form_is_read_alike_by_the_client, client, operation)
     check_unlisted_fields(bodies, client)

@@ -23,7 +23,7 @@ REQUEST_HEADER = "<IHBBBQBBBIHH"
 STATE_SIZE = 1_036
 # Numbers of the client's answers.
 WAITING, RESPONSE, UNREADABLE_BODY = 0, 1, 9
-NOTHING, VERSION, PROVIDERS, OPCODES, DATA = range(5)
+NOTHING, VERSION, PROVIDERS, OPCODES, DATA, OFFSET = range(6)
 
 
 class Bodies:
@@ -126,6 +126,7 @@ class OutputNumbers(ctypes.Structure):
         ("kind", ctypes.c_uint32),
         ("major", ctypes.c_uint32),
         ("minor", ctypes.c_uint32),
+        ("offset", ctypes.c_uint32),
         ("start", ctypes.c_size_t),
         ("length", ctypes.c_size_t),
     ]
@@ -208,6 +209,8 @@ class Client:
             return []
         if output.kind == VERSION:
             return [output.major, output.minor]
+        if output.kind == OFFSET:
+            return [output.offset]
         placed = memory[output.start : output.start + output.length]
         if output.kind == DATA:
             return [placed]
