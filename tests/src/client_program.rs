@@ -144,11 +144,14 @@ fn read_proved(state: &mut [u8], chunk: &[u8]) -> Said {
 fn output_in(state: &[u8], numbers: OutputNumbers) -> Output {
     let version = (numbers.major, numbers.minor);
     let place = (numbers.start, numbers.length);
-    if numbers.kind <= 1 {
+    if matches!(numbers.kind, 0 | 1 | 5) {
         assert_eq!(place, (0, 0), "no place: {numbers:?}");
     }
     if numbers.kind != 1 {
         assert_eq!(version, (0, 0), "no version: {numbers:?}");
+    }
+    if numbers.kind != 5 {
+        assert_eq!(numbers.offset, 0, "no offset: {numbers:?}");
     }
     let placed = state.get(place.0..).and_then(|rest| rest.get(..place.1));
     let placed = placed.expect("a place within the state's memory");
@@ -161,6 +164,7 @@ fn output_in(state: &[u8], numbers: OutputNumbers) -> Output {
         2 => Output::Providers(entries_of(placed)),
         3 => Output::Opcodes(entries_of(placed)),
         4 => Output::Data(placed.to_vec()),
+        5 => Output::Offset(numbers.offset),
         kind => panic!("no output of kind {kind}"),
     }
 }

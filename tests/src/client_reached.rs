@@ -60,7 +60,7 @@ impl Reached {
     fn count_response(&mut self, awaited: Awaited, bytes: &[u8], said: &Said) {
         let opcode = awaited.opcode;
         self.outcomes.count(status_reached(opcode, said.status));
-        if said.status == 0 {
+        if said.status == 0 || said.status == 7 {
             self.outcomes.count(shape_of(&said.output));
         }
         if bytes[..BODY_AT] == invalid_header(&[]) {
@@ -142,7 +142,7 @@ pub fn orders() -> Vec<(u32, u32)> {
 /// Any status that no table lists is counted under this one.
 const UNLISTED_STATUS: u32 = 5;
 
-const SHAPES: [&str; 10] = [
+const SHAPES: [&str; 12] = [
     "nothing",
     "a version",
     "version 0.0",
@@ -153,6 +153,8 @@ const SHAPES: [&str; 10] = [
     "data, none",
     "data",
     "data of 995 bytes",
+    "offset 0",
+    "an offset",
 ];
 
 fn shape_of(output: &Output) -> &'static str {
@@ -169,6 +171,8 @@ fn shape_of(output: &Output) -> &'static str {
             LONGEST_FIELD => SHAPES[9],
             _ => SHAPES[8],
         },
+        Output::Offset(0) => SHAPES[10],
+        Output::Offset(_) => SHAPES[11],
     }
 }
 
@@ -257,7 +261,9 @@ fn is_unreadable(awaited: Awaited, bytes: &[u8], content_length: u32) -> bool {
         return false;
     };
     if body.len() > LONGEST_CONTENT {
-        let has_none = status != 0 || matches!(awaited.opcode, IMPORT | DESTROY | VERIFY);
+        let is_refused = status != 0 && status != Status::DeserializingBodyFailed.number();
+        let has_none =
+            is_refused || status == 0 && matches!(awaited.opcode, IMPORT | DESTROY | VERIFY);
         return has_none || BAD_TAGS.contains(&body[0]);
     }
     awaited.uncut(&response(awaited, status, body)).code == UNREADABLE_BODY

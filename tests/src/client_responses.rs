@@ -149,9 +149,28 @@ pub fn some_status(random: &mut Random) -> u16 {
     }
 }
 
-/// One that most often can be read: the status of a refused request most often has no body.
+/// A status 7 body: an offset, several of them, among unlisted fields or with a slip.
+fn some_offset_body(random: &mut Random) -> Vec<u8> {
+    let offset = number_field(1, random.pick(&[0, 1, 127, 128, 4_095, 1 << 32 | 5]));
+    let mut body = match random.below(8) {
+        0 => Vec::new(),
+        1 => [offset, vec![0x08], varint(random.number())].concat(),
+        2 => message(random, &[0]),
+        3 => mutated(random, offset),
+        4 => [b"\x18\x01\x0A\x01\xFF".to_vec(), offset].concat(),
+        _ => offset,
+    };
+    body.truncate(LONGEST_CONTENT);
+    body
+}
+
+/// One that most often can be read: the status of a refused request most often has no body, but for
+/// status 7.
 pub fn some_response(random: &mut Random, awaited: Awaited) -> Vec<u8> {
     let status = some_status(random);
+    if status == Status::DeserializingBodyFailed.number() {
+        return response(awaited, status, &some_offset_body(random));
+    }
     if status != 0 && !random.once_in(8) {
         return match random.below(8) {
             0 => invalid_header(&[]),

@@ -246,8 +246,43 @@ fn data_of_any_length_that_content_allows_is_read() {
 }
 
 #[test]
-fn any_body_on_a_status_other_than_0_is_unreadable() {
-    for status in (1..=u16::MAX).step_by(7).chain([1, 17, 1_135, 1_149]) {
+fn a_status_7_body_has_an_offset() {
+    let long = [vec![0x08], long_varint(9, 10)].concat();
+    let rows: [(&[u8], u32); 8] = [
+        (b"", 0),
+        (b"\x08\x00", 0),
+        (b"\x08\x0C", 12),
+        (b"\x08\xFF\xFF\xFF\xFF\x1F", u32::MAX),
+        (&long, 9),
+        // The last counts.
+        (b"\x08\x05\x08\x06", 6),
+        (b"\x08\x05\x08\x00", 0),
+        // Skipped: an unlisted number, another wire type, a group.
+        (b"\x10\x07\x08\x05\x0A\x01\xFF\x0B\x08\x09\x0C", 5),
+    ];
+    let mut reached = Reached::default();
+    for opcode in OPCODES {
+        for (body, offset) in rows {
+            let said = read(opcode, 7, body);
+            assert_eq!((said.code, said.status), (RESPONSE, 7));
+            assert_eq!(said.output, Output::Offset(offset), "{body:02X?}");
+            let bytes = response(awaited(opcode), 7, body);
+            reached.compare(awaited(opcode), &bytes, &[1, 9]);
+            for length in 1..body.len() {
+                let bytes = response(awaited(opcode), 7, &body[..length]);
+                reached.compare(awaited(opcode), &bytes, &[1]);
+            }
+        }
+        for tag in BAD_TAGS {
+            let said = read(opcode, 7, &[0x08, 0x05, tag]);
+            assert_eq!((said.code, said.taken), (UNREADABLE_BODY, BODY_AT + 3));
+        }
+    }
+}
+
+#[test]
+fn any_body_on_a_status_other_than_0_and_7_is_unreadable() {
+    for status in (1..=u16::MAX).step_by(7).chain([6, 9, 17, 1_135, 1_149]) {
         for opcode in OPCODES {
             let empty = read(opcode, status, &[]);
             assert_eq!((empty.code, empty.status), (RESPONSE, status.into()));
