@@ -9,4 +9,4 @@ pub use memory::{client_begin, client_read, IllFormed, WrongSize, CLIENT_SIZE};
 pub use read::{
     read_response, Output, ReadAnswer, ReadRefusal, Reader, Reading, LONGEST_READABLE_RESPONSE,
 };
-pub use write::{write_request, Operation, WriteRefusal, MIN_REQUEST_BUFFER};
+pub use write::{write_request, Formats, Operation, WriteRefusal, MIN_REQUEST_BUFFER};

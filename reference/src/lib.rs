@@ -11,6 +11,7 @@ mod counters;
 mod crc;
 mod journal;
 mod list;
+mod message;
 mod opcode;
 mod operation;
 mod protobuf;
@@ -21,12 +22,13 @@ pub mod rsa;
 pub mod rules;
 mod service;
 mod status;
+mod tagged;
 mod wire;
 
 pub use bill::{bill, bill_from_reader, bill_text};
 pub use call::{call, Refusal, Taken, MAX_CHUNK, MIN_JOURNAL_BUFFER, MIN_RESPONSE_BUFFER};
 pub use client::{
-    client_begin, client_read, read_response, write_request, IllFormed, Operation, Output,
+    client_begin, client_read, read_response, write_request, Formats, IllFormed, Operation, Output,
     ReadAnswer, ReadRefusal, Reader, Reading, WriteRefusal, WrongSize, CLIENT_SIZE,
     LONGEST_READABLE_RESPONSE, MIN_REQUEST_BUFFER,
 };
@@ -38,6 +40,7 @@ pub use journal::{
     JournalFault, JournalRefusal, Restored, JOURNAL_STATE_SIZE, LONGEST_JOURNAL, LONGEST_RECORD,
 };
 pub use list::{list_is_well_formed, MOST_LISTED_KEYS};
+pub use message::BodyFormat;
 pub use opcode::{CoreOpcode, KeystoreOpcode, Opcode, Provider};
 pub use operation::LONGEST_RESPONSE;
 pub use registry::{registry_is_well_formed, REGISTRY_SIZE};

@@ -1,11 +1,12 @@
 //! The seven operations: what each reads from its body, does and writes.
 //! Document 01, "Operations and their fields"; document 02, "Unlisted fields" (a field that is not
 //! listed, or has another wire type, is skipped), "Checking signatures", "Keys we ship", "Use per key",
-//! "Surviving a power cut", "No more odd key lengths" and "Where the body broke".
+//! "Surviving a power cut", "No more odd key lengths", "Where the body broke" and "A second body format":
+//! no operation knows which format a body has.
 
 use crate::list::find_listed_key;
+use crate::message::{Body, Kind, Unreadable, Writer};
 use crate::opcode::{CoreOpcode, KeystoreOpcode, Provider};
-use crate::protobuf::{fields, low_32_bits, skip_fields, Unreadable, Value, Writer};
 use crate::registry::{
     self, bits_are_importable, data_is_legal, key_name_is_legal, Key, Line, Slot, LONGEST_DATA,
 };
@@ -37,26 +38,25 @@ impl From<Unreadable> for Refused {
     }
 }
 
-/// Writes the response's body to `out` and says how long it is; a refusal writes nothing.
-pub fn perform_core(opcode: CoreOpcode, body: &[u8], out: &mut [u8]) -> Result<usize, Refused> {
-    let mut writer = Writer::new(out);
+/// Writes the response's body; a refusal writes nothing.
+pub fn perform_core(opcode: CoreOpcode, body: &Body, writer: &mut Writer) -> Result<(), Refused> {
     match opcode {
         CoreOpcode::Ping => {
-            skip_fields(body)?;
+            body.read(&[])?;
             writer.write_uint32(1, 1);
             writer.write_uint32(2, 0);
         }
         CoreOpcode::ListProviders => {
-            skip_fields(body)?;
-            writer.write_packed(1, &Provider::ALL.map(Provider::number));
+            body.read(&[])?;
+            writer.write_list(1, &Provider::ALL.map(Provider::number));
         }
         CoreOpcode::ListOpcodes => {
-            let provider =
-                Provider::from_number(read_provider(body)?).ok_or(Status::ProviderDoesNotExist)?;
-            writer.write_packed(1, &opcode_numbers(provider));
+            let number = body.read(&[Kind::Uint32])?.uint32(1);
+            let provider = Provider::from_number(number).ok_or(Status::ProviderDoesNotExist)?;
+            writer.write_list(1, &opcode_numbers(provider));
         }
     }
-    Ok(writer.written())
+    Ok(())
 }
 
 fn opcode_numbers(provider: Provider) -> Vec<u32> {
@@ -74,31 +74,16 @@ pub enum Change<'a> {
     Destroy(&'a [u8]),
 }
 
-/// The length of the response's body, and what the journal is to have; uses are no change.
-#[derive(Clone, Copy, Debug, PartialEq, Eq)]
-pub struct Performed<'a> {
-    pub body_length: usize,
-    pub change: Option<Change<'a>>,
-}
-
-impl Performed<'_> {
-    pub fn without_change(body_length: usize) -> Self {
-        Performed {
-            body_length,
-            change: None,
-        }
-    }
-}
-
-/// Writes the response's body to `out`; a refusal changes nothing.
+/// Writes the response's body, and says what the journal is to have; uses are no change. A refusal
+/// changes nothing.
 pub fn perform_keystore<'a>(
     opcode: KeystoreOpcode,
     line: Line,
-    body: &'a [u8],
+    body: &Body<'a>,
     registry: &mut [u8],
     list: &[u8],
-    out: &mut [u8],
-) -> Result<Performed<'a>, Refused> {
+    writer: &mut Writer,
+) -> Result<Option<Change<'a>>, Refused> {
     let change = match opcode {
         KeystoreOpcode::Import => {
             let key = read_key_input(body)?;
@@ -108,23 +93,20 @@ pub fn perform_keystore<'a>(
         KeystoreOpcode::Destroy => Change::Destroy(read_name(body)?),
         KeystoreOpcode::Export => {
             let source = find_key(registry, list, line, read_name(body)?)?;
-            let written = export(&source, out)?;
+            export(&source, writer)?;
             count_use(source.own_slot(), line, registry);
-            return Ok(Performed::without_change(written));
+            return Ok(None);
         }
         KeystoreOpcode::Verify => {
             let input = read_verify_input(body)?;
             let source = find_key(registry, list, line, input.name)?;
-            let written = verify(&source, &input)?;
+            verify(&source, &input)?;
             count_use(source.own_slot(), line, registry);
-            return Ok(Performed::without_change(written));
+            return Ok(None);
         }
     };
     make_change(registry, list, line, &change)?;
-    Ok(Performed {
-        body_length: 0,
-        change: Some(change),
-    })
+    Ok(Some(change))
 }
 
 /// Import's bounds: name and data, then bits.
@@ -212,19 +194,18 @@ fn destroy(registry: &mut [u8], list: &[u8], line: Line, name: &[u8]) -> Result<
     Ok(())
 }
 
-fn export(source: &Source, out: &mut [u8]) -> Result<usize, Status> {
+fn export(source: &Source, writer: &mut Writer) -> Result<(), Status> {
     let data = match source {
         Source::Own(_, key) if !key.export_allowed => return Err(Status::PsaErrorNotPermitted),
         Source::Own(_, key) => key.data,
         Source::Listed(data) => data,
     };
-    let mut writer = Writer::new(out);
     writer.write_bytes(1, data);
-    Ok(writer.written())
+    Ok(())
 }
 
 /// The key's permission, then the hash's length, then key and signature by RFC 8017.
-fn verify(source: &Source, input: &VerifyInput) -> Result<usize, Status> {
+fn verify(source: &Source, input: &VerifyInput) -> Result<(), Status> {
     let (data, bits) = match source {
         Source::Own(_, key) if !key.verify_allowed => return Err(Status::PsaErrorNotPermitted),
         Source::Own(_, key) => (key.data, key.bits),
@@ -238,69 +219,45 @@ fn verify(source: &Source, input: &VerifyInput) -> Result<usize, Status> {
         return Err(Status::PsaErrorNotSupported);
     }
     match rsa::verify(data, bits, input.hash, input.signature).outcome {
-        Outcome::Valid => Ok(0),
+        Outcome::Valid => Ok(()),
         Outcome::InvalidSignature => Err(Status::PsaErrorInvalidSignature),
         Outcome::InvalidKey => Err(Status::PsaErrorNotSupported),
     }
 }
 
-fn read_provider(body: &[u8]) -> Result<u32, Unreadable> {
-    let mut provider = 0;
-    for field in fields(body) {
-        let field = field?;
-        if let (1, Value::Varint(value)) = (field.number, field.value) {
-            provider = low_32_bits(value);
-        }
-    }
-    Ok(provider)
+fn read_key_input<'a>(body: &Body<'a>) -> Result<Key<'a>, Unreadable> {
+    let message = body.read(&[
+        Kind::Bytes,
+        Kind::Bytes,
+        Kind::Uint32,
+        Kind::Bool,
+        Kind::Bool,
+    ])?;
+    Ok(Key {
+        name: message.bytes(1),
+        data: message.bytes(2),
+        bits: message.uint32(3),
+        export_allowed: message.bool(4),
+        verify_allowed: message.bool(5),
+    })
 }
 
-/// An empty value is the same as an absent one.
-fn read_name(body: &[u8]) -> Result<&[u8], Unreadable> {
-    let mut name: &[u8] = &[];
-    for field in fields(body) {
-        let field = field?;
-        if let (1, Value::Bytes(value)) = (field.number, field.value) {
-            name = value;
-        }
-    }
-    Ok(name)
-}
-
-fn read_key_input(body: &[u8]) -> Result<Key<'_>, Unreadable> {
-    let mut key = Key::default();
-    for field in fields(body) {
-        let field = field?;
-        match (field.number, field.value) {
-            (1, Value::Bytes(value)) => key.name = value,
-            (2, Value::Bytes(value)) => key.data = value,
-            (3, Value::Varint(value)) => key.bits = low_32_bits(value),
-            (4, Value::Varint(value)) => key.export_allowed = value != 0,
-            (5, Value::Varint(value)) => key.verify_allowed = value != 0,
-            _ => {}
-        }
-    }
-    Ok(key)
+fn read_name<'a>(body: &Body<'a>) -> Result<&'a [u8], Unreadable> {
+    Ok(body.read(&[Kind::Bytes])?.bytes(1))
 }
 
 /// Verify's input, as it lies in the body.
-#[derive(Default)]
 struct VerifyInput<'a> {
     name: &'a [u8],
     hash: &'a [u8],
     signature: &'a [u8],
 }
 
-fn read_verify_input(body: &[u8]) -> Result<VerifyInput<'_>, Unreadable> {
-    let mut input = VerifyInput::default();
-    for field in fields(body) {
-        let field = field?;
-        match (field.number, field.value) {
-            (1, Value::Bytes(value)) => input.name = value,
-            (2, Value::Bytes(value)) => input.hash = value,
-            (3, Value::Bytes(value)) => input.signature = value,
-            _ => {}
-        }
-    }
-    Ok(input)
+fn read_verify_input<'a>(body: &Body<'a>) -> Result<VerifyInput<'a>, Unreadable> {
+    let message = body.read(&[Kind::Bytes; 3])?;
+    Ok(VerifyInput {
+        name: message.bytes(1),
+        hash: message.bytes(2),
+        signature: message.bytes(3),
+    })
 }

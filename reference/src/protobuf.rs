@@ -1,25 +1,46 @@
-//! Message bodies: reading fields where they lie, and writing fields into lent memory.
+//! The first body format, Protocol Buffers: fields read where they lie.
 //! Document 01, "Operations and their fields", the paragraph on reading and writing; document 02,
-//! "Unlisted fields" and "Where the body broke". Which fields are listed is for the caller, who skips
-//! a field by ignoring it.
+//! "Unlisted fields" and "Where the body broke".
+
+use crate::message::{self, Kind, Unreadable};
 
 /// Groups may stand inside each other so deep; an outermost one has depth 1.
 const DEEPEST_GROUP: usize = 16;
-
-/// A body that document 01 calls not readable.
-#[derive(Clone, Copy, Debug, PartialEq, Eq)]
-pub struct Unreadable {
-    /// Where in the body the tag of the first unreadable field starts, of the body's own fields.
-    pub at: usize,
-}
 
 /// What can't be read within a field, or within a packed list.
 #[derive(Clone, Copy, Debug, PartialEq, Eq)]
 pub struct Broken;
 
+/// Reads the listed fields, of which the last counts, and skips all others: an unlisted number, or a
+/// listed one with another wire type.
+pub fn read<'a>(
+    body: &'a [u8],
+    kinds: &[Kind],
+    values: &mut [message::Value<'a>],
+) -> Result<(), Unreadable> {
+    for field in fields(body) {
+        let field = field?;
+        let place = field.number as usize - 1;
+        match (kinds.get(place), field.value) {
+            (Some(Kind::Uint32 | Kind::Bool), Value::Varint(number)) => {
+                values[place] = message::Value::Number(number);
+            }
+            (Some(Kind::Bytes), Value::Bytes(bytes)) => {
+                values[place] = message::Value::Bytes(bytes);
+            }
+            (Some(Kind::List), Value::Bytes(bytes)) => {
+                packed_entries(bytes).map_err(|Broken| Unreadable { at: field.at })?;
+                values[place] = message::Value::Bytes(bytes);
+            }
+            _ => {}
+        }
+    }
+    Ok(())
+}
+
 /// What a field holds.
 #[derive(Clone, Copy, Debug, PartialEq, Eq)]
-pub enum Value<'a> {
+enum Value<'a> {
     Varint(u64),
     Bytes(&'a [u8]),
     /// Wire types 1 and 5, and a whole group: no listed field has one.
@@ -27,20 +48,20 @@ pub enum Value<'a> {
 }
 
 #[derive(Clone, Copy, Debug, PartialEq, Eq)]
-pub struct Field<'a> {
+struct Field<'a> {
     /// Where in the body its tag starts.
-    pub at: usize,
-    pub number: u32,
-    pub value: Value<'a>,
+    at: usize,
+    number: u32,
+    value: Value<'a>,
 }
 
 /// The fields of a body in the order they come, up to the first unreadable one.
-pub struct Fields<'a> {
+struct Fields<'a> {
     body: &'a [u8],
     rest: &'a [u8],
 }
 
-pub fn fields(body: &[u8]) -> Fields<'_> {
+fn fields(body: &[u8]) -> Fields<'_> {
     Fields { body, rest: body }
 }
 
@@ -146,11 +167,6 @@ impl<'a> Fields<'a> {
     }
 }
 
-/// Where no field is listed, all are skipped, and each must be readable.
-pub fn skip_fields(body: &[u8]) -> Result<(), Unreadable> {
-    fields(body).try_for_each(|field| field.map(|_| ()))
-}
-
 /// A uint32 is the low 32 bits of its varint.
 pub fn low_32_bits(value: u64) -> u32 {
     value as u32
@@ -166,75 +182,7 @@ pub fn packed_entries(bytes: &[u8]) -> Result<Vec<u32>, Broken> {
     Ok(entries)
 }
 
-/// Writes ascending fields to the front of `out`: shortest varints, zero values left out.
-pub struct Writer<'a> {
-    out: &'a mut [u8],
-    written: usize,
-}
-
-impl<'a> Writer<'a> {
-    pub fn new(out: &'a mut [u8]) -> Self {
-        Writer { out, written: 0 }
-    }
-
-    pub fn written(&self) -> usize {
-        self.written
-    }
-
-    pub fn write_uint32(&mut self, number: u32, value: u32) {
-        if value != 0 {
-            self.write_varint(number << 3);
-            self.write_varint(value);
-        }
-    }
-
-    pub fn write_bool(&mut self, number: u32, value: bool) {
-        self.write_uint32(number, value.into());
-    }
-
-    pub fn write_bytes(&mut self, number: u32, value: &[u8]) {
-        if !value.is_empty() {
-            self.write_varint(number << 3 | 2);
-            self.write_varint(value.len() as u32);
-            self.write_slice(value);
-        }
-    }
-
-    /// A zero among the entries is written: only a list of none is left out.
-    pub fn write_packed(&mut self, number: u32, values: &[u32]) {
-        if !values.is_empty() {
-            self.write_varint(number << 3 | 2);
-            let lengths = values.iter().map(|&value| varint_length(value.into()));
-            self.write_varint(lengths.sum());
-            for &value in values {
-                self.write_varint(value);
-            }
-        }
-    }
-
-    fn write_varint(&mut self, mut value: u32) {
-        while value >= 0x80 {
-            self.write_slice(&[value as u8 | 0x80]);
-            value >>= 7;
-        }
-        self.write_slice(&[value as u8]);
-    }
-
-    fn write_slice(&mut self, bytes: &[u8]) {
-        crate::bytes::write_at(self.out, self.written, bytes);
-        self.written += bytes.len();
-    }
-}
-
-/// How many bytes `write_bytes` takes, under a field number whose tag has one byte.
-pub fn bytes_field_length(value: &[u8]) -> usize {
-    match value.len() {
-        0 => 0,
-        length => 1 + varint_length(length as u64) as usize + length,
-    }
-}
-
-fn varint_length(value: u64) -> u32 {
+pub fn varint_length(value: u64) -> u32 {
     let bits = u64::BITS - value.leading_zeros();
     bits.div_ceil(7).max(1)
 }

@@ -2,6 +2,7 @@
 //! Document 01, "Bytes on the wire".
 
 use crate::bytes::{read_u16, read_u32, read_u64, write_at};
+use crate::message::BodyFormat;
 use crate::status::Status;
 use std::ops::RangeInclusive;
 
@@ -128,6 +129,7 @@ pub struct Echo {
 pub fn write_response_header(
     response: &mut [u8],
     echo: Echo,
+    format: BodyFormat,
     status: Status,
     content_length: usize,
 ) {
@@ -135,7 +137,7 @@ pub fn write_response_header(
     write_at(response, 4, &RESPONSE_HEADER_SIZE.to_le_bytes());
     write_at(response, 6, &[1, 0, echo.provider]);
     write_at(response, 9, &echo.session.to_le_bytes());
-    write_at(response, 17, &[1]);
+    write_at(response, 17, &[format.number()]);
     write_at(response, 18, &(content_length as u32).to_le_bytes());
     write_at(response, 22, &echo.opcode.to_le_bytes());
     write_at(response, 24, &status.number().to_le_bytes());

@@ -4,10 +4,10 @@
 
 mod common;
 
-use common::client::{expect_read, expect_refused, RawResponse, OPCODES};
+use common::client::{expect_read, expect_refused, read_protobuf, RawResponse, OPCODES};
 use common::generate::Random;
 use common::*;
-use reference::{read_response, KeystoreOpcode, Opcode, Output, ReadRefusal, Reading, Status};
+use reference::{KeystoreOpcode, Opcode, Output, ReadRefusal, Reading, Status};
 
 const DEEPEST: usize = 16;
 const EXPORT_OPCODE: Opcode = Opcode::Keystore(KeystoreOpcode::Export);
@@ -99,7 +99,7 @@ fn expect_offset(body: &[u8], offset: usize) {
         assert_eq!(service.registry, before);
         assert_eq!(service.refused_with(Status::DeserializingBodyFailed), 1);
         let opcode = Opcode::from_number(request.opcode).expect("a listed one");
-        let answer = read_response(opcode, request.session, &bytes);
+        let answer = read_protobuf(opcode, request.session, &bytes);
         let output = Output::Offset(offset as u32);
         assert_eq!(answer.reading, Reading::Response { status: 7, output });
     }

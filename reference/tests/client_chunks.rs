@@ -6,7 +6,7 @@ mod common;
 use common::client::*;
 use common::generate::Random;
 use reference::{
-    client_begin, client_read, read_response, IllFormed, Opcode, Output, ReadRefusal, Reading,
+    client_begin, client_read, BodyFormat, IllFormed, Opcode, Output, ReadRefusal, Reading,
     WrongSize, CLIENT_SIZE, LONGEST_READABLE_RESPONSE,
 };
 
@@ -36,11 +36,12 @@ fn refused_responses() -> Vec<(Opcode, RawResponse)> {
 fn every_cut_into_two_reads_the_same_as_uncut() {
     for (opcode, raw) in [good_responses(), refused_responses()].concat() {
         let bytes = [raw.bytes(), vec![0x10, 0xA7, 0xC0]].concat();
-        let uncut = read_response(opcode, SESSION, &bytes);
+        let uncut = read_protobuf(opcode, SESSION, &bytes);
         assert_ne!(uncut.reading, Reading::Waiting);
         for cut in 0..=bytes.len() {
             let chunks = [&bytes[..cut], &bytes[cut..]];
-            let answer = Client::begin(opcode, SESSION).read_all(chunks.into_iter());
+            let answer =
+                Client::begin(opcode, SESSION, BodyFormat::Protobuf).read_all(chunks.into_iter());
             assert_eq!(answer, uncut, "cut at {cut}: {raw:X?}");
         }
     }
@@ -50,8 +51,8 @@ fn every_cut_into_two_reads_the_same_as_uncut() {
 fn single_bytes_read_the_same_as_uncut() {
     for (opcode, raw) in [good_responses(), refused_responses()].concat() {
         let bytes = [raw.bytes(), vec![0x10, 0xA7, 0xC0]].concat();
-        let uncut = read_response(opcode, SESSION, &bytes);
-        let answer = Client::begin(opcode, SESSION).read_all(bytes.chunks(1));
+        let uncut = read_protobuf(opcode, SESSION, &bytes);
+        let answer = Client::begin(opcode, SESSION, BodyFormat::Protobuf).read_all(bytes.chunks(1));
         assert_eq!(answer, uncut);
     }
 }
@@ -64,7 +65,7 @@ fn every_cut_of_a_short_response_into_three_reads_the_same_as_uncut() {
     for first in 0..=bytes.len() {
         for second in first..=bytes.len() {
             let chunks = [&bytes[..first], &bytes[first..second], &bytes[second..]];
-            let client = Client::begin(LIST_PROVIDERS, SESSION);
+            let client = Client::begin(LIST_PROVIDERS, SESSION, BodyFormat::Protobuf);
             assert_eq!(client.read_all(chunks.into_iter()), expected);
         }
     }
@@ -75,7 +76,7 @@ fn the_byte_that_brings_a_refusal_is_taken_and_no_byte_behind_it() {
     let taken = [6, 6, 26, 26, 26, 26, 66, 31];
     for ((opcode, raw), taken) in refused_responses().into_iter().zip(taken) {
         let bytes = [raw.bytes(), vec![0; 100]].concat();
-        let mut client = Client::begin(opcode, SESSION);
+        let mut client = Client::begin(opcode, SESSION, BodyFormat::Protobuf);
         assert_eq!(client.read(&bytes).taken, taken);
     }
 }
@@ -83,7 +84,7 @@ fn the_byte_that_brings_a_refusal_is_taken_and_no_byte_behind_it() {
 #[test]
 fn past_a_response_or_a_refusal_nothing_is_taken_and_the_same_is_said() {
     for (opcode, raw) in [good_responses(), refused_responses()].concat() {
-        let mut client = Client::begin(opcode, SESSION);
+        let mut client = Client::begin(opcode, SESSION, BodyFormat::Protobuf);
         let said = client.read(&raw.bytes()).reading;
         for chunk in [&[][..], &[0x10], &raw.bytes(), &[0xFF; 2_000]] {
             let answer = client.read(chunk);
@@ -98,7 +99,7 @@ fn an_empty_chunk_is_taken_and_alters_nothing() {
     for (opcode, raw) in good_responses() {
         let bytes = raw.bytes();
         for length in 0..bytes.len() {
-            let mut client = Client::begin(opcode, SESSION);
+            let mut client = Client::begin(opcode, SESSION, BodyFormat::Protobuf);
             assert_eq!(client.read(&bytes[..length]), waiting(length));
             assert_eq!(client.read(&[]), waiting(0));
         }
@@ -110,9 +111,9 @@ fn a_chunk_of_any_length_is_read() {
     for (opcode, raw) in good_responses() {
         let bytes = raw.bytes();
         let chunk = [bytes.clone(), vec![0x10; 100_000]].concat();
-        let answer = Client::begin(opcode, SESSION).read(&chunk);
+        let answer = Client::begin(opcode, SESSION, BodyFormat::Protobuf).read(&chunk);
         assert_eq!(answer.taken, bytes.len());
-        assert_eq!(answer, read_response(opcode, SESSION, &bytes));
+        assert_eq!(answer, read_protobuf(opcode, SESSION, &bytes));
     }
 }
 
@@ -121,9 +122,9 @@ fn of_two_responses_in_one_chunk_the_first_is_read() {
     let bytes = RawResponse::to(EXPORT, &[0x0A, 1, 1]).bytes();
     let next = RawResponse::to(EXPORT, &[0x0A, 1, 2]).bytes();
     let both = [&bytes[..], &next].concat();
-    let first = Client::begin(EXPORT, SESSION).read(&both);
+    let first = Client::begin(EXPORT, SESSION, BodyFormat::Protobuf).read(&both);
     assert_eq!(first, response(29, 0, Output::Data(vec![1])));
-    let second = Client::begin(EXPORT, SESSION).read(&both[first.taken..]);
+    let second = Client::begin(EXPORT, SESSION, BodyFormat::Protobuf).read(&both[first.taken..]);
     assert_eq!(second, response(29, 0, Output::Data(vec![2])));
 }
 
@@ -157,8 +158,9 @@ fn generated_cuts_of_generated_responses_read_the_same_as_uncut() {
             chunks.push(chunk);
             rest = behind;
         }
-        let answer = Client::begin(opcode, SESSION).read_all(chunks.into_iter());
-        let uncut = read_response(opcode, SESSION, &bytes);
+        let answer =
+            Client::begin(opcode, SESSION, BodyFormat::Protobuf).read_all(chunks.into_iter());
+        let uncut = read_protobuf(opcode, SESSION, &bytes);
         assert_eq!(answer, uncut, "seed {seed}, {opcode:?}, {bytes:X?}");
     }
 }
@@ -166,30 +168,36 @@ fn generated_cuts_of_generated_responses_read_the_same_as_uncut() {
 // The state in lent memory.
 
 #[test]
-fn the_memory_has_1036_bytes_1024_of_them_for_the_response() {
-    assert_eq!(CLIENT_SIZE, 1_036);
+fn the_memory_has_1037_bytes_1024_of_them_for_the_response() {
+    assert_eq!(CLIENT_SIZE, 1_037);
     assert_eq!(LONGEST_READABLE_RESPONSE, 1_024);
 }
 
 #[test]
-fn a_fresh_state_is_opcode_session_and_zeros_whatever_lay_there() {
+fn a_fresh_state_is_opcode_session_accept_type_and_zeros_whatever_lay_there() {
     for (opcode, (number, _)) in OPCODES.into_iter().zip(NUMBERS) {
         for filler in [0x00, 0x55, 0xFF] {
             let mut memory = vec![filler; CLIENT_SIZE];
             let session = 0x0102_0304_0506_0708;
-            assert_eq!(client_begin(&mut memory, opcode, session), Ok(()));
-            let first = [number as u8, 0, 8, 7, 6, 5, 4, 3, 2, 1, 0, 0];
-            assert_eq!(memory[..12], first);
-            assert_eq!(memory[12..], [0; 1_024]);
+            assert_eq!(
+                client_begin(&mut memory, opcode, session, BodyFormat::Protobuf),
+                Ok(())
+            );
+            let first = [number as u8, 0, 8, 7, 6, 5, 4, 3, 2, 1, 1, 0, 0];
+            assert_eq!(memory[..13], first);
+            assert_eq!(memory[13..], [0; 1_024]);
         }
     }
 }
 
 #[test]
 fn memory_of_another_size_is_not_begun_and_stays() {
-    for size in [0, 1, 12, CLIENT_SIZE - 1, CLIENT_SIZE + 1, 2 * CLIENT_SIZE] {
+    for size in [0, 1, 13, CLIENT_SIZE - 1, CLIENT_SIZE + 1, 2 * CLIENT_SIZE] {
         let mut memory = vec![0x55; size];
-        assert_eq!(client_begin(&mut memory, PING, 1), Err(WrongSize));
+        assert_eq!(
+            client_begin(&mut memory, PING, 1, BodyFormat::Protobuf),
+            Err(WrongSize)
+        );
         assert_eq!(memory, vec![0x55; size]);
     }
 }
@@ -201,9 +209,9 @@ fn the_bytes_taken_stand_behind_their_count() {
     assert_eq!(client_read(&mut memory, &bytes[..27]), Ok(waiting(27)));
     assert_eq!(memory[..2], [1, 0]);
     assert_eq!(memory[2..10], SESSION.to_le_bytes());
-    assert_eq!(memory[10..12], [27, 0]);
-    assert_eq!(memory[12..39], bytes[..27]);
-    assert_eq!(memory[39..], [0; 1_036 - 39]);
+    assert_eq!(memory[10..13], [1, 27, 0]);
+    assert_eq!(memory[13..40], bytes[..27]);
+    assert_eq!(memory[40..], [0; 1_037 - 40]);
 }
 
 /// Hands chunks to an ill-formed state, each refused with nothing changed.
@@ -218,7 +226,7 @@ fn expect_ill_formed(mut memory: Vec<u8>) {
 
 #[test]
 fn a_state_of_another_size_is_ill_formed() {
-    for size in [0, 1, 12, CLIENT_SIZE - 1, CLIENT_SIZE + 1, 2 * CLIENT_SIZE] {
+    for size in [0, 1, 13, CLIENT_SIZE - 1, CLIENT_SIZE + 1, 2 * CLIENT_SIZE] {
         let mut memory = vec![0; size];
         if size > 1 {
             memory[0] = 1;
@@ -258,7 +266,7 @@ fn a_byte_behind_the_held_ones_that_is_not_zero_is_ill_formed() {
         for place in held..1_024 {
             let mut memory = client_memory(1, SESSION, held as u16, &bytes[..held]);
             for bit in [0, 7] {
-                memory[12 + place] = 1 << bit;
+                memory[13 + place] = 1 << bit;
                 expect_ill_formed(memory.clone());
             }
         }
@@ -286,7 +294,7 @@ fn expect_said(opcode: u16, held: &[u8], said: Reading) {
 fn held_bytes_behind_a_response_are_ignored() {
     for (opcode, raw) in good_responses() {
         let bytes = raw.bytes();
-        let said = read_response(opcode, SESSION, &bytes).reading;
+        let said = read_protobuf(opcode, SESSION, &bytes).reading;
         for length in [bytes.len(), bytes.len() + 1, 1_024] {
             let mut held = bytes.clone();
             held.resize(length.min(1_024), 0xEE);
@@ -299,7 +307,7 @@ fn held_bytes_behind_a_response_are_ignored() {
 fn held_bytes_behind_a_refusal_are_ignored() {
     for (opcode, raw) in refused_responses() {
         let bytes = raw.bytes();
-        let answer = read_response(opcode, SESSION, &bytes);
+        let answer = read_protobuf(opcode, SESSION, &bytes);
         for length in [answer.taken, answer.taken + 1, 1_023, 1_024] {
             let mut held = bytes.clone();
             held.resize(length, 0xEE);
@@ -325,7 +333,10 @@ fn a_state_that_reading_did_not_leave_is_read_on_from_its_held_bytes() {
 fn every_state_that_reading_leaves_is_well_formed() {
     for (opcode, raw) in [good_responses(), refused_responses()].concat() {
         let mut memory = vec![0x55; CLIENT_SIZE];
-        assert_eq!(client_begin(&mut memory, opcode, SESSION), Ok(()));
+        assert_eq!(
+            client_begin(&mut memory, opcode, SESSION, BodyFormat::Protobuf),
+            Ok(())
+        );
         for chunk in raw.bytes().chunks(3) {
             assert!(client_read(&mut memory, chunk).is_ok());
         }

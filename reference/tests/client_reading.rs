@@ -5,7 +5,7 @@ mod common;
 
 use common::client::*;
 use common::{Body, PING_RESPONSE};
-use reference::{read_response, Output, ReadRefusal, Reading};
+use reference::{Output, ReadRefusal, Reading};
 
 /// A good response with one change, refused at this byte.
 fn expect_refused_with(change: impl Fn(&mut RawResponse), at: usize, refusal: ReadRefusal) {
@@ -75,7 +75,7 @@ fn any_h_but_20_is_wrong_at_the_sixth_byte() {
             header_size,
             ..RawResponse::to(PING, &[])
         };
-        let answer = read_response(PING, SESSION, &raw.bytes());
+        let answer = read_protobuf(PING, SESSION, &raw.bytes());
         assert_eq!(answer, refused(6, ReadRefusal::WrongHeaderSize));
     }
     for header_size in [0, 19, 21, 22, 20 + 256, u16::MAX] {
@@ -132,7 +132,7 @@ fn another_opcode_is_not_its_requests() {
                 opcode: other,
                 ..good.clone()
             };
-            let answer = read_response(opcode, SESSION, &raw.bytes());
+            let answer = read_protobuf(opcode, SESSION, &raw.bytes());
             assert_eq!(answer, refused(26, ReadRefusal::NotItsRequests));
         }
     }
@@ -241,7 +241,7 @@ fn of_several_faults_the_first_of_the_order_is_said() {
             for place in (0..7).filter(present) {
                 faults[place].0(&mut raw);
             }
-            let answer = read_response(opcode, SESSION, &raw.bytes());
+            let answer = read_protobuf(opcode, SESSION, &raw.bytes());
             match (0..7).find(present) {
                 Some(place) => assert_eq!(answer, refused(faults[place].1, faults[place].2)),
                 None => assert!(matches!(
@@ -274,7 +274,7 @@ fn every_status_number_without_a_body_is_read_as_it_stands() {
                 status,
                 ..RawResponse::to(opcode, &[])
             };
-            let answer = read_response(opcode, SESSION, &raw.bytes());
+            let answer = read_protobuf(opcode, SESSION, &raw.bytes());
             let output = match status {
                 7 => Output::Offset(0),
                 _ => Output::Nothing,
@@ -362,7 +362,7 @@ fn three_zeros_with_another_status_are_not_its_requests() {
             status,
             ..RawResponse::invalid_header()
         };
-        let answer = read_response(PING, 0, &raw.bytes());
+        let answer = read_protobuf(PING, 0, &raw.bytes());
         assert_eq!(answer, refused(26, ReadRefusal::NotItsRequests));
     }
 }

@@ -7,7 +7,10 @@ use common::client::{read_every_way, Client, OPCODES};
 use common::generate::Random;
 use common::vectors::{blocks, Block};
 use common::*;
-use reference::{rules, write_request, Operation, Output, Reading, Status, MIN_REQUEST_BUFFER};
+use reference::{
+    rules, write_request, BodyFormat, Formats, Operation, Output, Reading, Status,
+    MIN_REQUEST_BUFFER,
+};
 
 const SESSION: u64 = 0xFEDC_BA98_7654_3210;
 
@@ -16,7 +19,13 @@ type Answered = (u16, Output);
 
 fn write(application: Option<&[u8]>, operation: &Operation) -> Vec<u8> {
     let mut buffer = vec![0x55; MIN_REQUEST_BUFFER];
-    let written = write_request(&mut buffer, SESSION, application, operation);
+    let written = write_request(
+        &mut buffer,
+        SESSION,
+        Formats::PROTOBUF,
+        application,
+        operation,
+    );
     buffer.truncate(written.expect("a request within the bounds"));
     buffer
 }
@@ -271,7 +280,7 @@ fn responses_on_a_stream_are_read_one_after_the_other() {
         Output::Providers(vec![0, 1]),
     ];
     for (operation, output) in operations.iter().zip(expected) {
-        let answer = Client::begin(operation.opcode(), SESSION).read(rest);
+        let answer = Client::begin(operation.opcode(), SESSION, BodyFormat::Protobuf).read(rest);
         assert_eq!(answer.reading, Reading::Response { status: 0, output });
         rest = &rest[answer.taken..];
     }

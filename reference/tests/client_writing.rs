@@ -6,7 +6,7 @@ mod common;
 
 use common::generate::Random;
 use common::*;
-use reference::{write_request, Operation, WriteRefusal, MIN_REQUEST_BUFFER};
+use reference::{write_request, Formats, Operation, WriteRefusal, MIN_REQUEST_BUFFER};
 
 const IMPORT_KEY: Operation = Operation::ImportKey {
     name: b"a",
@@ -36,8 +36,14 @@ const OPERATIONS: [Operation; 7] = [
 fn written(operation: &Operation, session: u64, application: Option<&[u8]>) -> Vec<u8> {
     let over = |filler: u8| {
         let mut buffer = vec![filler; MIN_REQUEST_BUFFER];
-        let length =
-            write_request(&mut buffer, session, application, operation).expect("a good request");
+        let length = write_request(
+            &mut buffer,
+            session,
+            Formats::PROTOBUF,
+            application,
+            operation,
+        )
+        .expect("a good request");
         assert_eq!(
             buffer[length..],
             vec![filler; MIN_REQUEST_BUFFER - length],
@@ -63,7 +69,7 @@ fn refusal_of(
     operation: &Operation,
 ) -> Option<WriteRefusal> {
     let mut buffer = vec![0x55; length];
-    let answer = write_request(&mut buffer, 7, application, operation);
+    let answer = write_request(&mut buffer, 7, Formats::PROTOBUF, application, operation);
     if answer.is_err() {
         assert_eq!(buffer, vec![0x55; length], "a refusal writes nothing");
     }

@@ -119,8 +119,8 @@ fn a_version_other_than_1_0_is_not_supported() {
 }
 
 #[test]
-fn a_content_type_other_than_1_is_not_supported() {
-    for content_type in [0, 2, 255] {
+fn a_content_type_other_than_1_and_2_is_not_supported() {
+    for content_type in [0, 3, 255] {
         let request = Request {
             content_type,
             ..ping()
@@ -130,8 +130,8 @@ fn a_content_type_other_than_1_is_not_supported() {
 }
 
 #[test]
-fn an_accept_type_other_than_1_is_not_supported() {
-    for accept_type in [0, 2, 255] {
+fn an_accept_type_other_than_1_and_2_is_not_supported() {
+    for accept_type in [0, 3, 255] {
         let request = Request {
             accept_type,
             ..ping()
@@ -308,7 +308,7 @@ fn auth_size_comes_before_version() {
 fn version_comes_before_content_type() {
     let request = Request {
         minor: 1,
-        content_type: 2,
+        content_type: 3,
         ..ping()
     };
     expect(&request, Status::WireProtocolVersionNotSupported);
@@ -317,8 +317,8 @@ fn version_comes_before_content_type() {
 #[test]
 fn content_type_comes_before_accept_type() {
     let request = Request {
-        content_type: 2,
-        accept_type: 2,
+        content_type: 3,
+        accept_type: 3,
         ..ping()
     };
     expect(&request, Status::ContentTypeNotSupported);
@@ -327,7 +327,7 @@ fn content_type_comes_before_accept_type() {
 #[test]
 fn accept_type_comes_before_opcode() {
     let request = Request {
-        accept_type: 2,
+        accept_type: 3,
         opcode: 0,
         ..ping()
     };

@@ -1,9 +1,9 @@
 //! Reading a response, uncut and in chunks, and what is refused at which byte.
-//! Document 02, "The client's half", "Unlisted fields", "Checking signatures" and "Where the body
-//! broke"; document 01, "Bytes on the wire" and the paragraph on reading.
+//! Document 02, "The client's half", "Unlisted fields", "Checking signatures", "Where the body broke"
+//! and "A second body format"; document 01, "Bytes on the wire" and the paragraph on reading.
 
+use crate::message::{Body, BodyFormat, Kind, Unreadable};
 use crate::opcode::{CoreOpcode, KeystoreOpcode, Opcode};
-use crate::protobuf::{fields, low_32_bits, packed_entries, skip_fields, Unreadable, Value};
 use crate::status::Status;
 use crate::wire::{
     magic_is_good, response_header_size_is_good, Echo, ResponseHeader, RESPONSE_HEADER_LENGTH,
@@ -67,8 +67,9 @@ impl ReadAnswer {
     }
 }
 
-/// The rule on uncut bytes: takes them up to the response's last or the refusal's, or all.
-pub fn read_response(opcode: Opcode, session: u64, bytes: &[u8]) -> ReadAnswer {
+/// The rule on uncut bytes: takes them up to the response's last or the refusal's, or all. `accept` is
+/// the format that the request asked for.
+pub fn read_response(opcode: Opcode, session: u64, accept: BodyFormat, bytes: &[u8]) -> ReadAnswer {
     let waiting = ReadAnswer {
         taken: bytes.len(),
         reading: Reading::Waiting,
@@ -83,16 +84,26 @@ pub fn read_response(opcode: Opcode, session: u64, bytes: &[u8]) -> ReadAnswer {
         return waiting;
     };
     let header = ResponseHeader::read(header);
-    if let Err(refusal) = judge_header(&header, &request_echo(opcode, session)) {
+    let format = expected_format(accept, header.status);
+    if let Err(refusal) = judge_header(&header, format, &request_echo(opcode, session)) {
         return ReadAnswer::refused(RESPONSE_HEADER_LENGTH, refusal);
     }
     let length = RESPONSE_HEADER_LENGTH + header.content_length as usize;
     match bytes.get(RESPONSE_HEADER_LENGTH..length) {
-        Some(body) => ReadAnswer {
+        Some(bytes) => ReadAnswer {
             taken: length,
-            reading: read_whole(opcode, header.status, body),
+            reading: read_whole(opcode, header.status, &Body { format, bytes }),
         },
         None => waiting,
+    }
+}
+
+/// The one that was asked for, but on status 17 only the first.
+fn expected_format(accept: BodyFormat, status: u16) -> BodyFormat {
+    if status == Status::InvalidHeader.number() {
+        BodyFormat::Protobuf
+    } else {
+        accept
     }
 }
 
@@ -115,11 +126,15 @@ fn judge_start(start: &[u8]) -> Result<(), ReadRefusal> {
     Ok(())
 }
 
-fn judge_header(header: &ResponseHeader, request: &Echo) -> Result<(), ReadRefusal> {
+fn judge_header(
+    header: &ResponseHeader,
+    format: BodyFormat,
+    request: &Echo,
+) -> Result<(), ReadRefusal> {
     if (header.major, header.minor) != (1, 0) {
         return Err(ReadRefusal::WrongVersion);
     }
-    if header.content_type != 1 {
+    if header.content_type != format.number() {
         return Err(ReadRefusal::WrongContentType);
     }
     if header.echo != *request && !is_invalid_header(header) {
@@ -138,7 +153,7 @@ fn is_invalid_header(header: &ResponseHeader) -> bool {
         && header.content_length == 0
 }
 
-fn read_whole(opcode: Opcode, status: u16, body: &[u8]) -> Reading {
+fn read_whole(opcode: Opcode, status: u16, body: &Body) -> Reading {
     let output = if status == Status::Success.number() {
         read_output(opcode, body)
     } else if status == Status::DeserializingBodyFailed.number() {
@@ -152,74 +167,50 @@ fn read_whole(opcode: Opcode, status: u16, body: &[u8]) -> Reading {
     }
 }
 
-fn read_output(opcode: Opcode, body: &[u8]) -> Result<Output, Unreadable> {
+fn read_output(opcode: Opcode, body: &Body) -> Result<Output, Unreadable> {
     match opcode {
         Opcode::Core(CoreOpcode::Ping) => read_version(body),
         Opcode::Core(CoreOpcode::ListProviders) => read_list(body).map(Output::Providers),
         Opcode::Core(CoreOpcode::ListOpcodes) => read_list(body).map(Output::Opcodes),
         Opcode::Keystore(
             KeystoreOpcode::Import | KeystoreOpcode::Destroy | KeystoreOpcode::Verify,
-        ) => skip_fields(body).map(|()| Output::Nothing),
+        ) => body.read(&[]).map(|_| Output::Nothing),
         Opcode::Keystore(KeystoreOpcode::Export) => read_data(body),
     }
 }
 
 /// On any other status a body is refused, one of unlisted fields too.
-fn read_no_body(body: &[u8]) -> Result<Output, Unreadable> {
-    if body.is_empty() {
+fn read_no_body(body: &Body) -> Result<Output, Unreadable> {
+    if body.bytes.is_empty() {
         Ok(Output::Nothing)
     } else {
         Err(Unreadable { at: 0 })
     }
 }
 
-fn read_offset(body: &[u8]) -> Result<Output, Unreadable> {
-    let mut offset = 0;
-    for field in fields(body) {
-        let field = field?;
-        if let (1, Value::Varint(value)) = (field.number, field.value) {
-            offset = low_32_bits(value);
-        }
-    }
-    Ok(Output::Offset(offset))
+fn read_offset(body: &Body) -> Result<Output, Unreadable> {
+    let message = body.read(&[Kind::Uint32])?;
+    Ok(Output::Offset(message.uint32(1)))
 }
 
-fn read_version(body: &[u8]) -> Result<Output, Unreadable> {
-    let (mut major, mut minor) = (0, 0);
-    for field in fields(body) {
-        let field = field?;
-        match (field.number, field.value) {
-            (1, Value::Varint(value)) => major = low_32_bits(value),
-            (2, Value::Varint(value)) => minor = low_32_bits(value),
-            _ => {}
-        }
-    }
-    Ok(Output::Version { major, minor })
+fn read_version(body: &Body) -> Result<Output, Unreadable> {
+    let message = body.read(&[Kind::Uint32; 2])?;
+    Ok(Output::Version {
+        major: message.uint32(1),
+        minor: message.uint32(2),
+    })
 }
 
-/// Each packed list is read where it stands, and the last one counts: they are not joined. An entry
-/// that is not packed has another wire type, and is skipped.
-fn read_list(body: &[u8]) -> Result<Vec<u32>, Unreadable> {
-    let mut entries = Vec::new();
-    for field in fields(body) {
-        let field = field?;
-        if let (1, Value::Bytes(value)) = (field.number, field.value) {
-            entries = packed_entries(value).map_err(|_| Unreadable { at: field.at })?;
-        }
-    }
-    Ok(entries)
+/// Packed lists are read where they stand, and the last one counts: they are not joined. An entry that
+/// is not packed has another wire type, and is skipped.
+fn read_list(body: &Body) -> Result<Vec<u32>, Unreadable> {
+    Ok(body.read(&[Kind::List])?.list(1))
 }
 
 /// Data of any length that the content allows: its bounds are Import's.
-fn read_data(body: &[u8]) -> Result<Output, Unreadable> {
-    let mut data: &[u8] = &[];
-    for field in fields(body) {
-        let field = field?;
-        if let (1, Value::Bytes(value)) = (field.number, field.value) {
-            data = value;
-        }
-    }
-    Ok(Output::Data(data.to_vec()))
+fn read_data(body: &Body) -> Result<Output, Unreadable> {
+    let message = body.read(&[Kind::Bytes])?;
+    Ok(Output::Data(message.bytes(1).to_vec()))
 }
 
 /// Reads the response to one request from chunks of any length.
@@ -227,15 +218,17 @@ fn read_data(body: &[u8]) -> Result<Output, Unreadable> {
 pub struct Reader {
     pub(super) opcode: Opcode,
     pub(super) session: u64,
+    pub(super) accept: BodyFormat,
     /// The bytes taken so far, at most those of the longest readable response.
     pub(super) held: Vec<u8>,
 }
 
 impl Reader {
-    pub fn begin(opcode: Opcode, session: u64) -> Reader {
+    pub fn begin(opcode: Opcode, session: u64, accept: BodyFormat) -> Reader {
         Reader {
             opcode,
             session,
+            accept,
             held: Vec::new(),
         }
     }
@@ -250,7 +243,7 @@ impl Reader {
         // Nothing is taken past the longest response, so the rest of the chunk says nothing.
         let most = chunk.len().min(LONGEST_READABLE_RESPONSE - held);
         self.held.extend_from_slice(&chunk[..most]);
-        let answer = read_response(self.opcode, self.session, &self.held);
+        let answer = self.answer();
         self.held.truncate(answer.taken);
         ReadAnswer {
             taken: answer.taken - held,
@@ -260,6 +253,10 @@ impl Reader {
 
     /// What the bytes held say; those behind a response or a refusal are ignored.
     fn reading(&self) -> Reading {
-        read_response(self.opcode, self.session, &self.held).reading
+        self.answer().reading
+    }
+
+    fn answer(&self) -> ReadAnswer {
+        read_response(self.opcode, self.session, self.accept, &self.held)
     }
 }

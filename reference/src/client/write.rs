@@ -1,10 +1,11 @@
 //! Writing a request into a lent buffer, and what is refused before a byte is written.
-//! Document 02, "The client's half", its last sentence, "Checking signatures" and "No more odd key
-//! lengths"; document 01, "Bytes on the wire" and "Operations and their fields".
+//! Document 02, "The client's half", its last sentence, "Checking signatures", "No more odd key
+//! lengths" and "A second body format"; document 01, "Bytes on the wire" and "Operations and their
+//! fields".
 
 use crate::bytes::write_at;
+use crate::message::{bytes_field_length, BodyFormat, Writer};
 use crate::opcode::{CoreOpcode, KeystoreOpcode, Opcode};
-use crate::protobuf::{bytes_field_length, Writer};
 use crate::registry::{
     application_name_is_legal, bits_are_importable, data_is_legal, key_name_is_legal,
 };
@@ -41,6 +42,21 @@ pub enum Operation<'a> {
     },
 }
 
+/// How the request's body is written, and how the response's is asked for.
+#[derive(Clone, Copy, Debug, PartialEq, Eq)]
+pub struct Formats {
+    pub content: BodyFormat,
+    pub accept: BodyFormat,
+}
+
+impl Formats {
+    /// Protocol Buffers both ways.
+    pub const PROTOBUF: Formats = Formats {
+        content: BodyFormat::Protobuf,
+        accept: BodyFormat::Protobuf,
+    };
+}
+
 /// Why a request is not written; the cases stand in the order in which they are tried.
 #[derive(Clone, Copy, Debug, PartialEq, Eq)]
 pub enum WriteRefusal {
@@ -58,12 +74,15 @@ pub enum WriteRefusal {
 pub fn write_request(
     buffer: &mut [u8],
     session: u64,
+    formats: Formats,
     application: Option<&[u8]>,
     operation: &Operation,
 ) -> Result<usize, WriteRefusal> {
-    judge(buffer, application, operation)?;
+    judge(buffer, formats.content, application, operation)?;
     let opcode = operation.opcode();
-    let body_length = operation.write_body(&mut buffer[SHORTEST_HEADER_LENGTH..]);
+    let mut writer = Writer::new(formats.content, &mut buffer[SHORTEST_HEADER_LENGTH..]);
+    operation.write_body(&mut writer);
+    let body_length = writer.written();
     let auth = application.unwrap_or_default();
     let header = Header {
         length: SHORTEST_HEADER_LENGTH,
@@ -71,8 +90,8 @@ pub fn write_request(
         minor: 0,
         provider: opcode.provider() as u8,
         session,
-        content_type: 1,
-        accept_type: 1,
+        content_type: formats.content.number(),
+        accept_type: formats.accept.number(),
         auth_type: u8::from(application.is_some()),
         content_length: body_length as u32,
         auth_length: auth.len() as u16,
@@ -85,6 +104,7 @@ pub fn write_request(
 
 fn judge(
     buffer: &[u8],
+    format: BodyFormat,
     application: Option<&[u8]>,
     operation: &Operation,
 ) -> Result<(), WriteRefusal> {
@@ -95,7 +115,7 @@ fn judge(
     if application.is_some_and(|name| !application_name_is_legal(name)) {
         return Err(WriteRefusal::BadApplicationName);
     }
-    operation.judge()
+    operation.judge(format)
 }
 
 impl Operation<'_> {
@@ -112,7 +132,7 @@ impl Operation<'_> {
     }
 
     /// The key's name, data and bits, the hash and the body; ListOpcodes may ask for any provider.
-    fn judge(&self) -> Result<(), WriteRefusal> {
+    fn judge(&self, format: BodyFormat) -> Result<(), WriteRefusal> {
         match *self {
             Operation::Ping | Operation::ListProviders | Operation::ListOpcodes { .. } => Ok(()),
             Operation::ImportKey {
@@ -125,13 +145,11 @@ impl Operation<'_> {
                 name,
                 hash,
                 signature,
-            } => judge_signature(name, hash, signature),
+            } => judge_signature(format, name, hash, signature),
         }
     }
 
-    /// Writes the body to the front of `out` and says how many bytes it has.
-    fn write_body(&self, out: &mut [u8]) -> usize {
-        let mut writer = Writer::new(out);
+    fn write_body(&self, writer: &mut Writer) {
         match *self {
             Operation::Ping | Operation::ListProviders => {}
             Operation::ListOpcodes { provider } => writer.write_uint32(1, provider),
@@ -161,7 +179,6 @@ impl Operation<'_> {
                 writer.write_bytes(3, signature);
             }
         }
-        writer.written()
     }
 }
 
@@ -177,12 +194,18 @@ fn judge_key(name: &[u8], data: &[u8], bits: u32) -> Result<(), WriteRefusal> {
 }
 
 /// Any signature is written, even one that is no key's, where the body has room for it.
-fn judge_signature(name: &[u8], hash: &[u8], signature: &[u8]) -> Result<(), WriteRefusal> {
+fn judge_signature(
+    format: BodyFormat,
+    name: &[u8],
+    hash: &[u8],
+    signature: &[u8],
+) -> Result<(), WriteRefusal> {
     judge_key_name(name)?;
     if hash.len() != HASH_LENGTH {
         return Err(WriteRefusal::BadHash);
     }
-    let body_length: usize = [name, hash, signature].map(bytes_field_length).iter().sum();
+    let lengths = [name, hash, signature].map(|value| bytes_field_length(format, value));
+    let body_length: usize = lengths.iter().sum();
     if body_length > MAX_CONTENT_LENGTH as usize {
         return Err(WriteRefusal::BodyTooLong);
     }

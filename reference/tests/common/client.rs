@@ -1,10 +1,10 @@
 //! Builders of responses, good or damaged, and a client that reads them in both forms.
-//! Document 02, "The client's half"; the memory's layout is the one set down in docs/.
+//! Document 02, "The client's half" and "A second body format"; the memory's layout is the one set down in docs/.
 
 use super::{long_varint, MAGIC};
 use reference::{
-    client_begin, client_read, read_response, CoreOpcode, KeystoreOpcode, Opcode, Output,
-    ReadAnswer, ReadRefusal, Reader, Reading, CLIENT_SIZE,
+    client_begin, client_read, read_response, BodyFormat, CoreOpcode, KeystoreOpcode, Opcode,
+    Output, ReadAnswer, ReadRefusal, Reader, Reading, CLIENT_SIZE,
 };
 
 pub const SESSION: u64 = 0x1122_3344_5566_7788;
@@ -157,33 +157,51 @@ pub fn refused(taken: usize, refusal: ReadRefusal) -> ReadAnswer {
     }
 }
 
-/// Reader's memory with these bytes behind its held count, well formed or not.
+/// Reader's memory with these bytes behind its held count, well formed or not, of accept type 1.
 pub fn client_memory(opcode: u16, session: u64, held: u16, bytes: &[u8]) -> Vec<u8> {
+    client_memory_of(opcode, session, 1, held, bytes)
+}
+
+pub fn client_memory_of(
+    opcode: u16,
+    session: u64,
+    accept_type: u8,
+    held: u16,
+    bytes: &[u8],
+) -> Vec<u8> {
     let mut memory = vec![0; CLIENT_SIZE];
     memory[..2].copy_from_slice(&opcode.to_le_bytes());
     memory[2..10].copy_from_slice(&session.to_le_bytes());
-    memory[10..12].copy_from_slice(&held.to_le_bytes());
-    memory[12..12 + bytes.len()].copy_from_slice(bytes);
+    memory[10] = accept_type;
+    memory[11..13].copy_from_slice(&held.to_le_bytes());
+    memory[13..13 + bytes.len()].copy_from_slice(bytes);
     memory
+}
+
+/// The rule on uncut bytes, where the request asked for Protocol Buffers.
+pub fn read_protobuf(opcode: Opcode, session: u64, bytes: &[u8]) -> ReadAnswer {
+    read_response(opcode, session, BodyFormat::Protobuf, bytes)
 }
 
 /// The typed reader and the one on lent memory, which must agree on every chunk.
 pub struct Client {
     opcode: Opcode,
     session: u64,
+    accept: BodyFormat,
     reader: Reader,
     memory: Vec<u8>,
     held: Vec<u8>,
 }
 
 impl Client {
-    pub fn begin(opcode: Opcode, session: u64) -> Client {
+    pub fn begin(opcode: Opcode, session: u64, accept: BodyFormat) -> Client {
         let mut memory = vec![0x55; CLIENT_SIZE];
-        assert_eq!(client_begin(&mut memory, opcode, session), Ok(()));
+        assert_eq!(client_begin(&mut memory, opcode, session, accept), Ok(()));
         Client {
             opcode,
             session,
-            reader: Reader::begin(opcode, session),
+            accept,
+            reader: Reader::begin(opcode, session, accept),
             memory,
             held: Vec::new(),
         }
@@ -195,7 +213,8 @@ impl Client {
         assert_eq!(client_read(&mut self.memory, chunk), Ok(answer.clone()));
         self.held.extend(&chunk[..answer.taken]);
         let held = self.held.len() as u16;
-        let expected = client_memory(self.opcode.number(), self.session, held, &self.held);
+        let (opcode, accept) = (self.opcode.number(), self.accept.number());
+        let expected = client_memory_of(opcode, self.session, accept, held, &self.held);
         assert_eq!(self.memory, expected);
         answer
     }
@@ -224,13 +243,23 @@ impl Client {
 /// What is read from these bytes: the same uncut, in one chunk and in single bytes, with more bytes
 /// behind them or none.
 pub fn read_every_way(opcode: Opcode, session: u64, bytes: &[u8]) -> ReadAnswer {
-    let answer = read_response(opcode, session, bytes);
-    let client = || Client::begin(opcode, session);
+    read_every_way_as(opcode, session, BodyFormat::Protobuf, bytes)
+}
+
+/// The same where the request asked for this format.
+pub fn read_every_way_as(
+    opcode: Opcode,
+    session: u64,
+    accept: BodyFormat,
+    bytes: &[u8],
+) -> ReadAnswer {
+    let answer = read_response(opcode, session, accept, bytes);
+    let client = || Client::begin(opcode, session, accept);
     assert_eq!(client().read_all([bytes].into_iter()), answer);
     assert_eq!(client().read_all(bytes.chunks(1)), answer);
     if answer.reading != Reading::Waiting {
         let more = [bytes, bytes].concat();
-        assert_eq!(read_response(opcode, session, &more), answer);
+        assert_eq!(read_response(opcode, session, accept, &more), answer);
         assert_eq!(client().read_all([&more[..]].into_iter()), answer);
         assert_eq!(client().read_all(more.chunks(1)), answer);
     }
@@ -242,7 +271,7 @@ fn read_and_wait(opcode: Opcode, raw: &RawResponse) -> ReadAnswer {
     let bytes = raw.bytes();
     let answer = read_every_way(opcode, SESSION, &bytes);
     for length in 0..answer.taken {
-        let cut = read_response(opcode, SESSION, &bytes[..length]);
+        let cut = read_protobuf(opcode, SESSION, &bytes[..length]);
         assert_eq!(cut, waiting(length));
     }
     answer

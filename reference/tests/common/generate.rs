@@ -261,8 +261,8 @@ fn with_bad_header_field(random: &mut Random, mut request: Request) -> Request {
     match random.below(9) {
         0 => request.major = 2,
         1 => request.minor = 1,
-        2 => request.content_type = random.pick(&[0, 2]),
-        3 => request.accept_type = random.pick(&[0, 2]),
+        2 => request.content_type = random.pick(&[0, 2, 3]),
+        3 => request.accept_type = random.pick(&[0, 2, 3]),
         4 => request.opcode = random.pick(&[0, 2, 4, 0x101]),
         5 => request.provider = random.pick(&[2, 255]),
         6 => request.provider = 1 - request.provider,

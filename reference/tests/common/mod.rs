@@ -377,7 +377,7 @@ impl Response {
     pub fn read(bytes: &[u8]) -> Response {
         assert_eq!(bytes[..4], MAGIC);
         assert_eq!(bytes[4..8], [20, 0, 1, 0], "H and version");
-        assert_eq!(bytes[17], 1, "content type");
+        assert!([1, 2].contains(&bytes[17]), "content type");
         let content_length = u32::from_le_bytes(bytes[18..22].try_into().unwrap());
         assert_eq!(content_length as usize, bytes.len() - 26);
         Response {
@@ -477,6 +477,9 @@ impl Service {
     pub fn ask(&mut self, request: &Request) -> Response {
         let responses = self.send(&request.bytes());
         assert_eq!(responses.len(), 1);
+        if request.accept_type == 1 {
+            assert_eq!(responses[0][17], 1, "content type");
+        }
         Response::read(&responses[0])
     }
 
