@@ -4,7 +4,8 @@
 use crate::registries::Registry;
 use crate::rows::{digest, Row, Turn, EACH_TURN};
 use razidkot::{raw, Counters};
-use razidkot_tests::ask::{name_body, request, EXPORT, PING};
+use razidkot_tests::ask::{name_body, request, request_of, EXPORT, PING};
+use razidkot_tests::tagged::{bytes_record, TAGGED};
 use reference::{CONNECTION_SIZE, MIN_JOURNAL_BUFFER, MIN_RESPONSE_BUFFER};
 use std::hint::black_box;
 use std::rc::Rc;
@@ -37,6 +38,24 @@ pub fn exports(registry: Registry) -> Row {
         })
         .collect();
     row("exports", registry, &exports)
+}
+
+/// Pings and exports of the second body format, both ways.
+pub fn tagged_pings(registry: Registry) -> Row {
+    let ping = request_of(PING, (TAGGED, TAGGED), None, &[]);
+    row("Pings, format 2", registry, &[ping])
+}
+
+pub fn tagged_exports(registry: Registry) -> Row {
+    let exports: Vec<_> = registry
+        .places()
+        .map(|(line, slot)| {
+            let body = bytes_record(1, &registry.key_name(line, slot));
+            let application = registry.application_name(line);
+            request_of(EXPORT, (TAGGED, TAGGED), Some(&application), &body)
+        })
+        .collect();
+    row("exports, format 2", registry, &exports)
 }
 
 /// So many Pings, by the compiled call alone.

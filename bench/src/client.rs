@@ -6,20 +6,36 @@ use crate::rows::{digest, Row, Turn, EACH_TURN};
 use razidkot_client::{raw, LEAST_REQUEST_BUFFER, STATE_SIZE};
 use razidkot_tests::generate::Random;
 use reference::{client_begin, client_read, rules, write_request};
-use reference::{Operation, Output, Reading};
+use reference::{BodyFormat, Formats, Operation, Output, Reading};
 use std::hint::black_box;
 use std::rc::Rc;
 use std::time::Instant;
 
 pub fn rows() -> Vec<Row> {
     vec![
-        written("client: Pings written", Kind::Ping),
-        written("client: exports written", Kind::Export),
-        read("client: Pings read", Kind::Ping, usize::MAX),
-        read("client: exports read", Kind::Export, usize::MAX),
-        read("client: exports by 64", Kind::Export, 64),
+        written("client: Pings written", Kind::Ping, PROTOBUF),
+        written("client: exports written", Kind::Export, PROTOBUF),
+        written("client: exports written, format 2", Kind::Export, TAGGED),
+        read("client: Pings read", Kind::Ping, PROTOBUF, usize::MAX),
+        read("client: exports read", Kind::Export, PROTOBUF, usize::MAX),
+        read("client: exports by 64", Kind::Export, PROTOBUF, 64),
+        read(
+            "client: Pings read, format 2",
+            Kind::Ping,
+            TAGGED,
+            usize::MAX,
+        ),
+        read(
+            "client: exports read, format 2",
+            Kind::Export,
+            TAGGED,
+            usize::MAX,
+        ),
     ]
 }
+
+const PROTOBUF: BodyFormat = BodyFormat::Protobuf;
+const TAGGED: BodyFormat = BodyFormat::Tagged;
 
 // ---- what is written and read
 
@@ -33,6 +49,8 @@ enum Kind {
 /// response to it.
 struct Exchange {
     kind: Kind,
+    /// Both ways.
+    format: BodyFormat,
     session: u64,
     application: Vec<u8>,
     key: Vec<u8>,
@@ -54,13 +72,14 @@ impl Exchange {
 }
 
 /// One for each key of the full registry.
-fn exchanges(kind: Kind) -> Rc<[Exchange]> {
+fn exchanges(kind: Kind, format: BodyFormat) -> Rc<[Exchange]> {
     let registry = FULL.bytes();
     let mut random = Random::new(0);
     let mut client = Reference::new();
     let answered = FULL.places().map(|(line, slot)| {
         let mut exchange = Exchange {
             kind,
+            format,
             session: random.word(),
             application: FULL.application_name(line),
             key: FULL.key_name(line, slot),
@@ -76,8 +95,8 @@ fn exchanges(kind: Kind) -> Rc<[Exchange]> {
 
 // ---- rows
 
-fn written(name: &str, kind: Kind) -> Row {
-    let exchanges = exchanges(kind);
+fn written(name: &str, kind: Kind, format: BodyFormat) -> Row {
+    let exchanges = exchanges(kind, format);
     let (mut proved, mut reference) = (Proved::new(), Reference::new());
     for exchange in exchanges.iter() {
         assert_eq!(proved.write(exchange), reference.write(exchange));
@@ -95,8 +114,8 @@ fn written(name: &str, kind: Kind) -> Row {
 }
 
 /// A state is begun for each response, which comes in chunks of that many bytes.
-fn read(name: &str, kind: Kind, chunk: usize) -> Row {
-    let exchanges = exchanges(kind);
+fn read(name: &str, kind: Kind, format: BodyFormat, chunk: usize) -> Row {
+    let exchanges = exchanges(kind, format);
     let (mut proved, mut reference) = (Proved::new(), Reference::new());
     for exchange in exchanges.iter() {
         let received = reference.read(exchange, chunk);
@@ -185,10 +204,18 @@ impl Proved {
 impl Client for Proved {
     fn write(&mut self, exchange: &Exchange) -> usize {
         let (out, session) = (&mut self.buffer[..], exchange.session);
-        let application = &exchange.application;
+        let (application, format) = (&exchange.application, exchange.format.number());
         let request = match exchange.kind {
-            Kind::Ping => raw::write_ping(out, session, true, application),
-            Kind::Export => raw::write_export(out, session, true, application, &exchange.key),
+            Kind::Ping => raw::write_ping(out, session, format, format, true, application),
+            Kind::Export => raw::write_export(
+                out,
+                session,
+                format,
+                format,
+                true,
+                application,
+                &exchange.key,
+            ),
         };
         assert_eq!(request.code, 0, "a request that is written");
         black_box(&mut self.buffer);
@@ -197,7 +224,8 @@ impl Client for Proved {
 
     fn read(&mut self, exchange: &Exchange, chunk: usize) -> Received<'_> {
         let opcode = exchange.operation().opcode().number();
-        let begun = raw::begin(&mut self.state, opcode, exchange.session);
+        let format = exchange.format.number();
+        let begun = raw::begin(&mut self.state, opcode, exchange.session, format);
         assert_eq!(begun, 0, "a state that is begun");
         let mut chunks = exchange.response.chunks(chunk);
         let answer = loop {
@@ -238,14 +266,19 @@ impl Client for Reference {
     fn write(&mut self, exchange: &Exchange) -> usize {
         let application = Some(&exchange.application[..]);
         let operation = exchange.operation();
-        let written = write_request(&mut self.buffer, exchange.session, application, &operation);
+        let (session, format) = (exchange.session, exchange.format);
+        let formats = Formats {
+            content: format,
+            accept: format,
+        };
+        let written = write_request(&mut self.buffer, session, formats, application, &operation);
         black_box(&mut self.buffer);
         written.expect("a request that is written")
     }
 
     fn read(&mut self, exchange: &Exchange, chunk: usize) -> Received<'_> {
         let opcode = exchange.operation().opcode();
-        let begun = client_begin(&mut self.state, opcode, exchange.session);
+        let begun = client_begin(&mut self.state, opcode, exchange.session, exchange.format);
         begun.expect("a state that is begun");
         let mut chunks = exchange.response.chunks(chunk);
         let reading = loop {

@@ -26,7 +26,8 @@ pub fn all() -> Vec<Row> {
     let pings = ALL.into_iter().map(calls::pings);
     let named = [FULL, ALIKE[1]].into_iter().map(calls::named_pings);
     let exports = [FULL, ONE_KEY].into_iter().map(calls::exports);
-    let calls = pings.chain(named).chain(exports);
+    let tagged = [calls::tagged_pings(FULL), calls::tagged_exports(FULL)];
+    let calls = pings.chain(named).chain(exports).chain(tagged);
     checks
         .chain(searches::rows())
         .chain(calls)

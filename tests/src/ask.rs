@@ -52,8 +52,18 @@ pub fn ask(registry: &[u8], opcode: u16, application: Option<&[u8]>, body: &[u8]
     }
 }
 
-/// A request with a session of its opcode's number.
+/// A request with a session of its opcode's number, of Protocol Buffers both ways.
 pub fn request(opcode: u16, application: Option<&[u8]>, body: &[u8]) -> Vec<u8> {
+    request_of(opcode, (1, 1), application, body)
+}
+
+/// The same with this content type and accept type.
+pub fn request_of(
+    opcode: u16,
+    (content_type, accept_type): (u8, u8),
+    application: Option<&[u8]>,
+    body: &[u8],
+) -> Vec<u8> {
     let provider = match opcode {
         DESTROY | VERIFY | IMPORT | EXPORT => 1,
         _ => 0,
@@ -62,7 +72,7 @@ pub fn request(opcode: u16, application: Option<&[u8]>, body: &[u8]) -> Vec<u8> 
     [
         &[0x10, 0xA7, 0xC0, 0x5E, 22, 0, 1, 0, provider][..],
         &u64::from(opcode).to_le_bytes(),
-        &[1, 1, application.is_some().into()],
+        &[content_type, accept_type, application.is_some().into()],
         &(body.len() as u32).to_le_bytes(),
         &(auth.len() as u16).to_le_bytes(),
         &opcode.to_le_bytes(),

@@ -1,15 +1,16 @@
 //! A request that a client is asked to write, from a seed and with faults: document 02, "The
-//! client's half", its last sentence, and "Checking signatures".
+//! client's half", its last sentence, "Checking signatures" and "A second body format".
 
 use crate::ask::{DESTROY, EXPORT, IMPORT, LIST_OPCODES, LIST_PROVIDERS, OPCODES, PING, VERIFY};
 use crate::generate::Random;
 use crate::layout::IMPORT_BITS;
 use crate::oracle::key_name_is_legal;
 use crate::signatures::verify_body;
+use crate::tagged::{some_type, PROTOBUF, TAGGED, UNLISTED_TYPES};
 use razidkot_client::raw::{self, Request};
-use reference::Operation;
+use reference::{BodyFormat, Formats, Operation};
 
-/// The numbers of the refusals, in the order in which they are tried.
+/// The numbers of the refusals, in the order in which they are tried, but for the last.
 pub const BUFFER_TOO_SMALL: u32 = 1;
 pub const APPLICATION_NAME_ILLEGAL: u32 = 2;
 pub const KEY_NAME_ILLEGAL: u32 = 3;
@@ -17,6 +18,8 @@ pub const DATA_ILLEGAL: u32 = 4;
 pub const BITS_ILLEGAL: u32 = 5;
 pub const HASH_ILLEGAL: u32 = 6;
 pub const BODY_TOO_LONG: u32 = 7;
+/// Tried before all others: a content type or an accept type that is not listed.
+pub const TYPE_UNLISTED: u32 = 8;
 
 /// Around what is allowed and what once was, and numbers whose low 16 bits would be allowed.
 pub const BITS: [u32; 29] = [
@@ -57,6 +60,8 @@ pub const SESSIONS: [u64; 5] = [0, 1, 0x0807_0605_0403_0201, 1 << 63, u64::MAX];
 #[derive(Clone, Debug, PartialEq, Eq)]
 pub struct Asked {
     pub session: u64,
+    pub content_type: u8,
+    pub accept_type: u8,
     /// Is an application named? The name of one that is not is no matter.
     pub named: bool,
     pub application: Vec<u8>,
@@ -76,6 +81,8 @@ impl Asked {
     pub fn good(opcode: u16) -> Asked {
         Asked {
             session: 0x0102_0304_0506_0708,
+            content_type: PROTOBUF,
+            accept_type: PROTOBUF,
             named: true,
             application: b"application".to_vec(),
             opcode,
@@ -94,6 +101,8 @@ impl Asked {
     pub fn generate(random: &mut Random) -> Asked {
         Asked {
             session: some_session(random),
+            content_type: some_type(random),
+            accept_type: some_type(random),
             named: random.once_in(2),
             application: some_name(random, 64),
             opcode: random.pick(&OPCODES),
@@ -129,6 +138,11 @@ impl Asked {
             BODY_TOO_LONG => self
                 .signature
                 .resize(random.pick(&[4_057, 4_097, 65_537]), 7),
+            TYPE_UNLISTED => match random.below(3) {
+                0 => self.content_type = random.pick(&UNLISTED_TYPES),
+                1 => self.accept_type = random.pick(&UNLISTED_TYPES),
+                _ => (self.content_type, self.accept_type) = (0, 3),
+            },
             _ => {}
         }
         self
@@ -166,15 +180,26 @@ impl Asked {
 
     pub fn write_proved(&self, out: &mut [u8]) -> Request {
         let (session, named, application) = (self.session, self.named, &self.application[..]);
+        let (content, accept) = (self.content_type, self.accept_type);
         match self.opcode {
-            PING => raw::write_ping(out, session, named, application),
-            LIST_PROVIDERS => raw::write_list_providers(out, session, named, application),
-            LIST_OPCODES => {
-                raw::write_list_opcodes(out, session, named, application, self.provider)
+            PING => raw::write_ping(out, session, content, accept, named, application),
+            LIST_PROVIDERS => {
+                raw::write_list_providers(out, session, content, accept, named, application)
             }
+            LIST_OPCODES => raw::write_list_opcodes(
+                out,
+                session,
+                content,
+                accept,
+                named,
+                application,
+                self.provider,
+            ),
             IMPORT => raw::write_import(
                 out,
                 session,
+                content,
+                accept,
                 named,
                 application,
                 &self.name,
@@ -183,11 +208,29 @@ impl Asked {
                 self.export_allowed,
                 self.verify_allowed,
             ),
-            DESTROY => raw::write_destroy(out, session, named, application, &self.name),
-            EXPORT => raw::write_export(out, session, named, application, &self.name),
+            DESTROY => raw::write_destroy(
+                out,
+                session,
+                content,
+                accept,
+                named,
+                application,
+                &self.name,
+            ),
+            EXPORT => raw::write_export(
+                out,
+                session,
+                content,
+                accept,
+                named,
+                application,
+                &self.name,
+            ),
             VERIFY => raw::write_verify(
                 out,
                 session,
+                content,
+                accept,
                 named,
                 application,
                 &self.name,
@@ -198,9 +241,24 @@ impl Asked {
         }
     }
 
+    /// The formats, unless one is not listed: the reference's type has the listed ones alone.
+    fn formats(&self) -> Option<Formats> {
+        Some(Formats {
+            content: BodyFormat::from_number(self.content_type)?,
+            accept: BodyFormat::from_number(self.accept_type)?,
+        })
+    }
+
     pub fn write_reference(&self, out: &mut [u8]) -> Request {
         let application = self.named.then_some(&self.application[..]);
-        match reference::write_request(out, self.session, application, &self.operation()) {
+        let Some(formats) = self.formats() else {
+            return Request {
+                code: TYPE_UNLISTED,
+                written: 0,
+            };
+        };
+        let operation = &self.operation();
+        match reference::write_request(out, self.session, formats, application, operation) {
             Ok(written) => Request { code: 0, written },
             Err(refusal) => Request {
                 code: refusal_number(refusal),
@@ -209,10 +267,22 @@ impl Asked {
         }
     }
 
-    /// The refusals that apply, not the first one alone.
+    /// How many bytes a verify's body has as it would be written.
+    fn verify_body_length(&self) -> usize {
+        let fields = [&self.name, &self.hash, &self.signature];
+        match self.content_type {
+            TAGGED => fields
+                .iter()
+                .filter(|field| !field.is_empty())
+                .map(|field| 3 + field.len())
+                .sum(),
+            _ => verify_body(&self.name, &self.hash, &self.signature).len(),
+        }
+    }
+
+    /// The refusals that apply, not the first one alone, in the order in which they are tried.
     pub fn applying(&self, buffer_length: usize) -> Vec<u32> {
         let (imports, verifies) = (self.opcode == IMPORT, self.opcode == VERIFY);
-        let body_length = verify_body(&self.name, &self.hash, &self.signature).len();
         let are_import_bits = IMPORT_BITS.map(u32::from).contains(&self.bits);
         let applies = [
             buffer_length < 5_120,
@@ -221,10 +291,13 @@ impl Asked {
             imports && !(1..=600).contains(&self.data.len()),
             imports && !are_import_bits,
             verifies && self.hash.len() != 32,
-            verifies && body_length > 4_096,
+            verifies && self.verify_body_length() > 4_096,
         ];
-        (BUFFER_TOO_SMALL..)
-            .zip(applies)
+        let numbered = (BUFFER_TOO_SMALL..).zip(applies);
+        let unlisted = (TYPE_UNLISTED, self.formats().is_none());
+        [unlisted]
+            .into_iter()
+            .chain(numbered)
             .filter_map(|(refusal, applies)| applies.then_some(refusal))
             .collect()
     }
@@ -234,7 +307,7 @@ impl Asked {
         let good = Asked::good(self.opcode);
         let half = |bytes: &[u8]| bytes[..bytes.len() / 2].to_vec();
         let less = |bytes: &[u8]| bytes[..bytes.len().saturating_sub(1)].to_vec();
-        let mut shorter = vec![self.clone(); 14];
+        let mut shorter = vec![self.clone(); 16];
         shorter[0].session = 0;
         shorter[1].named = false;
         shorter[2].application = half(&self.application);
@@ -249,6 +322,8 @@ impl Asked {
         shorter[11].hash = good.hash;
         shorter[12].signature = half(&self.signature);
         shorter[13].signature = less(&self.signature);
+        shorter[14].content_type = PROTOBUF;
+        shorter[15].accept_type = PROTOBUF;
         shorter.retain(|asked| asked != self);
         shorter
     }
@@ -259,14 +334,15 @@ pub fn each_with_each<A: Copy, B: Copy>(first: &[A], second: &[B]) -> Vec<(A, B)
     first.iter().flat_map(pairs).collect()
 }
 
-/// The refusals that a request of this opcode can have.
+/// The refusals that a request of this opcode can have, in the order in which they are tried.
 pub fn refusals_of(opcode: u16) -> Vec<u32> {
     let last = match opcode {
         IMPORT => BITS_ILLEGAL,
         DESTROY | EXPORT | VERIFY => KEY_NAME_ILLEGAL,
         _ => APPLICATION_NAME_ILLEGAL,
     };
-    let mut refusals: Vec<_> = (BUFFER_TOO_SMALL..=last).collect();
+    let mut refusals = vec![TYPE_UNLISTED];
+    refusals.extend(BUFFER_TOO_SMALL..=last);
     if opcode == VERIFY {
         refusals.extend([HASH_ILLEGAL, BODY_TOO_LONG]);
     }

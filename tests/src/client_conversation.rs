@@ -12,6 +12,7 @@ use crate::lent::{Lengths, Lent};
 use crate::oracle::key_name_is_legal;
 use crate::shipped::some_list;
 use crate::signatures::Signed;
+use crate::tagged::LISTED_TYPES;
 use razidkot::{Counters, CONNECTION_SIZE, LONGEST_CHUNK, REGISTRY_SIZE};
 use razidkot_client::raw::Request;
 use razidkot_client::LEAST_REQUEST_BUFFER;
@@ -217,6 +218,8 @@ fn some_asked(random: &mut Random, names: &[Vec<u8>], few: usize) -> Asked {
         provider: random.pick(&[0, 0, 1, 1, 2, u32::MAX]),
         name: vec![random.pick(KEY_NAMES)],
         bits: random.pick(&IMPORT_BITS).into(),
+        content_type: random.pick(&LISTED_TYPES),
+        accept_type: random.pick(&LISTED_TYPES),
         ..any.clone()
     };
     let asked = match random.below(3) {
@@ -290,7 +293,8 @@ fn answer(service: Program, lent: &mut Lent, stream: &[u8], random: &mut Random)
 fn read(client: Program, asked: &Asked, bytes: &[u8], random: &mut Random) -> Said {
     let longest = random.pick(&[1, 3, 30, 300, 5_000]);
     let mut state = vec![0xEE; STATE_SIZE];
-    assert_eq!(client.begin(&mut state, asked.opcode, asked.session), 0);
+    let begun = client.begin(&mut state, asked.opcode, asked.session, asked.accept_type);
+    assert_eq!(begun, 0);
     let mut said = client.read(&mut state, &[]);
     let mut taken = 0;
     while said.code == WAITING && taken < bytes.len() {

@@ -2,8 +2,9 @@
 //! it is read from the state's memory. Document 02, "The client's half".
 
 use crate::client_asked::Asked;
+use crate::client_states::ACCEPT_TYPE_AT;
 use razidkot_client::raw::{self, OutputNumbers, Request};
-use reference::{CoreOpcode, Opcode, Output, ReadRefusal, Reading};
+use reference::{BodyFormat, CoreOpcode, Opcode, Output, ReadRefusal, Reading};
 
 /// What reading says while more is awaited, of a response and of an ill-formed state.
 pub const WAITING: u32 = 0;
@@ -80,11 +81,12 @@ impl Program {
         }
     }
 
-    /// 0, or 1 for memory of another size, or 2 for an opcode that is not listed.
-    pub fn begin(self, state: &mut [u8], opcode: u16, session: u64) -> u32 {
+    /// 0, or 1 for memory of another size, or 2 for an opcode that is not listed, or 3 for an accept type
+    /// that is not.
+    pub fn begin(self, state: &mut [u8], opcode: u16, session: u64, accept_type: u8) -> u32 {
         match self {
-            Program::Proved => raw::begin(state, opcode, session),
-            Program::Reference => begin_reference(state, opcode, session),
+            Program::Proved => raw::begin(state, opcode, session, accept_type),
+            Program::Reference => begin_reference(state, opcode, session, accept_type),
         }
     }
 
@@ -99,23 +101,22 @@ impl Program {
     }
 }
 
-/// The reference's type has the listed opcodes alone. Another number is told apart here, behind the
-/// memory's size, which is judged with a copy.
-fn begin_reference(state: &mut [u8], opcode: u16, session: u64) -> u32 {
-    let unlisted = || {
-        let any = Opcode::Core(CoreOpcode::Ping);
-        match reference::client_begin(&mut state.to_vec(), any, session) {
-            Ok(()) => 2,
-            Err(reference::WrongSize) => 1,
-        }
-    };
-    let Some(opcode) = Opcode::from_number(opcode) else {
-        return unlisted();
-    };
-    match reference::client_begin(state, opcode, session) {
-        Ok(()) => 0,
-        Err(reference::WrongSize) => 1,
+/// The reference's types have the listed opcodes and formats alone. Another number is told apart here,
+/// behind the memory's size, which is judged with a copy.
+fn begin_reference(state: &mut [u8], opcode: u16, session: u64, accept_type: u8) -> u32 {
+    let any = Opcode::Core(CoreOpcode::Ping);
+    if reference::client_begin(&mut state.to_vec(), any, session, BodyFormat::Tagged).is_err() {
+        return 1;
     }
+    let Some(opcode) = Opcode::from_number(opcode) else {
+        return 2;
+    };
+    let Some(accept) = BodyFormat::from_number(accept_type) else {
+        return 3;
+    };
+    let begun = reference::client_begin(state, opcode, session, accept);
+    assert_eq!(begun, Ok(()));
+    0
 }
 
 fn refusal_number(refusal: ReadRefusal) -> u32 {
@@ -161,8 +162,8 @@ fn output_in(state: &[u8], numbers: OutputNumbers) -> Output {
             major: version.0,
             minor: version.1,
         },
-        2 => Output::Providers(entries_of(placed)),
-        3 => Output::Opcodes(entries_of(placed)),
+        2 => Output::Providers(entries_of(state[ACCEPT_TYPE_AT], placed)),
+        3 => Output::Opcodes(entries_of(state[ACCEPT_TYPE_AT], placed)),
         4 => Output::Data(placed.to_vec()),
         5 => Output::Offset(numbers.offset),
         kind => panic!("no output of kind {kind}"),
@@ -170,14 +171,14 @@ fn output_in(state: &[u8], numbers: OutputNumbers) -> Output {
 }
 
 /// The entries, the same with room to spare, with just enough and with too little.
-pub fn entries_of(packed: &[u8]) -> Vec<u32> {
+pub fn entries_of(accept_type: u8, packed: &[u8]) -> Vec<u32> {
     let mut entries = vec![UNTOUCHED; packed.len() + 2];
-    let count = raw::read_list(packed, &mut entries);
+    let count = raw::read_list(accept_type, packed, &mut entries);
     let behind = entries.split_off(count);
     assert!(behind.iter().all(|&entry| entry == UNTOUCHED));
     for room in [0, count / 2, count.saturating_sub(1), count] {
         let mut first = vec![UNTOUCHED; room];
-        assert_eq!(raw::read_list(packed, &mut first), room);
+        assert_eq!(raw::read_list(accept_type, packed, &mut first), room);
         assert_eq!(first, entries[..room]);
     }
     entries

@@ -232,7 +232,8 @@ fn applying(awaited: Awaited, bytes: &[u8]) -> Vec<u32> {
     if bytes.len() < BODY_AT {
         return Vec::new();
     }
-    let good = response(awaited, 0, &[]);
+    let status = u16::from_le_bytes([bytes[STATUS_AT], bytes[STATUS_AT + 1]]);
+    let good = response(awaited, status, &[]);
     let differs = |at: usize, width: usize| bytes[at..at + width] != good[at..at + width];
     let field = |at: usize| u32::from_le_bytes(bytes[at..at + 4].try_into().expect("four bytes"));
     let is_its = !differs(OPCODE_AT, 2) && !differs(PROVIDER_AT, 9);
@@ -264,6 +265,7 @@ fn is_unreadable(awaited: Awaited, bytes: &[u8], content_length: u32) -> bool {
         let is_refused = status != 0 && status != Status::DeserializingBodyFailed.number();
         let has_none =
             is_refused || status == 0 && matches!(awaited.opcode, IMPORT | DESTROY | VERIFY);
+        // In the second format a length above all content is a cut field.
         return has_none || BAD_TAGS.contains(&body[0]);
     }
     awaited.uncut(&response(awaited, status, body)).code == UNREADABLE_BODY

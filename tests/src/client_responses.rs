@@ -1,12 +1,13 @@
 //! Responses from a seed, good and damaged, for a request whose response is awaited: document 02,
 //! "The client's half", is what they are meant to reach all of.
 
-use crate::ask::{EXPORT, LIST_OPCODES, LIST_PROVIDERS, OPCODES, PING};
+use crate::ask::{record, EXPORT, LIST_OPCODES, LIST_PROVIDERS, OPCODES, PING};
 use crate::client_asked::some_session;
 use crate::client_program::*;
 use crate::client_states::Awaited;
 use crate::generate::{long_varint, message, mutated, Random};
 use crate::oracle::{number_field, response_header, varint};
+use crate::tagged::{bytes_record, list_record, number_record, LISTED_TYPES, TAGGED};
 use razidkot::Status;
 
 // Where a response has its fields.
@@ -29,14 +30,18 @@ pub fn some_awaited(random: &mut Random) -> Awaited {
     Awaited {
         opcode: random.pick(&OPCODES),
         session: some_session(random),
+        accept_type: random.pick(&LISTED_TYPES),
     }
 }
 
 /// The response to it with this status and body.
 pub fn response(awaited: Awaited, status: u16, body: &[u8]) -> Vec<u8> {
-    let Awaited { opcode, session } = awaited;
+    let Awaited {
+        opcode, session, ..
+    } = awaited;
     let length = body.len() as u32;
-    let header = response_header(awaited.provider(), session, length, opcode, status);
+    let mut header = response_header(awaited.provider(), session, length, opcode, status);
+    header[CONTENT_TYPE_AT] = awaited.content_type(status);
     [&header[..], body].concat()
 }
 
@@ -74,8 +79,62 @@ fn packed(random: &mut Random, most: usize) -> Vec<u8> {
     packed
 }
 
-/// A body with the output of this opcode, of up to so many bytes.
-pub fn good_body(random: &mut Random, opcode: u16, most: usize) -> Vec<u8> {
+/// A body with the output that is awaited, of up to so many bytes.
+pub fn good_body(random: &mut Random, awaited: Awaited, most: usize) -> Vec<u8> {
+    match awaited.accept_type {
+        TAGGED => good_tagged_body(random, awaited.opcode, most),
+        _ => good_protobuf_body(random, awaited.opcode, most),
+    }
+}
+
+fn good_tagged_body(random: &mut Random, opcode: u16, most: usize) -> Vec<u8> {
+    let room = most.saturating_sub(3);
+    match opcode {
+        PING => {
+            let [major, minor] = [random.number() as u32, random.number() as u32];
+            [number_record(1, major), number_record(2, minor)].concat()
+        }
+        LIST_PROVIDERS | LIST_OPCODES => {
+            let count = random.pick(&[0, 1, 2, 3, room / 4]).min(room / 4);
+            let entries: Vec<_> = (0..count).map(|_| random.number() as u32).collect();
+            list_record(1, &entries)
+        }
+        EXPORT => {
+            let length = random.pick(&[0, 1, 2, 33, room / 2, room]).min(room);
+            bytes_record(1, &random.bytes(length))
+        }
+        _ => Vec::new(),
+    }
+}
+
+/// A body of the second format: good, with a slip, or with a field that it has not.
+fn some_tagged_body(random: &mut Random, opcode: u16) -> Vec<u8> {
+    let most = random.pick(&[20, 60, LONGEST_CONTENT]);
+    let body = good_tagged_body(random, opcode, most);
+    let mut body = match random.below(10) {
+        0 | 1 => mutated(random, body),
+        2 => {
+            let tag = random.pick(&[0, 1, 2, 3, 9, 255]);
+            let length = random.pick(&[0, 1, 3, 4, 5, 8]);
+            let value = random.pick(&[vec![0; length], vec![1; length]]);
+            let field = record(tag, &value);
+            match random.below(2) {
+                0 => [body, field].concat(),
+                _ => [field, body].concat(),
+            }
+        }
+        3 => good_protobuf_body(random, opcode, most),
+        4 => {
+            let length = random.below(40);
+            random.bytes(length)
+        }
+        _ => body,
+    };
+    body.truncate(LONGEST_CONTENT);
+    body
+}
+
+fn good_protobuf_body(random: &mut Random, opcode: u16, most: usize) -> Vec<u8> {
     let room = most.saturating_sub(3);
     match opcode {
         PING => {
@@ -95,7 +154,7 @@ pub fn good_body(random: &mut Random, opcode: u16, most: usize) -> Vec<u8> {
 fn several(random: &mut Random, opcode: u16) -> Vec<u8> {
     let mut body = Vec::new();
     for _ in 0..2 + random.below(2) {
-        let field = good_body(random, opcode, 60);
+        let field = good_protobuf_body(random, opcode, 60);
         body.extend(match random.below(4) {
             0 => placed_field(1, &[&field[..], &[0x80]].concat()),
             _ => field,
@@ -105,7 +164,11 @@ fn several(random: &mut Random, opcode: u16) -> Vec<u8> {
 }
 
 /// A body of any kind: good, of several fields, with unlisted fields or slips, or any bytes.
-pub fn some_body(random: &mut Random, opcode: u16) -> Vec<u8> {
+pub fn some_body(random: &mut Random, awaited: Awaited) -> Vec<u8> {
+    let opcode = awaited.opcode;
+    if awaited.accept_type == TAGGED {
+        return some_tagged_body(random, opcode);
+    }
     let wire_types: &[u64] = match opcode {
         PING => &[0, 0],
         LIST_PROVIDERS | LIST_OPCODES | EXPORT => &[2],
@@ -115,13 +178,13 @@ pub fn some_body(random: &mut Random, opcode: u16) -> Vec<u8> {
         0 | 1 => several(random, opcode),
         2 => message(random, wire_types),
         3 => {
-            let body = good_body(random, opcode, 60);
+            let body = good_protobuf_body(random, opcode, 60);
             mutated(random, body)
         }
         4 => {
             let unlisted: [&[u8]; 5] = [b"\x18\x01", b"\x1A\0", b"\x08\x05", b"\x0A\0", b"\x10\0"];
             [
-                good_body(random, opcode, 60),
+                good_protobuf_body(random, opcode, 60),
                 random.pick(&unlisted).to_vec(),
             ]
             .concat()
@@ -132,7 +195,7 @@ pub fn some_body(random: &mut Random, opcode: u16) -> Vec<u8> {
         }
         _ => {
             let most = random.pick(&[20, 60, LONGEST_CONTENT]);
-            good_body(random, opcode, most)
+            good_protobuf_body(random, opcode, most)
         }
     };
     body.truncate(LONGEST_CONTENT);
@@ -150,7 +213,15 @@ pub fn some_status(random: &mut Random) -> u16 {
 }
 
 /// A status 7 body: an offset, several of them, among unlisted fields or with a slip.
-fn some_offset_body(random: &mut Random) -> Vec<u8> {
+fn some_offset_body(random: &mut Random, accept_type: u8) -> Vec<u8> {
+    if accept_type == TAGGED {
+        let offset = number_record(1, random.pick(&[0, 1, 255, 256, 4_095, u32::MAX]));
+        return match random.below(4) {
+            0 => mutated(random, offset),
+            1 => record(1, &random.pick(&[vec![0; 4], vec![1; 3], vec![1; 5]])),
+            _ => offset,
+        };
+    }
     let offset = number_field(1, random.pick(&[0, 1, 127, 128, 4_095, 1 << 32 | 5]));
     let mut body = match random.below(8) {
         0 => Vec::new(),
@@ -169,7 +240,11 @@ fn some_offset_body(random: &mut Random) -> Vec<u8> {
 pub fn some_response(random: &mut Random, awaited: Awaited) -> Vec<u8> {
     let status = some_status(random);
     if status == Status::DeserializingBodyFailed.number() {
-        return response(awaited, status, &some_offset_body(random));
+        return response(
+            awaited,
+            status,
+            &some_offset_body(random, awaited.accept_type),
+        );
     }
     if status != 0 && !random.once_in(8) {
         return match random.below(8) {
@@ -177,7 +252,7 @@ pub fn some_response(random: &mut Random, awaited: Awaited) -> Vec<u8> {
             _ => response(awaited, status, &[]),
         };
     }
-    response(awaited, status, &some_body(random, awaited.opcode))
+    response(awaited, status, &some_body(random, awaited))
 }
 
 // ---- faults
@@ -211,8 +286,9 @@ fn lengthen_content(random: &mut Random, response: &mut Vec<u8>) {
     response.resize(BODY_AT + length.min(1_100) as usize, 0x0A);
 }
 
-/// Tags that make any body unreadable: number 0, a stray end of a group, wire types 6 and 7.
-pub const BAD_TAGS: [u8; 6] = [0x00, 0x02, 0x07, 0x0C, 0x0E, 0x0F];
+/// Tags that make any body of Protocol Buffers unreadable: number 0, a stray end of a group, wire types 6
+/// and 7. In the second format all but 2 are not listed, and 2 is by Ping alone.
+pub const BAD_TAGS: [u8; 6] = [0x00, 0x04, 0x07, 0x0C, 0x0E, 0x0F];
 
 /// A tag that can't be read in front of the body.
 fn break_body(random: &mut Random, response: &mut Vec<u8>) {

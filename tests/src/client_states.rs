@@ -3,11 +3,13 @@
 
 use crate::ask::OPCODES;
 use crate::client_program::{Program, Said, ILL_FORMED};
-use reference::Opcode;
+use crate::tagged::{LISTED_TYPES, PROTOBUF};
+use reference::{BodyFormat, Opcode};
 
-pub const STATE_SIZE: usize = 1_036;
-pub const COUNT_AT: usize = 10;
-pub const HELD_AT: usize = 12;
+pub const STATE_SIZE: usize = 1_037;
+pub const ACCEPT_TYPE_AT: usize = 10;
+pub const COUNT_AT: usize = 11;
+pub const HELD_AT: usize = 13;
 pub const LONGEST_RESPONSE: usize = 1_024;
 
 /// Bytes behind the state that are never lent, to see that nothing is written there.
@@ -18,9 +20,27 @@ const GUARD: usize = 64;
 pub struct Awaited {
     pub opcode: u16,
     pub session: u64,
+    pub accept_type: u8,
 }
 
 impl Awaited {
+    /// Of a request that asked for Protocol Buffers.
+    pub fn protobuf(opcode: u16, session: u64) -> Awaited {
+        Awaited {
+            opcode,
+            session,
+            accept_type: PROTOBUF,
+        }
+    }
+
+    /// The content type of a response with this status: on status 17 only 1.
+    pub fn content_type(self, status: u16) -> u8 {
+        match status {
+            17 => PROTOBUF,
+            _ => self.accept_type,
+        }
+    }
+
     pub fn provider(self) -> u8 {
         u8::from(matches!(self.opcode, 3 | 5 | 6 | 7))
     }
@@ -28,7 +48,8 @@ impl Awaited {
     /// What the reference's rule says of uncut bytes.
     pub fn uncut(self, bytes: &[u8]) -> Said {
         let opcode = Opcode::from_number(self.opcode).expect("a listed opcode");
-        let answer = reference::read_response(opcode, self.session, bytes);
+        let accept = BodyFormat::from_number(self.accept_type).expect("a listed type");
+        let answer = reference::read_response(opcode, self.session, accept, bytes);
         Said::of_reference(answer.taken, answer.reading)
     }
 }
@@ -37,7 +58,8 @@ impl Awaited {
 pub fn state_of(awaited: Awaited, held: &[u8]) -> Vec<u8> {
     let mut memory = vec![0; STATE_SIZE];
     memory[..2].copy_from_slice(&awaited.opcode.to_le_bytes());
-    memory[2..COUNT_AT].copy_from_slice(&awaited.session.to_le_bytes());
+    memory[2..ACCEPT_TYPE_AT].copy_from_slice(&awaited.session.to_le_bytes());
+    memory[ACCEPT_TYPE_AT] = awaited.accept_type;
     memory[COUNT_AT..HELD_AT].copy_from_slice(&(held.len() as u16).to_le_bytes());
     memory[HELD_AT..][..held.len()].copy_from_slice(held);
     memory
@@ -55,6 +77,10 @@ pub fn faults_of(memory: &[u8]) -> Vec<&'static str> {
     let behind = behind.map_or(0, |behind| behind.iter().fold(0, |all, byte| all | byte));
     let faults = [
         (!OPCODES.contains(&opcode), "an unlisted opcode"),
+        (
+            !LISTED_TYPES.contains(&memory[ACCEPT_TYPE_AT]),
+            "an unlisted accept type",
+        ),
         (usize::from(count) > LONGEST_RESPONSE, "too many held"),
         (behind != 0, "a byte behind"),
     ];
@@ -86,9 +112,16 @@ impl Both {
     }
 
     pub fn begin(&mut self, awaited: Awaited) -> Result<u32, String> {
-        let Awaited { opcode, session } = awaited;
-        let proved = Program::Proved.begin(&mut self.proved[..self.size], opcode, session);
-        let expected = Program::Reference.begin(&mut self.reference[..self.size], opcode, session);
+        let Awaited {
+            opcode,
+            session,
+            accept_type,
+        } = awaited;
+        let begin = |program: Program, memory: &mut [u8]| {
+            program.begin(memory, opcode, session, accept_type)
+        };
+        let proved = begin(Program::Proved, &mut self.proved[..self.size]);
+        let expected = begin(Program::Reference, &mut self.reference[..self.size]);
         if proved != expected {
             return Err(format!("begun with {proved}, expected {expected}"));
         }

@@ -58,10 +58,9 @@ impl Written {
             return;
         }
         self.outcomes.count(refused(opcode, code));
-        for later in asked.applying(length) {
-            if later > code {
-                self.outcomes.count(refused_before(opcode, code, later));
-            }
+        let applying = asked.applying(length).into_iter();
+        for later in applying.skip_while(|&refusal| refusal != code).skip(1) {
+            self.outcomes.count(refused_before(opcode, code, later));
         }
     }
 
@@ -69,8 +68,8 @@ impl Written {
     pub fn assert_all(&self, least: u64) {
         for opcode in OPCODES {
             let refusals = refusals_of(opcode);
-            let pairs = refusals.iter().flat_map(|&first| {
-                let later = refusals.iter().filter(move |&&later| later > first);
+            let pairs = refusals.iter().enumerate().flat_map(|(place, &first)| {
+                let later = refusals[place + 1..].iter();
                 later.map(move |&later| refused_before(opcode, first, later))
             });
             let mut expected: Vec<_> = pairs.collect();

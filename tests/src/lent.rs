@@ -145,6 +145,15 @@ impl Lent {
         (status, response[26..].to_vec())
     }
 
+    /// Content type, status and body of what both answer to a request that they take whole.
+    pub fn answer_of_both(&mut self, request: &[u8]) -> (u8, u16, Vec<u8>) {
+        let answer = self.call_both(request);
+        assert_eq!((answer.code, answer.taken), (0, request.len()));
+        let response = &self.response()[..answer.written];
+        let status = u16::from_le_bytes([response[24], response[25]]);
+        (response[17], status, response[26..].to_vec())
+    }
+
     /// What of all this is not the same in the other, and where.
     pub fn difference(&self, other: &Lent) -> Option<String> {
         let memories = [

@@ -36,6 +36,7 @@ pub mod service;
 pub mod sha256;
 pub mod shipped;
 pub mod signatures;
+pub mod tagged;
 pub mod unlisted;
 pub mod vectors;
 pub mod wrong_services;

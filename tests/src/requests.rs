@@ -6,6 +6,7 @@ use crate::ask::*;
 use crate::generate::{import_message, importable_key, message, mutated, Random, KEY_NAMES};
 use crate::layout::{line_at, name_at, slot_at, Key, Place, LINES, SLOTS};
 use crate::signatures::{some_verify_body, with_signed_data};
+use crate::tagged::*;
 use crate::unlisted::{Class, Sample};
 
 // Where a header has its fields.
@@ -139,16 +140,35 @@ fn whole_request(random: &mut Random, application: &Application) -> Vec<u8> {
         }
         _ => body(random, opcode, application),
     };
+    let (content_type, body) = in_some_format(random, opcode, body);
     let is_core = matches!(opcode, PING | LIST_PROVIDERS | LIST_OPCODES);
     let is_sent_by_it = !is_core || random.once_in(2);
-    let mut request = request(
+    let mut request = request_of(
         opcode,
+        (content_type, random.pick(&LISTED_TYPES)),
         is_sent_by_it.then_some(application.name.as_slice()),
         &body,
     );
     set(&mut request, SESSION_AT, &random.word().to_le_bytes());
     let header_size = random.pick(&[22, 22, 22, 23, 30, 64]);
     with_header_size(request, header_size)
+}
+
+/// The body as it is, or the same message in the second format, now and then with a slip.
+fn in_some_format(random: &mut Random, opcode: u16, body: Vec<u8>) -> (u8, Vec<u8>) {
+    match from_protobuf(opcode, &body) {
+        Some(tagged) if random.once_in(3) => match random.below(10) {
+            0 => (TAGGED, mutated(random, tagged)),
+            1 => {
+                let kinds = kinds_of(opcode);
+                let place = random.below(kinds.len() + 1);
+                let (_, fault) = random.pick(&faults(kinds, place));
+                (TAGGED, [good_fields(kinds, 0..place), fault].concat())
+            }
+            _ => (TAGGED, tagged),
+        },
+        _ => (PROTOBUF, body),
+    }
 }
 
 fn set(request: &mut [u8], at: usize, field: &[u8]) {
@@ -256,8 +276,8 @@ fn with_bad_header_field(random: &mut Random, mut request: Vec<u8>) -> Vec<u8> {
     match random.below(10) {
         0 => request[MAJOR_AT] = 2,
         1 => request[MINOR_AT] = 1,
-        2 => request[CONTENT_TYPE_AT] = random.pick(&[0, 2]),
-        3 => request[ACCEPT_TYPE_AT] = random.pick(&[0, 2]),
+        2 => request[CONTENT_TYPE_AT] = random.pick(&UNLISTED_TYPES),
+        3 => request[ACCEPT_TYPE_AT] = random.pick(&UNLISTED_TYPES),
         4 => request[OPCODE_AT] = random.pick(&[0, 2, 4, 10]),
         5 => request[PROVIDER_AT] = random.pick(&[2, 255]),
         6 => request[PROVIDER_AT] = 1 - provider,

@@ -37,10 +37,7 @@ fn expect_offset(body: &[u8], offset: usize) {
             "{body:02X?}"
         );
         assert!(lent.registry == before, "a refused request changes nothing");
-        let awaited = Awaited {
-            opcode,
-            session: opcode.into(),
-        };
+        let awaited = Awaited::protobuf(opcode, opcode.into());
         let said = hand_over(awaited, &[&response]).expect("no difference");
         assert_eq!((said[0].code, said[0].status), (RESPONSE, 7));
         assert_eq!(said[0].output, Output::Offset(offset as u32));

@@ -95,7 +95,7 @@ fn all_four_pairings_come_to_the_same() {
     let served = OPCODES.map(|opcode| opcode_reached(opcode, true));
     outcomes.assert_often(&served, 100);
     outcomes.assert_often(&["damaged, waiting", "damaged, refused"], 100);
-    let not_written = [2, 3, 4, 5, 6, 7].map(|code| format!("not written: {code}"));
+    let not_written = [2, 3, 4, 5, 6, 7, 8].map(|code| format!("not written: {code}"));
     outcomes.assert_often(&not_written, 20);
 }
 

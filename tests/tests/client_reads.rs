@@ -4,7 +4,7 @@
 
 use razidkot::Status;
 use razidkot_tests::ask::*;
-use razidkot_tests::client_asked::{each_with_each, some_session, SESSIONS};
+use razidkot_tests::client_asked::{each_with_each, SESSIONS};
 use razidkot_tests::client_program::*;
 use razidkot_tests::client_reached::{orders, Reached};
 use razidkot_tests::client_responses::*;
@@ -16,10 +16,7 @@ use reference::Output;
 const SESSION: u64 = 0x0102_0304_0506_0708;
 
 fn awaited(opcode: u16) -> Awaited {
-    Awaited {
-        opcode,
-        session: SESSION,
-    }
+    Awaited::protobuf(opcode, SESSION)
 }
 
 #[test]
@@ -46,7 +43,11 @@ fn generated_responses_are_read_alike_at_every_cut() {
         });
         status_17_responses(|bytes| reached.compare(awaited(opcode), bytes, &[7]));
         for session in SESSIONS {
-            let awaited = Awaited { opcode, session };
+            let awaited = Awaited {
+                opcode,
+                session,
+                accept_type: 1 + (session % 2) as u8,
+            };
             for status in Status::REFUSED {
                 let bytes = response(awaited, status.number(), &[]);
                 reached.compare(awaited, &bytes, &[25, 0, 1]);
@@ -90,8 +91,10 @@ fn two_faults_at_once_are_refused_as_the_first() {
         let alone = REFUSALS.map(|refusal| (refusal, refusal));
         let faults = [&orders()[..], &alone].concat();
         for (opcode, (first, second)) in each_with_each(&OPCODES, &faults) {
-            let session = some_session(random);
-            let awaited = Awaited { opcode, session };
+            let awaited = Awaited {
+                opcode,
+                ..some_awaited(random)
+            };
             let bytes = with_faults(random, awaited, first, second);
             reached.compare_cut(random, awaited, &bytes);
         }
@@ -101,7 +104,7 @@ fn two_faults_at_once_are_refused_as_the_first() {
 
 /// A good response with both faults, the later one put in first.
 fn with_faults(random: &mut Random, awaited: Awaited, first: u32, second: u32) -> Vec<u8> {
-    let body = good_body(random, awaited.opcode, 20);
+    let body = good_body(random, awaited, 20);
     let mut bytes = response(awaited, 0, &body);
     let second = (second != first).then_some(second);
     for fault in second.into_iter().chain([first]) {

@@ -9,8 +9,9 @@ use razidkot_tests::client_responses::{response, some_awaited, some_response, BO
 use razidkot_tests::client_states::*;
 use razidkot_tests::generate::Random;
 use razidkot_tests::run::{for_seeds, Outcomes};
+use razidkot_tests::tagged::LISTED_TYPES;
 
-const SIZES: [usize; 6] = [0, 1, 12, 1_035, STATE_SIZE, 1_037];
+const SIZES: [usize; 6] = [0, 1, 13, 1_036, STATE_SIZE, 1_038];
 
 /// Memory as it may lie around before a state is begun in it.
 fn any_memory(size: usize, byte: u8) -> Vec<u8> {
@@ -22,10 +23,16 @@ fn a_state_is_begun_for_listed_opcodes_in_memory_of_the_one_size() {
     for opcode in 0..=u16::MAX {
         for (size, session) in SIZES.into_iter().zip(SESSIONS.into_iter().cycle()) {
             let before = any_memory(size, opcode as u8);
-            let awaited = Awaited { opcode, session };
+            let awaited = Awaited {
+                opcode,
+                session,
+                accept_type: opcode as u8 % 5,
+            };
             let mut state = Both::new(&before);
+            let is_listed_type = LISTED_TYPES.contains(&awaited.accept_type);
             let code = match (size, OPCODES.contains(&opcode)) {
-                (STATE_SIZE, true) => 0,
+                (STATE_SIZE, true) if is_listed_type => 0,
+                (STATE_SIZE, true) => 3,
                 (STATE_SIZE, false) => 2,
                 _ => 1,
             };
@@ -42,7 +49,11 @@ fn a_state_is_begun_for_listed_opcodes_in_memory_of_the_one_size() {
 #[test]
 fn a_begun_state_awaits_the_response_to_its_request() {
     for (opcode, session) in each_with_each(&OPCODES, &SESSIONS) {
-        let awaited = Awaited { opcode, session };
+        let awaited = Awaited {
+            opcode,
+            session,
+            accept_type: 1 + (session % 2) as u8,
+        };
         let mut state = Both::new(&any_memory(STATE_SIZE, 0x5A));
         assert_eq!(state.begin(awaited), Ok(0));
         let said = state
@@ -103,7 +114,8 @@ fn damage(random: &mut Random, memory: &mut Vec<u8>) {
     let bit = 1 << random.below(8);
     let count = u16::from_le_bytes([memory[COUNT_AT], memory[COUNT_AT + 1]]);
     let held = usize::from(count).min(LONGEST_RESPONSE);
-    match random.below(10) {
+    match random.below(11) {
+        10 => memory[ACCEPT_TYPE_AT] = random.pick(&[0, 1, 2, 3, 255]),
         0 => memory[random.below(2)] ^= bit,
         1 => memory[..2].copy_from_slice(&random.pick(&[0_u16, 2, 4, 10, 256]).to_le_bytes()),
         2 => memory[2 + random.below(8)] ^= bit,
@@ -118,7 +130,7 @@ fn damage(random: &mut Random, memory: &mut Vec<u8>) {
         6 if held < LONGEST_RESPONSE => {
             memory[HELD_AT + held + random.below(LONGEST_RESPONSE - held)] ^= bit;
         }
-        7 => memory.resize(random.pick(&[0, 1, 11, 12, 1_035, 1_037, 2_072]), 0),
+        7 => memory.resize(random.pick(&[0, 1, 12, 13, 1_036, 1_038, 2_074]), 0),
         _ => memory[random.below(STATE_SIZE)] ^= bit,
     }
 }
@@ -137,6 +149,7 @@ fn a_damaged_state_is_ill_formed_exactly_where_the_layout_says() {
     let expected = [
         "another size",
         "an unlisted opcode",
+        "an unlisted accept type",
         "too many held",
         "a byte behind",
         "an unlisted opcode and too many held",
@@ -151,10 +164,7 @@ fn a_damaged_state_is_ill_formed_exactly_where_the_layout_says() {
 #[test]
 fn every_opcode_number_and_every_count_is_judged() {
     let mut outcomes = Outcomes::default();
-    let awaited = Awaited {
-        opcode: PING,
-        session: 9,
-    };
+    let awaited = Awaited::protobuf(PING, 9);
     let good = response(awaited, 0, &[0x08, 1]);
     for number in 0..=u16::MAX {
         let other = Awaited {
@@ -173,10 +183,7 @@ fn every_opcode_number_and_every_count_is_judged() {
 #[test]
 fn a_byte_anywhere_behind_those_held_is_ill_formed() {
     let mut outcomes = Outcomes::default();
-    let awaited = Awaited {
-        opcode: EXPORT,
-        session: u64::MAX,
-    };
+    let awaited = Awaited::protobuf(EXPORT, u64::MAX);
     let longest = response(awaited, 0, &[&[0x0A, 0xE3, 7], &[0xDA; 995][..]].concat());
     assert_eq!(longest.len(), LONGEST_RESPONSE);
     for held in [0, 1, 5, 6, 25, 26, 27, 500, 1_022, 1_023, 1_024] {

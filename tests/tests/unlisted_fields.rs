@@ -167,10 +167,7 @@ fn own_output(random: &mut Random, opcode: u16) -> Vec<Vec<u8>> {
 /// What the compiled reader says of a whole response with this body, which is what the reference's
 /// does, uncut and cut in two.
 fn read_by_client(random: &mut Random, opcode: u16, body: &[u8]) -> Said {
-    let awaited = Awaited {
-        opcode,
-        session: SESSION,
-    };
+    let awaited = Awaited::protobuf(opcode, SESSION);
     let differs = |body: &[u8]| hand_over(awaited, &[&response(awaited, 0, body)]).is_err();
     if differs(body) {
         panic!("{opcode}: {:02X?}", shortest(body, differs));
