@@ -20,7 +20,9 @@ RESPONSE_HEADER = "<IHBBBQBIHH"
 
 REQUEST_BUFFER = 5_120
 REQUEST_HEADER = "<IHBBBQBBBIHH"
-STATE_SIZE = 1_036
+STATE_SIZE = 1_037
+# Of bodies: Protocol Buffers, both ways.
+FORMAT = 1
 # Numbers of the client's answers.
 WAITING, RESPONSE, UNREADABLE_BODY = 0, 1, 9
 NOTHING, VERSION, PROVIDERS, OPCODES, DATA, OFFSET = range(6)
@@ -160,17 +162,19 @@ class Client:
         self._writers = {}
         for operation, arguments in self.ARGUMENTS.items():
             writer = getattr(library, f"razidkot_client_write_{operation}")
-            writer.argtypes = SLICE + [ctypes.c_uint64, ctypes.c_bool] + SLICE + arguments
+            types = [ctypes.c_uint64, ctypes.c_uint8, ctypes.c_uint8, ctypes.c_bool]
+            writer.argtypes = SLICE + types + SLICE + arguments
             writer.restype = Request
             self._writers[operation] = writer
         self._begin = library.razidkot_client_begin
-        self._begin.argtypes = SLICE + [ctypes.c_uint16, ctypes.c_uint64]
+        self._begin.argtypes = SLICE + [ctypes.c_uint16, ctypes.c_uint64, ctypes.c_uint8]
         self._begin.restype = ctypes.c_uint32
         self._read = library.razidkot_client_read
         self._read.argtypes = SLICE + SLICE
         self._read.restype = ClientAnswer
         self._read_list = library.razidkot_client_read_list
-        self._read_list.argtypes = SLICE + [ctypes.POINTER(ctypes.c_uint32), ctypes.c_size_t]
+        entries = [ctypes.POINTER(ctypes.c_uint32), ctypes.c_size_t]
+        self._read_list.argtypes = [ctypes.c_uint8] + SLICE + entries
         self._read_list.restype = ctypes.c_size_t
 
     def write(self, operation, session, application, *values):
@@ -180,7 +184,7 @@ class Client:
         spread = []
         for value in values:
             spread += [value, len(value)] if isinstance(value, bytes) else [value]
-        sender = (session, application is not None, name, len(name))
+        sender = (session, FORMAT, FORMAT, application is not None, name, len(name))
         request = self._writers[operation](out, REQUEST_BUFFER, *sender, *spread)
         if request.code != 0:
             raise ValueError(f"a request refused: {request.code}")
@@ -193,7 +197,7 @@ class Client:
     def read(self, opcode, session, chunks):
         """The code, the status, the output's kind and its values, once there is more than to wait."""
         state = ctypes.create_string_buffer(STATE_SIZE)
-        if self._begin(state, STATE_SIZE, opcode, session) != 0:
+        if self._begin(state, STATE_SIZE, opcode, session, FORMAT) != 0:
             raise ValueError("a state not begun")
         for chunk in chunks:
             answer = self._read(state, STATE_SIZE, chunk, len(chunk))
@@ -216,5 +220,5 @@ class Client:
             return [placed]
         # Each entry has at least one byte.
         entries = (ctypes.c_uint32 * len(placed))()
-        count = self._read_list(placed, len(placed), entries, len(placed))
+        count = self._read_list(FORMAT, placed, len(placed), entries, len(placed))
         return [entries[:count]]
