@@ -207,7 +207,10 @@ enum razidkot_journal_code {
     RAZIDKOT_JOURNAL_WRONG_CRC = 1,
     /* J2: no import's or destroy's layout. */
     RAZIDKOT_JOURNAL_WRONG_LAYOUT = 2,
-    /* J3: its line is not in use, or Import or Destroy would refuse it. */
+    /*
+     * J3: its line is not in use, or Import or Destroy would refuse it. Bits from 1,024 to 4,096 in multiples of 8 are
+     * good here, as they once were for Import.
+     */
     RAZIDKOT_JOURNAL_NOT_ALLOWED = 3,
     /* They end within a record: at the end of the file a cut record, which is no fault. */
     RAZIDKOT_JOURNAL_WITHIN_RECORD = 4,

@@ -58,9 +58,10 @@ extern "C" {
 #define RAZIDKOT_CLIENT_HASH_SIZE 32
 /* The most bytes of a request's body: a longer one, which only PsaAsymmetricVerify could have, is refused. */
 #define RAZIDKOT_CLIENT_LONGEST_BODY 4096
-/* A key's bits, which are a multiple of 8. */
-#define RAZIDKOT_CLIENT_LEAST_BITS 1024
+/* The bits of a key that is imported: the least, the most, and from one length to the next. No other is taken. */
+#define RAZIDKOT_CLIENT_LEAST_BITS 2048
 #define RAZIDKOT_CLIENT_MOST_BITS 4096
+#define RAZIDKOT_CLIENT_BITS_STEP 1024
 
 /* The providers: those that razidkot_client_write_list_opcodes may name, and the entries of ListProviders' list. */
 enum razidkot_client_provider {
@@ -92,7 +93,7 @@ enum razidkot_client_write_code {
     RAZIDKOT_CLIENT_WRITE_KEY_NAME_ILLEGAL = 3,
     /* The data is not of 1 to 600 bytes. */
     RAZIDKOT_CLIENT_WRITE_DATA_ILLEGAL = 4,
-    /* The bits are not 1,024 to 4,096, or no multiple of 8. */
+    /* The bits are not 2,048, 3,072 or 4,096: the service would answer RAZIDKOT_PSA_ERROR_NOT_SUPPORTED. */
     RAZIDKOT_CLIENT_WRITE_BITS_ILLEGAL = 5,
     /* The hash is not of 32 bytes. */
     RAZIDKOT_CLIENT_WRITE_HASH_ILLEGAL = 6,
@@ -133,8 +134,8 @@ razidkot_client_request razidkot_client_write_list_opcodes(uint8_t *out, size_t 
 
 /*
  * PsaImportKey: keeps a public key under a name. `bytes` is its data, which the service keeps as it is, and `bits` the
- * key's length; `exported` and `verified` say whether it may be exported, and used to verify. A key that is to verify is a
- * DER RSAPublicKey (RFC 8017); no other data is refused here.
+ * key's length: 2,048, 3,072 or 4,096. `exported` and `verified` say whether it may be exported, and used to verify. A key
+ * that is to verify is a DER RSAPublicKey (RFC 8017); no other data is refused here.
  */
 razidkot_client_request razidkot_client_write_import(uint8_t *out, size_t out_length, uint64_t session,
                                                      bool named, const uint8_t *application, size_t application_length,

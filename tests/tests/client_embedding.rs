@@ -177,6 +177,7 @@ fn sizes() -> Vec<(String, u64)> {
         ("LONGEST_BODY", LONGEST_BODY as u64),
         ("LEAST_BITS", LEAST_BITS.into()),
         ("MOST_BITS", MOST_BITS.into()),
+        ("BITS_STEP", BITS_STEP.into()),
     ])
 }
 

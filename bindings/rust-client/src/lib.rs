@@ -69,7 +69,9 @@ pub const LONGEST_DATA: usize = 600;
 pub const HASH_SIZE: usize = 32;
 /// The most bytes of a request's body; only a verify could have a longer one.
 pub const LONGEST_BODY: usize = 4_096;
-/// The least bits of a key, which has a multiple of 8.
-pub const LEAST_BITS: u32 = 1_024;
-/// The most bits of a key.
+/// The least bits of a key that is imported: 2,048, 3,072 or 4,096.
+pub const LEAST_BITS: u32 = 2_048;
+/// The most bits of a key that is imported.
 pub const MOST_BITS: u32 = 4_096;
+/// From one length of keys to the next.
+pub const BITS_STEP: u32 = 1_024;

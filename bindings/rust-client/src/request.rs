@@ -134,7 +134,7 @@ pub struct Import<'a> {
     pub name: &'a [u8],
     /// 1 to 600 bytes, which the service keeps as they are.
     pub data: &'a [u8],
-    /// The key's length: 1,024 to 4,096, a multiple of 8.
+    /// The key's length: 2,048, 3,072 or 4,096.
     pub bits: u32,
     /// May it be exported?
     pub export_allowed: bool,
@@ -145,7 +145,8 @@ pub struct Import<'a> {
 
 /// A signature to be checked: RSASSA-PKCS1-v1_5 with SHA-256 (RFC 8017, 8.2.2), the hash standing
 /// for the message's. Status 0 says that it is the key's, [`PsaErrorInvalidSignature`] that it is
-/// not, [`PsaErrorNotSupported`] that the key's data can't be used so.
+/// not, [`PsaErrorNotSupported`] that the key can't be used so: its data is no RSAPublicKey with a
+/// modulus of the key's bits, or those are other bits than Import takes.
 ///
 /// [`PsaErrorInvalidSignature`]: crate::Status::PsaErrorInvalidSignature
 /// [`PsaErrorNotSupported`]: crate::Status::PsaErrorNotSupported
@@ -198,7 +199,8 @@ pub enum WriteRefusal {
     KeyNameIllegal = 3,
     /// Data not of 1 to 600 bytes.
     DataIllegal = 4,
-    /// Bits that are not 1,024 to 4,096, or no multiple of 8.
+    /// Bits other than 2,048, 3,072 and 4,096. The service would answer
+    /// [`PsaErrorNotSupported`](crate::Status::PsaErrorNotSupported).
     BitsIllegal = 5,
     /// A hash not of [`HASH_SIZE`] bytes.
     HashIllegal = 6,

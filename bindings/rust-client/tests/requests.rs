@@ -1,7 +1,7 @@
 //! Requests written through the safe types: their bytes, their bounds and what is refused.
 
 use razidkot_client::{
-    Import, Opcode, Operation, Request, Verify, WriteRefusal, HASH_SIZE, LEAST_BITS,
+    Import, Opcode, Operation, Request, Verify, WriteRefusal, BITS_STEP, HASH_SIZE, LEAST_BITS,
     LEAST_REQUEST_BUFFER, LONGEST_APPLICATION_NAME, LONGEST_BODY, LONGEST_DATA, LONGEST_KEY_NAME,
     LONGEST_REQUEST, MOST_BITS,
 };
@@ -118,13 +118,16 @@ fn bounds_themselves_are_written() {
     };
     let (result, _) = written(&request(Some(&application), Operation::ImportKey(longest)));
     assert_eq!(result, Ok(28 + 644 + LONGEST_APPLICATION_NAME));
-    let least = Import {
-        data: &[0],
-        bits: LEAST_BITS,
-        ..IMPORT
-    };
-    let (result, _) = written(&request(Some(b"b"), Operation::ImportKey(least)));
-    assert_eq!(result, Ok(28 + 13 + 1));
+    for bits in (LEAST_BITS..=MOST_BITS).step_by(BITS_STEP as usize) {
+        let data = &[0];
+        let least = Import {
+            data,
+            bits,
+            ..IMPORT
+        };
+        let (result, _) = written(&request(Some(b"b"), Operation::ImportKey(least)));
+        assert_eq!(result, Ok(28 + 13 + 1), "{bits}");
+    }
 }
 
 /// The name's field has 2 bytes more than the name, the hash's 34, the signature's 3 more than it.
@@ -188,7 +191,9 @@ fn past_the_bounds_requests_are_refused() {
         let import = Operation::ImportKey(Import { data, ..IMPORT });
         expect_refused(request(Some(b"b"), import), DataIllegal);
     }
-    for bits in [0, LEAST_BITS - 8, LEAST_BITS + 4, MOST_BITS + 8, u32::MAX] {
+    let taken = [2_048, 3_072, 4_096];
+    let others = (0..=5_000).filter(|bits| !taken.contains(bits));
+    for bits in others.chain([u32::MAX]) {
         let import = Operation::ImportKey(Import { bits, ..IMPORT });
         expect_refused(request(Some(b"b"), import), BitsIllegal);
     }

@@ -25,7 +25,8 @@ pub struct Key<'a> {
     pub name: &'a [u8],
     /// 1 to 600 bytes.
     pub data: &'a [u8],
-    /// 1,024 to 4,096, a multiple of 8.
+    /// 2,048, 3,072 or 4,096; of a key that was imported by an earlier version any multiple of 8 from
+    /// 1,024 to 4,096. With such a key Verify answers 1134.
     pub bits: u16,
     /// May it be exported?
     pub export_allowed: bool,

@@ -276,9 +276,9 @@ mod tests {
     const EXPORT: &[u8] = b"\x10\xA7\xC0\x5E\x16\x00\x01\x00\x01\0\0\0\0\0\0\0\0\x01\x01\x01\
         \x03\0\0\0\x01\0\x07\0\x0A\x01kb";
 
-    /// An Import of the key `k`, data AA, 1,024 bits, export allowed, by the application `b`.
+    /// An Import of the key `k`, data AA, 2,048 bits, export allowed, by the application `b`.
     const IMPORT: &[u8] = b"\x10\xA7\xC0\x5E\x16\x00\x01\x00\x01\0\0\0\0\0\0\0\0\x01\x01\x01\
-        \x0B\0\0\0\x01\0\x06\0\x0A\x01k\x12\x01\xAA\x18\x80\x08\x20\x01b";
+        \x0B\0\0\0\x01\0\x06\0\x0A\x01k\x12\x01\xAA\x18\x80\x10\x20\x01b";
 
     fn registry() -> Registry {
         Registry::load(b"\x01\x01\x00b").expect("a good roster")
