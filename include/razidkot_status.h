@@ -27,6 +27,7 @@ enum razidkot_status {
     RAZIDKOT_NOT_AUTHENTICATED = 19,
     RAZIDKOT_BODY_SIZE_EXCEEDS_LIMIT = 20,
     RAZIDKOT_PSA_ERROR_NOT_PERMITTED = 1133,
+    /* Of an import: bits other than 2,048, 3,072 and 4,096. Of a verify: a key that can't be used so. */
     RAZIDKOT_PSA_ERROR_NOT_SUPPORTED = 1134,
     RAZIDKOT_PSA_ERROR_INVALID_ARGUMENT = 1135,
     RAZIDKOT_PSA_ERROR_ALREADY_EXISTS = 1139,

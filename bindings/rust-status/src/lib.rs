@@ -25,6 +25,7 @@ pub enum Status {
     NotAuthenticated = 19,
     BodySizeExceedsLimit = 20,
     PsaErrorNotPermitted = 1133,
+    /// Of an Import: bits other than 2,048, 3,072 and 4,096. Of a verify: a key that can't be used so.
     PsaErrorNotSupported = 1134,
     PsaErrorInvalidArgument = 1135,
     PsaErrorAlreadyExists = 1139,
