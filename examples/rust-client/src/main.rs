@@ -28,7 +28,7 @@ const IMPORT: Import = Import {
 const SERIES: Import = Import {
     name: b"series",
     data: series::DATA,
-    bits: 1_024,
+    bits: 2_048,
     export_allowed: false,
     verify_allowed: true,
 };
