@@ -14,6 +14,9 @@ use std::os::unix::ffi::OsStringExt;
 use std::os::unix::net::UnixStream;
 use std::path::{Path, PathBuf};
 
+/// The service's answer to an import with other bits than those that it takes.
+const NOT_SUPPORTED: Status = Status::PsaErrorNotSupported;
+
 /// What the command line asks for.
 struct Ask {
     socket: PathBuf,
@@ -270,7 +273,11 @@ impl Ask {
             }
             (WriteRefusal::BitsIllegal, Asked::Import(key)) => {
                 let (file, bits) = (key.file.display(), key.bits);
-                format!("{file}: {bits} bits, not 1024 to 4096 in multiples of 8")
+                let (would, number) = (NOT_SUPPORTED, NOT_SUPPORTED.number());
+                format!(
+                    "{file}: {bits} bits, not 2048, 3072 or 4096: \
+                     the service would answer {would:?} (status {number})"
+                )
             }
             (WriteRefusal::HashIllegal, Asked::Verify(asked)) => {
                 let (from, length) = (asked.hash_from.display(), asked.hash.len());

@@ -64,7 +64,8 @@ A key's FILE is one of these; what is listed is the DER of the RSAPublicKey (PKC
   DER, an RSAPublicKey         as it is
   DER, SubjectPublicKeyInfo    the RSAPublicKey in it
 Any other file is listed as it is: it can be exported, and `verify` with it is PsaErrorNotSupported.
-PEM with another label, and DER that begins like a private key, are refused.
+So is `verify` with a key that is not of 2048, 3072 or 4096 bits. PEM with another label, and DER
+that begins like a private key, are refused.
 ";
 
 const LIST_SHOW: &str = "\
@@ -120,8 +121,8 @@ razidkot ask SOCKET import NAME FILE --app NAME [--bits N] [--export] [--verify]
 
 Keeps the public key of FILE under this name, for the application.
 
-  --bits N     the key's length; may be left out where FILE has an RSA public key, whose modulus
-               says it, and must not say otherwise there
+  --bits N     the key's length: 2048, 3072 or 4096; may be left out where FILE has an RSA public
+               key, whose modulus says it, and must not say otherwise there
   --export     it may be exported
   --verify     it may be used to verify
 
@@ -162,7 +163,8 @@ SHA-256 (RFC 8017). The key was imported with --verify, or is on the service's l
 
 Prints `good signature`, with status 0, only if the service has checked it and it is good. The
 status is 3 if it is bad (PsaErrorInvalidSignature), and 1 if it was not checked: no such key, one
-that may not verify, one that is no RSA public key of its bits (PsaErrorNotSupported), no service.
+that may not verify, one that is no RSA public key of its bits, or not of 2048, 3072 or 4096 bits
+(PsaErrorNotSupported), no service.
 ";
 
 const CAPTURE: &str = "\

@@ -2,7 +2,7 @@
 
 mod common;
 
-use common::keys::{Forms, Signed, PEM};
+use common::keys::{Forms, Signed, PEM, SHORT_PEM};
 use common::{folder, free, razidkot, series, Ended};
 use razidkot_client::{Import, Operation, Request, Verify, LEAST_REQUEST_BUFFER};
 use razidkot_tests::ask::record;
@@ -116,7 +116,7 @@ fn a_keys_life() {
     let asked = |words: &[&OsStr]| service.ask(&[words, app].concat());
     let refused = |words: &[&OsStr], said| service.assert_refused(&[words, app].concat(), said);
 
-    let import = words!["import", "k", file, "--bits", "1024", "--export"];
+    let import = words!["import", "k", file, "--bits", "2048", "--export"];
     assert_eq!(asked(import).printed(), b"");
     refused(import, "PsaErrorAlreadyExists (status 1139)");
     service.assert_refused(import, "NotAuthenticated (status 19)");
@@ -139,7 +139,7 @@ fn a_keys_life() {
     assert_eq!(asked(words!["destroy", "k"]).printed(), b"");
     refused(words!["destroy", "k"], "PsaErrorDoesNotExist (status 1140)");
     for name in ["--", "b", "c", "d", "e", "f", "g"] {
-        let import = words!["--bits", "1024", "--app", "scanner", "import", "--", name, file];
+        let import = words!["--bits", "2048", "--app", "scanner", "import", "--", name, file];
         assert_eq!(service.ask(import).printed(), b"");
     }
     refused(import, "PsaErrorInsufficientStorage (status 1142)");
@@ -160,7 +160,7 @@ fn the_keys_of_the_services_list() {
     }
     let app = words!["--app", "scanner"];
     let refused = |words: &[&OsStr], said| service.assert_refused(&[words, app].concat(), said);
-    let import = words!["import", "release", other, "--bits", "1024", "--export"];
+    let import = words!["import", "release", other, "--bits", "2048", "--export"];
     refused(import, "PsaErrorAlreadyExists (status 1139)");
     refused(
         words!["destroy", "release"],
@@ -192,7 +192,7 @@ fn the_key_of_each_form_comes_back_as_der() {
 fn a_data_file_that_cannot_be_written_is_named() {
     let (service, folder) = (Service::start("unwritten"), folder("unwritten"));
     let file = folder.file("any", b"\x01");
-    let import = words!["import", "k", file, "--bits", "1024", "--export", "--app", "scanner"];
+    let import = words!["import", "k", file, "--bits", "2048", "--export", "--app", "scanner"];
     assert_eq!(service.ask(import).printed(), b"");
     let out = folder.missing().join("out");
     let said = format!("{}: No such file or directory (os error 2)", out.display());
@@ -229,7 +229,7 @@ fn a_signature_is_good_or_bad_and_told_in_words() {
     );
     let other = ABC.replace("ba78", "ba79");
     verify(OsStr::new(&other), &signature).assert_bad_signature(&bad);
-    for wrong in [&series::SIGNATURE[1..], b"", &[0xFF; 128], &[0; 4_000]] {
+    for wrong in [&series::SIGNATURE[1..], b"", &[0xFF; 256], &[0; 4_000]] {
         let wrong = folder.file("wrong", wrong);
         verify(OsStr::new(ABC), &wrong).assert_bad_signature(&bad);
     }
@@ -249,7 +249,7 @@ fn a_signature_that_is_not_checked_has_status_1() {
     refused("k", "PsaErrorDoesNotExist (status 1140)");
     for (name, file, more) in [
         ("k", &key, words!["--export"]),
-        ("other", &other, words!["--bits", "1024", "--verify"]),
+        ("other", &other, words!["--bits", "2048", "--verify"]),
     ] {
         let import = words!["import", name, file, "--app", "scanner"];
         assert_eq!(service.ask(&[import, more].concat()).printed(), b"");
@@ -265,7 +265,7 @@ fn a_signature_that_is_not_checked_has_status_1() {
 fn what_openssl_signs_is_good() {
     let (service, folder) = (Service::start("openssl"), folder("openssl"));
     let mut made = 0;
-    for bits in [1_024, 2_048] {
+    for bits in [2_048, 3_072] {
         let Some(signed) = Signed::made(&folder, bits) else {
             continue;
         };
@@ -296,7 +296,7 @@ fn what_the_client_refuses_needs_no_service() {
         let said = format!("NAME \"{shown}\": not 1 to 32 bytes, each 0x21 to 0x7E");
         refused(words!["export", given], &said);
         refused(words!["destroy", given], &said);
-        refused(words!["import", given, key, "--bits", "1024"], &said);
+        refused(words!["import", given, key, "--bits", "2048"], &said);
     }
     let (hash, signature) = (folder.file("hash", &[0; 31]), folder.file("signature", b""));
     let verify = |more: &[&OsStr], said: &str| {
@@ -320,15 +320,18 @@ fn what_the_client_refuses_needs_no_service() {
     }
     for (file, length) in [(&empty, 0), (&long, 601)] {
         let said = format!("{}: {length} bytes of data, not 1 to 600", file.display());
-        refused(words!["import", "k", file, "--bits", "1024"], &said);
+        refused(words!["import", "k", file, "--bits", "2048"], &said);
     }
-    for bits in ["0", "1016", "1028", "4104", "4294967295"] {
-        let said = format!(
-            "{}: {bits} bits, not 1024 to 4096 in multiples of 8",
-            key.display()
-        );
+    for bits in ["0", "1024", "2047", "2056", "4104", "4294967295"] {
+        let said = format!("{}: {}", key.display(), bits_refused(bits));
         refused(words!["import", "k", key, "--bits", bits], &said);
     }
+}
+
+/// What is said of bits that Import doesn't take.
+fn bits_refused(bits: &str) -> String {
+    let would = "the service would answer PsaErrorNotSupported (status 1134)";
+    format!("{bits} bits, not 2048, 3072 or 4096: {would}")
 }
 
 /// The file is named, and why it is not sent.
@@ -348,13 +351,23 @@ fn a_key_file_that_will_not_do_is_named() {
     let reason = "no RSA public key whose modulus says its bits: say --bits";
     assert_not_sent(&file, &[], reason);
     let file = folder.file("private.der", b"\x30\x06\x02\x01\x00\x02\x01\x05");
-    let bits = words!["--bits", "1024"];
+    let bits = words!["--bits", "2048"];
     assert_not_sent(&file, bits, "DER that begins like a private key");
     // A modulus of nine bits says so, and the client refuses them.
     let file = folder.file("small.der", b"\x30\x07\x02\x02\x01\x0D\x02\x01\x03");
-    let reason = "9 bits, not 1024 to 4096 in multiples of 8";
-    assert_not_sent(&file, &[], reason);
-    assert_not_sent(&file, words!["--bits", "9"], reason);
+    let reason = bits_refused("9");
+    assert_not_sent(&file, &[], &reason);
+    assert_not_sent(&file, words!["--bits", "9"], &reason);
+}
+
+#[test]
+fn a_key_of_1024_bits_is_refused_as_the_service_would() {
+    let folder = folder("short_key");
+    let file = folder.file("short.pem", SHORT_PEM.as_bytes());
+    assert_not_sent(&file, &[], &bits_refused("1024"));
+    assert_not_sent(&file, words!["--bits", "1024"], &bits_refused("1024"));
+    let bits = words!["--bits", "2048"];
+    assert_not_sent(&file, bits, "the modulus has 1024 bits, not 2048");
 }
 
 #[test]
@@ -385,9 +398,9 @@ fn a_hash_that_is_neither_digits_nor_a_file_is_named() {
 fn pem_that_will_not_do_is_named() {
     let folder = folder("pem_files");
     let file = folder.file("key.pem", PEM.as_bytes());
+    let bits = words!["--bits", "3072"];
+    assert_not_sent(&file, bits, "the modulus has 2048 bits, not 3072");
     let bits = words!["--bits", "2048"];
-    assert_not_sent(&file, bits, "the modulus has 1024 bits, not 2048");
-    let bits = words!["--bits", "1024"];
     for (text, reason) in [
         (
             PEM.replace("RSA PUBLIC", "PRIVATE"),
@@ -398,7 +411,7 @@ fn pem_that_will_not_do_is_named() {
             "PEM without a DER SubjectPublicKeyInfo of RSA",
         ),
         (PEM[..90].into(), "a PEM block that is not whole"),
-        (PEM.replace("MIGJ", "MIG!"), "PEM that is not base64"),
+        (PEM.replace("MIIB", "MII!"), "PEM that is not base64"),
         ([PEM, PEM].concat(), "more than one PEM block"),
     ] {
         let file = folder.file("other.pem", text.as_bytes());
@@ -539,7 +552,7 @@ fn an_import_sends_the_key_and_what_it_may_be_used_for() {
     let file = folder.file("key.pem", &forms.info_pem);
     let cases = [
         (&[][..], false, false),
-        (words!["--bits=1024"], false, false),
+        (words!["--bits=2048"], false, false),
         (words!["--export"], true, false),
         (words!["--verify"], false, true),
         (words!["--export", "--verify"], true, true),
@@ -548,7 +561,7 @@ fn an_import_sends_the_key_and_what_it_may_be_used_for() {
         let key = Import {
             name: b"a",
             data: &forms.der,
-            bits: 1_024,
+            bits: 2_048,
             export_allowed,
             verify_allowed,
         };

@@ -57,8 +57,8 @@ fn the_keys_that_are_made_are_shown() {
     let lines = [
         "-o 1 bytes, no RSA public key\n",
         "!\"#$%&'()*+, 600 bytes, no RSA public key\n",
-        &format!("{longest} 140 bytes, RSA public key of 1024 bits\n"),
-        "\\ 140 bytes, RSA public key of 1024 bits\n",
+        &format!("{longest} 270 bytes, RSA public key of 2048 bits\n"),
+        "\\ 270 bytes, RSA public key of 2048 bits\n",
     ];
     for count in 0..=4 {
         let expected: Vec<_> = keys.iter().map(|key| key.0).zip(data).take(count).collect();

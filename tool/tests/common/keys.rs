@@ -5,31 +5,49 @@ use std::fs;
 use std::path::Path;
 use std::process::{Command, Stdio};
 
-/// An RSAPublicKey of 1,024 bits and the same in a SubjectPublicKeyInfo, as OpenSSL writes them.
+/// An RSAPublicKey of 2,048 bits and the same in a SubjectPublicKeyInfo, as OpenSSL writes them.
 pub const PEM: &str = "-----BEGIN RSA PUBLIC KEY-----
+MIIBCgKCAQEAqZPCPRQl4WzBFDqJVNrrAfEfldzQJkdTbuyMbqFyAuAM9I0GYR8k
+mPvYQRtc1Gq4CmeU496c2uJXBMruDMaS94cN2Csq24T4qm122fFBi17l0waFE3rT
+tl3gZ3uyVJb6cpS1X9AoOOE0bTTK9hegtKQ2jR6hpL4NoIe/dDc2BztdUfYlTcmG
+QzoWmsKxIQmwqqAQhhv01a2xBmG6r5bW1VpkMidFS9297tw4n8kmLQR/ZGNcl6bi
+BIqeDyWHqKLF+n1gOR5hufk8lR7Q03O7uhphJSMgVcIGjU+9xFG+0wf9AguBP7oW
+6Oynj5hqGTEQfqTVwmW/AcpMtL7my7W1iwIDAQAB
+-----END RSA PUBLIC KEY-----
+";
+pub const INFO_PEM: &str = "-----BEGIN PUBLIC KEY-----
+MIIBIjANBgkqhkiG9w0BAQEFAAOCAQ8AMIIBCgKCAQEAqZPCPRQl4WzBFDqJVNrr
+AfEfldzQJkdTbuyMbqFyAuAM9I0GYR8kmPvYQRtc1Gq4CmeU496c2uJXBMruDMaS
+94cN2Csq24T4qm122fFBi17l0waFE3rTtl3gZ3uyVJb6cpS1X9AoOOE0bTTK9heg
+tKQ2jR6hpL4NoIe/dDc2BztdUfYlTcmGQzoWmsKxIQmwqqAQhhv01a2xBmG6r5bW
+1VpkMidFS9297tw4n8kmLQR/ZGNcl6biBIqeDyWHqKLF+n1gOR5hufk8lR7Q03O7
+uhphJSMgVcIGjU+9xFG+0wf9AguBP7oW6Oynj5hqGTEQfqTVwmW/AcpMtL7my7W1
+iwIDAQAB
+-----END PUBLIC KEY-----
+";
+/// One of 1,024 bits, which Import takes no more.
+pub const SHORT_PEM: &str = "-----BEGIN RSA PUBLIC KEY-----
 MIGJAoGBAPVk1OrJtX9o4iP+ZYpd8IOA91g/OFj9EFO2ejBrDfQqeFvCcXn2M8Ta
 3dppDJ8F/Jerf72ehPxqualRPYOOlpXiqvzgIMUDnH/dF3WyxN+rNrTdyNn2geem
 dLypjfd2KZ6eOH1qerGlEaeceE2vRecNK6dpd1yKR9Mpuc+EG5RhAgMBAAE=
 -----END RSA PUBLIC KEY-----
 ";
-pub const INFO_PEM: &str = "-----BEGIN PUBLIC KEY-----
-MIGfMA0GCSqGSIb3DQEBAQUAA4GNADCBiQKBgQD1ZNTqybV/aOIj/mWKXfCDgPdY
-PzhY/RBTtnowaw30KnhbwnF59jPE2t3aaQyfBfyXq3+9noT8armpUT2DjpaV4qr8
-4CDFA5x/3Rd1ssTfqza03cjZ9oHnpnS8qY33dimenjh9anqxpRGnnHhNr0XnDSun
-aXdcikfTKbnPhBuUYQIDAQAB
------END PUBLIC KEY-----
-";
-/// The RSAPublicKey's DER.
-pub const DER: [u8; 140] = *b"\
-\x30\x81\x89\x02\x81\x81\x00\
-\xF5\x64\xD4\xEA\xC9\xB5\x7F\x68\xE2\x23\xFE\x65\x8A\x5D\xF0\x83\x80\xF7\x58\x3F\
-\x38\x58\xFD\x10\x53\xB6\x7A\x30\x6B\x0D\xF4\x2A\x78\x5B\xC2\x71\x79\xF6\x33\xC4\
-\xDA\xDD\xDA\x69\x0C\x9F\x05\xFC\x97\xAB\x7F\xBD\x9E\x84\xFC\x6A\xB9\xA9\x51\x3D\
-\x83\x8E\x96\x95\xE2\xAA\xFC\xE0\x20\xC5\x03\x9C\x7F\xDD\x17\x75\xB2\xC4\xDF\xAB\
-\x36\xB4\xDD\xC8\xD9\xF6\x81\xE7\xA6\x74\xBC\xA9\x8D\xF7\x76\x29\x9E\x9E\x38\x7D\
-\x6A\x7A\xB1\xA5\x11\xA7\x9C\x78\x4D\xAF\x45\xE7\x0D\x2B\xA7\x69\x77\x5C\x8A\x47\
-\xD3\x29\xB9\xCF\x84\x1B\x94\x61\
-\x02\x03\x01\x00\x01";
+/// The DER of that of 2,048 bits.
+pub const DER: [u8; 270] = *b"\
+\x30\x82\x01\x0A\x02\x82\x01\x01\x00\xA9\x93\xC2\x3D\x14\x25\xE1\x6C\xC1\x14\x3A\
+\x89\x54\xDA\xEB\x01\xF1\x1F\x95\xDC\xD0\x26\x47\x53\x6E\xEC\x8C\x6E\xA1\x72\x02\
+\xE0\x0C\xF4\x8D\x06\x61\x1F\x24\x98\xFB\xD8\x41\x1B\x5C\xD4\x6A\xB8\x0A\x67\x94\
+\xE3\xDE\x9C\xDA\xE2\x57\x04\xCA\xEE\x0C\xC6\x92\xF7\x87\x0D\xD8\x2B\x2A\xDB\x84\
+\xF8\xAA\x6D\x76\xD9\xF1\x41\x8B\x5E\xE5\xD3\x06\x85\x13\x7A\xD3\xB6\x5D\xE0\x67\
+\x7B\xB2\x54\x96\xFA\x72\x94\xB5\x5F\xD0\x28\x38\xE1\x34\x6D\x34\xCA\xF6\x17\xA0\
+\xB4\xA4\x36\x8D\x1E\xA1\xA4\xBE\x0D\xA0\x87\xBF\x74\x37\x36\x07\x3B\x5D\x51\xF6\
+\x25\x4D\xC9\x86\x43\x3A\x16\x9A\xC2\xB1\x21\x09\xB0\xAA\xA0\x10\x86\x1B\xF4\xD5\
+\xAD\xB1\x06\x61\xBA\xAF\x96\xD6\xD5\x5A\x64\x32\x27\x45\x4B\xDD\xBD\xEE\xDC\x38\
+\x9F\xC9\x26\x2D\x04\x7F\x64\x63\x5C\x97\xA6\xE2\x04\x8A\x9E\x0F\x25\x87\xA8\xA2\
+\xC5\xFA\x7D\x60\x39\x1E\x61\xB9\xF9\x3C\x95\x1E\xD0\xD3\x73\xBB\xBA\x1A\x61\x25\
+\x23\x20\x55\xC2\x06\x8D\x4F\xBD\xC4\x51\xBE\xD3\x07\xFD\x02\x0B\x81\x3F\xBA\x16\
+\xE8\xEC\xA7\x8F\x98\x6A\x19\x31\x10\x7E\xA4\xD5\xC2\x65\xBF\x01\xCA\x4C\xB4\xBE\
+\xE6\xCB\xB5\xB5\x8B\x02\x03\x01\x00\x01";
 
 /// A key's four files.
 pub struct Forms {
@@ -45,9 +63,15 @@ impl Forms {
     pub fn fixed() -> Forms {
         // A SubjectPublicKeyInfo: its sequence, the algorithm, the bit string's beginning, the key.
         let algorithm = b"\x30\x0D\x06\x09\x2A\x86\x48\x86\xF7\x0D\x01\x01\x01\x05\x00";
-        let info_der = [b"\x30\x81\x9F", &algorithm[..], b"\x03\x81\x8D\x00", &DER].concat();
+        let info_der = [
+            b"\x30\x82\x01\x22",
+            &algorithm[..],
+            b"\x03\x82\x01\x0F\x00",
+            &DER,
+        ]
+        .concat();
         Forms {
-            bits: 1_024,
+            bits: 2_048,
             pem: PEM.into(),
             info_pem: INFO_PEM.into(),
             der: DER.to_vec(),
