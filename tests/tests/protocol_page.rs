@@ -425,7 +425,7 @@ fn the_order_of_judgement_is_that_of_the_compiled_service() {
         assert_eq!(said, Vec::from_iter(first), "{draft:?}");
     }
     // Every status of the third step is there, or named below the table.
-    let elsewhere = [0, 17, 20, 1133, 1134, 1140, 1149];
+    let elsewhere = [0, 17, 20, 1133, 1140, 1149];
     let all: BTreeSet<u64> = order.into_iter().chain(elsewhere).collect();
     assert_eq!(all.len(), 1 + Status::REFUSED.len());
 }
@@ -500,7 +500,12 @@ fn the_limits_are_the_constants() {
     expect("an application's name", 1, LONGEST_APPLICATION_NAME as u64);
     expect("a key's name", 1, LONGEST_KEY_NAME as u64);
     expect("a key's data", 1, LONGEST_DATA as u64);
-    expect("bits, a multiple of 8", LEAST_BITS.into(), MOST_BITS.into());
+    expect(
+        "bits of a key that is imported, in steps of 1,024",
+        LEAST_BITS.into(),
+        MOST_BITS.into(),
+    );
+    assert_eq!(BITS_STEP, 1_024);
     expect("a hash", HASH_SIZE as u64, HASH_SIZE as u64);
     expect("applications on a roster", 0, razidkot::LINES as u64);
     expect("keys of an application", 0, SLOTS as u64);

@@ -12,11 +12,13 @@ pub struct Draft {
     body: &'static [u8],
 }
 
-/// A new key; a key that is held; the same with bits out of bounds, and then cut.
+/// A new key; a key that is held; the same with other bits than are taken, then without data, and
+/// then cut.
 const NEW: &[u8] = b"\x0A\x01z\x12\x02\xAA\xBB\x18\x80\x10";
 const HELD: &[u8] = b"\x0A\x01a\x12\x02\xAA\xBB\x18\x80\x10";
-const ILLEGAL: &[u8] = b"\x0A\x01a\x12\x02\xAA\xBB\x18\x01";
-const CUT: &[u8] = b"\x0A\x01a\x12\x02\xAA\xBB\x18\x01\x0A";
+const OTHER_BITS: &[u8] = b"\x0A\x01a\x12\x02\xAA\xBB\x18\x80\x08";
+const ILLEGAL: &[u8] = b"\x0A\x01a\x18\x80\x08";
+const CUT: &[u8] = b"\x0A\x01a\x18\x80\x08\x0A";
 
 impl Draft {
     pub fn bytes(&self) -> Vec<u8> {
@@ -48,6 +50,7 @@ impl Draft {
             19 => self.auth.0 == 0,
             7 => self.body == CUT,
             1135 => [ILLEGAL, CUT].contains(&self.body),
+            1134 => [OTHER_BITS, ILLEGAL, CUT].contains(&self.body),
             1139 => self.body != NEW,
             1142 => true,
             _ => panic!("no fault is known for {status}"),
@@ -87,7 +90,6 @@ pub fn drafts() -> Vec<Draft> {
         draft.provider = provider
     });
     let drafts = each(drafts, &auths, |draft, auth| draft.auth = auth);
-    each(drafts, &[NEW, HELD, ILLEGAL, CUT], |draft, body| {
-        draft.body = body
-    })
+    let bodies = [NEW, HELD, OTHER_BITS, ILLEGAL, CUT];
+    each(drafts, &bodies, |draft, body| draft.body = body)
 }
