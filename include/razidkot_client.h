@@ -206,11 +206,17 @@ enum razidkot_client_read_code {
     RAZIDKOT_CLIENT_READ_NOT_ITS_REQUESTS = 7,
     /* At the header's last byte: content above 998 bytes. */
     RAZIDKOT_CLIENT_READ_CONTENT_TOO_LONG = 8,
-    /* At the body's last byte: not the output of that operation, or any body on a status other than 0. */
+    /*
+     * At the body's last byte: on status 0 not the output of that operation, on status 7 no offset, on any other status
+     * any body.
+     */
     RAZIDKOT_CLIENT_READ_UNREADABLE_BODY = 9
 };
 
-/* What a response has besides its status. Any status but RAZIDKOT_SUCCESS has nothing. */
+/*
+ * What a response has besides its status. Any status but RAZIDKOT_SUCCESS has nothing, but for
+ * RAZIDKOT_DESERIALIZING_BODY_FAILED, which has an offset always.
+ */
 enum razidkot_client_output_kind {
     /* Of PsaImportKey, PsaDestroyKey and PsaAsymmetricVerify. */
     RAZIDKOT_CLIENT_OUTPUT_NOTHING = 0,
@@ -221,7 +227,9 @@ enum razidkot_client_output_kind {
     /* Of ListOpcodes: a list. */
     RAZIDKOT_CLIENT_OUTPUT_OPCODES = 3,
     /* Of PsaExportPublicKey: the key's data. */
-    RAZIDKOT_CLIENT_OUTPUT_DATA = 4
+    RAZIDKOT_CLIENT_OUTPUT_DATA = 4,
+    /* Of RAZIDKOT_DESERIALIZING_BODY_FAILED, whatever the operation: `offset`. */
+    RAZIDKOT_CLIENT_OUTPUT_OFFSET = 5
 };
 
 /* What an output doesn't have is 0. */
@@ -231,6 +239,8 @@ typedef struct {
     /* The version's two numbers. */
     uint32_t major;
     uint32_t minor;
+    /* At which byte of the request's body the first field begins that the service couldn't read: its tag, from 0. */
+    uint32_t offset;
     /*
      * Where data, or a list that razidkot_client_read_list takes apart, begins in the state's memory, and how many bytes
      * it has. It lies within that memory, and stays until another state is begun there.

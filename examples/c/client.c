@@ -176,6 +176,9 @@ static void print_output(razidkot_client_output output, const uint8_t *state)
         for (size_t at = 0; at < output.length; at++)
             printf(" %02X", place[at]);
         break;
+    case RAZIDKOT_CLIENT_OUTPUT_OFFSET: /* of status 7: where the service couldn't read the request's body */
+        printf(", byte %" PRIu32 " of the body", output.offset);
+        break;
     default: /* RAZIDKOT_CLIENT_OUTPUT_NOTHING */
         break;
     }

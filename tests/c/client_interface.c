@@ -165,6 +165,7 @@ static void expect_answer(const char *what, razidkot_client_answer answer, uint3
     expect(what, answer.output.kind, output.kind);
     expect(what, answer.output.major, output.major);
     expect(what, answer.output.minor, output.minor);
+    expect(what, answer.output.offset, output.offset);
     expect(what, answer.output.start, output.start);
     expect(what, answer.output.length, output.length);
 }
@@ -176,9 +177,29 @@ static razidkot_client_output output_of(uint32_t kind, uint32_t major, uint32_t 
     output.kind = kind;
     output.major = major;
     output.minor = minor;
+    output.offset = 0;
     output.start = start;
     output.length = length;
     return output;
+}
+
+static razidkot_client_output offset_of(uint32_t offset)
+{
+    razidkot_client_output output = output_of(RAZIDKOT_CLIENT_OUTPUT_OFFSET, 0, 0, 0, 0);
+    output.offset = offset;
+    return output;
+}
+
+static void expect_offsets(void)
+{
+    const uint8_t import = RAZIDKOT_CLIENT_OPCODE_PSA_IMPORT_KEY;
+    const uint32_t status = RAZIDKOT_DESERIALIZING_BODY_FAILED;
+    expect_answer("the first byte", read_body(1, import, status, "", 0), RAZIDKOT_CLIENT_READ_RESPONSE, status, 0,
+                  offset_of(0));
+    expect_answer("a byte", read_body(1, import, status, "\x08\xFF\x1F", 3), RAZIDKOT_CLIENT_READ_RESPONSE, status, 3,
+                  offset_of(4095));
+    expect_answer("no offset", read_body(1, import, status, "\x08", 1), RAZIDKOT_CLIENT_READ_UNREADABLE_BODY, 0, 1,
+                  output_of(RAZIDKOT_CLIENT_OUTPUT_NOTHING, 0, 0, 0, 0));
 }
 
 static void expect_outputs(void)
@@ -232,6 +253,7 @@ int main(void)
     expect_verify_refusals();
     expect_states();
     expect_outputs();
+    expect_offsets();
     expect_lists();
     return failed;
 }

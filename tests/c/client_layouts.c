@@ -15,6 +15,7 @@ int main(void)
     FIELD(razidkot_client_output, kind);
     FIELD(razidkot_client_output, major);
     FIELD(razidkot_client_output, minor);
+    FIELD(razidkot_client_output, offset);
     FIELD(razidkot_client_output, start);
     FIELD(razidkot_client_output, length);
     WHOLE(razidkot_client_output);

@@ -94,7 +94,7 @@ fn the_structs_have_one_layout_in_c_cpp_and_rust() {
         layout!("razidkot_client_request", raw::Request, code: u32, written: usize),
         layout!(
             "razidkot_client_output", OutputNumbers,
-            kind: u32, major: u32, minor: u32, start: usize, length: usize
+            kind: u32, major: u32, minor: u32, offset: u32, start: usize, length: usize
         ),
         layout!(
             "razidkot_client_answer", Answer,
@@ -188,6 +188,7 @@ fn numbers_said() -> Vec<(String, u64)> {
     let kind = |opcode: Opcode| read(opcode, &response(opcode, 0, b"")).output.kind.into();
     let written = raw::write_ping(&mut [0; 5_120], 0, false, b"").code.into();
     let ping = response(Opcode::Ping, 0, b"");
+    let broken = read(Opcode::Ping, &response(Opcode::Ping, 7, b""));
     let ill_formed = raw::read(&mut [0; 1_036], b"").code.into();
     named([
         ("WRITE_WRITTEN", written),
@@ -202,6 +203,7 @@ fn numbers_said() -> Vec<(String, u64)> {
         ("OUTPUT_PROVIDERS", kind(Opcode::ListProviders)),
         ("OUTPUT_OPCODES", kind(Opcode::ListOpcodes)),
         ("OUTPUT_DATA", kind(Opcode::PsaExportPublicKey)),
+        ("OUTPUT_OFFSET", broken.output.kind.into()),
     ])
 }
 

@@ -3,7 +3,8 @@
 use crate::raw;
 use core::{fmt, iter};
 
-/// An output, read where it lies in the reader's memory. Any status but 0 has `Nothing`.
+/// An output, read where it lies in the reader's memory. Of the statuses other than 0, 7 has
+/// `Offset`, and any other has `Nothing`.
 #[derive(Clone, Debug, PartialEq, Eq)]
 pub enum Output<'a> {
     /// Of an Import, a Destroy, a verify whose signature is good, or a request that was refused.
@@ -21,6 +22,10 @@ pub enum Output<'a> {
     Opcodes(Entries<'a>),
     /// Of an Export: the key's data.
     Data(&'a [u8]),
+    /// Of a request that was refused because its body can't be read, status 7: at which byte of the
+    /// body the first unreadable field begins. It is the field's tag, and of a fault inside groups
+    /// the outermost group's.
+    Offset(u32),
 }
 
 impl<'a> Output<'a> {
@@ -36,6 +41,7 @@ impl<'a> Output<'a> {
             2 => Output::Providers(Entries { packed: place }),
             3 => Output::Opcodes(Entries { packed: place }),
             4 => Output::Data(place),
+            5 => Output::Offset(numbers.offset),
             kind => unreachable!("no output has the number {kind}"),
         }
     }

@@ -33,12 +33,14 @@ pub struct Request {
 #[derive(Clone, Copy, Debug, PartialEq, Eq)]
 #[repr(C)]
 pub struct OutputNumbers {
-    /// 0 nothing, 1 version, 2 providers, 3 opcodes, 4 data.
+    /// 0 nothing, 1 version, 2 providers, 3 opcodes, 4 data, 5 offset.
     pub kind: u32,
     /// A version's first number.
     pub major: u32,
     /// A version's second number.
     pub minor: u32,
+    /// Where a request's body broke.
+    pub offset: u32,
     /// Where in the state's memory data, or a list's packed varints, begin.
     pub start: usize,
     /// How many bytes they have.

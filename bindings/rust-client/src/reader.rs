@@ -1,6 +1,6 @@
 //! A response's reader.
 
-use crate::{raw, Output, Request, Status, STATE_SIZE};
+use crate::{raw, Opcode, Output, Request, Status, STATE_SIZE};
 use core::fmt;
 
 /// Reads the response to one request. Its state is well formed always: only reading changes it.
@@ -21,6 +21,7 @@ const WAITING: raw::Answer = raw::Answer {
         kind: 0,
         major: 0,
         minor: 0,
+        offset: 0,
         start: 0,
         length: 0,
     },
@@ -29,9 +30,28 @@ const WAITING: raw::Answer = raw::Answer {
 impl Reader {
     /// The reader of the response to this request.
     pub fn begin(request: &Request) -> Reader {
+        Reader::awaiting(request.operation.opcode(), request.session)
+    }
+
+    /// The reader of the response to a request of this opcode and session, which may be another
+    /// program's.
+    ///
+    /// ```
+    /// use razidkot_client::{Opcode, Output, Reader, Reading, Response, Status};
+    ///
+    /// // Byte 12 of the import's body is the first byte of a field that can't be read.
+    /// let response = b"\x10\xA7\xC0\x5E\x14\0\x01\0\x01\x05\0\0\0\0\0\0\0\x01\x02\0\0\0\x06\0\x07\0\x08\x0C";
+    /// let mut reader = Reader::awaiting(Opcode::PsaImportKey, 5);
+    /// let Reading::Response(response) = reader.read(response).said? else {
+    ///     panic!("it is whole");
+    /// };
+    /// assert_eq!(response.listed_status(), Some(Status::DeserializingBodyFailed));
+    /// assert_eq!(response.output, Output::Offset(12));
+    /// # Ok::<(), Box<dyn std::error::Error>>(())
+    /// ```
+    pub fn awaiting(opcode: Opcode, session: u64) -> Reader {
         let mut state = [0; STATE_SIZE];
-        let opcode = request.operation.opcode().number();
-        let code = raw::begin(&mut state, opcode, request.session);
+        let code = raw::begin(&mut state, opcode.number(), session);
         assert_eq!(code, 0, "memory of the exact size and a listed opcode");
         Reader {
             state,
@@ -127,7 +147,8 @@ pub enum Reading<'a> {
 pub struct Response<'a> {
     /// The number on the wire, listed or not; 0 says that the request was served.
     pub status: u16,
-    /// Of status 0 what the request asked for, of any other nothing.
+    /// Of status 0 what the request asked for, of status 7 where its body broke, of any other
+    /// nothing.
     pub output: Output<'a>,
 }
 
@@ -155,8 +176,8 @@ pub enum ReadRefusal {
     NotItsRequests = 7,
     /// At the header's last byte: content above 998 bytes.
     ContentTooLong = 8,
-    /// At the body's last byte: not the output of that operation, or any body on a status other
-    /// than 0.
+    /// At the body's last byte: on status 0 not the output of that operation, on status 7 no offset,
+    /// on any other status any body.
     UnreadableBody = 9,
 }
 

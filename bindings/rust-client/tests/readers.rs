@@ -173,8 +173,8 @@ fn data_is_handed_out_where_it_lies() {
 }
 
 #[test]
-fn any_status_but_0_is_read_as_a_number_with_nothing() {
-    for number in 1..=u16::MAX {
+fn any_status_but_0_and_7_is_read_as_a_number_with_nothing() {
+    for number in (1..=u16::MAX).filter(|&number| number != 7) {
         let mut reader = reader(Opcode::Ping);
         let answer = reader.read(&response(Opcode::Ping, number, b""));
         let Ok(Reading::Response(response)) = answer.said else {
@@ -185,6 +185,39 @@ fn any_status_but_0_is_read_as_a_number_with_nothing() {
             (number, &Output::Nothing)
         );
         assert_eq!(response.listed_status(), Status::from_number(number));
+    }
+}
+
+/// What a status 7 response with this body says, to a request of this opcode.
+fn said_of_7(opcode: Opcode, body: &[u8]) -> Result<u32, ReadRefusal> {
+    let mut reader = Reader::awaiting(opcode, SESSION);
+    match reader.read(&response(opcode, 7, body)).said? {
+        Reading::Response(Response {
+            status: 7,
+            output: Output::Offset(at),
+        }) => Ok(at),
+        other => panic!("{other:?}"),
+    }
+}
+
+#[test]
+fn status_7_says_where_the_body_broke() {
+    for opcode in Opcode::ALL {
+        assert_eq!(said_of_7(opcode, b""), Ok(0), "left out");
+        assert_eq!(said_of_7(opcode, b"\x08\x0C"), Ok(12));
+        assert_eq!(said_of_7(opcode, b"\x08\xFF\x1F"), Ok(4_095));
+        // The last counts, of its varint the low 32 bits; what is not listed is skipped.
+        assert_eq!(said_of_7(opcode, b"\x08\x05\x08\x07"), Ok(7));
+        assert_eq!(said_of_7(opcode, b"\x08\x85\x80\x80\x80\x10"), Ok(5));
+        assert_eq!(said_of_7(opcode, b"\x08\x05\x10\x07\x0A\x01\x09"), Ok(5));
+    }
+}
+
+#[test]
+fn a_status_7_body_that_is_no_offset_is_unreadable() {
+    for body in [&b"\x08"[..], b"\x08\x80", b"\x0E", b"\x08\x01\x00"] {
+        let said = said_of_7(Opcode::PsaImportKey, body);
+        assert_eq!(said, Err(ReadRefusal::UnreadableBody), "{body:?}");
     }
 }
 

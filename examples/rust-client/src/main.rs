@@ -114,6 +114,7 @@ fn print(what: &str, reader: &Reader) -> Result<(), Box<dyn Error>> {
             print!(", data");
             data.iter().for_each(|byte| print!(" {byte:02X}"));
         }
+        Output::Offset(at) => print!(", byte {at} of the body"),
     }
     println!();
     Ok(())

@@ -387,6 +387,7 @@ fn described(response: &Response) -> String {
             let bytes: String = list(data.iter().map(|byte| format!("{byte:02X}")).collect());
             format!("data{bytes}")
         }
+        Output::Offset(at) => format!("offset {at}"),
     };
     format!("status {}, {output}", response.status)
 }
