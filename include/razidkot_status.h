@@ -19,6 +19,7 @@ enum razidkot_status {
     RAZIDKOT_ACCEPT_TYPE_NOT_SUPPORTED = 3,
     RAZIDKOT_WIRE_PROTOCOL_VERSION_NOT_SUPPORTED = 4,
     RAZIDKOT_PROVIDER_DOES_NOT_EXIST = 6,
+    /* The response's body says at which byte the request's can't be read. No other status but 0 has a body. */
     RAZIDKOT_DESERIALIZING_BODY_FAILED = 7,
     RAZIDKOT_OPCODE_DOES_NOT_EXIST = 9,
     RAZIDKOT_AUTHENTICATION_ERROR = 11,

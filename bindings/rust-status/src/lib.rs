@@ -17,6 +17,8 @@ pub enum Status {
     AcceptTypeNotSupported = 3,
     WireProtocolVersionNotSupported = 4,
     ProviderDoesNotExist = 6,
+    /// The response's body says at which byte the request's can't be read. No other status but 0 has a
+    /// body.
     DeserializingBodyFailed = 7,
     OpcodeDoesNotExist = 9,
     AuthenticationError = 11,
