@@ -2,6 +2,7 @@
 
 use crate::arguments::{number, Arguments};
 use crate::key::{self, PublicKey};
+use crate::response::byte_of_body;
 use crate::{hash, input, output, Failure};
 use razidkot_client::{Import, Opcode, Operation, Output, Provider, Reader, Reading, Request};
 use razidkot_client::{Response, Status, Verify, WriteRefusal, LEAST_REQUEST_BUFFER};
@@ -305,6 +306,8 @@ impl Ask {
             Output::Providers(entries) => list(entries, Provider::from_number, out),
             Output::Opcodes(entries) => list(entries, Opcode::from_number, out),
             Output::Data(data) => return output::write(data, self.asked.destination(), out),
+            // Of status 7 alone.
+            Output::Offset(_) => Ok(()),
         }
         .map_err(Failure::output)
     }
@@ -335,8 +338,12 @@ impl Asked {
 
 fn refused(response: &Response) -> String {
     let number = response.status;
+    let place = match response.output {
+        Output::Offset(at) => format!(", {}", byte_of_body(at)),
+        _ => String::new(),
+    };
     match response.listed_status() {
-        Some(status) => format!("refused: {status:?} (status {number})"),
+        Some(status) => format!("refused: {status:?} (status {number}){place}"),
         None => format!("refused: status {number}, which is not listed"),
     }
 }

@@ -2,6 +2,7 @@
 
 use crate::arguments::Arguments;
 use crate::request::Request;
+use crate::response::{broken_at, byte_of_body};
 use crate::{input, list, roster, Failure};
 use razidkot::{Buffers, Connection, Held, List, NoJournal, Service, Status, LONGEST_CHUNK};
 use std::fs::File;
@@ -73,7 +74,8 @@ impl Capture {
             self.request.extend(&taken[..taken.len().min(room)]);
             if let Some(response) = answer.response {
                 let status = u16::from_le_bytes([response[24], response[25]]);
-                self.show_request(offset, status, out)?;
+                let broken = broken_at(response);
+                self.show_request(offset, status, broken, out)?;
             }
             rest = behind;
         }
@@ -81,7 +83,13 @@ impl Capture {
     }
 
     /// Shows the request that was just answered, and begins the next.
-    fn show_request(&mut self, offset: u64, status: u16, out: &mut dyn Write) -> io::Result<()> {
+    fn show_request(
+        &mut self,
+        offset: u64,
+        status: u16,
+        broken: Option<u32>,
+        out: &mut dyn Write,
+    ) -> io::Result<()> {
         let length = self.service.counters().answered - offset;
         let name = Status::from_number(status).map_or("-".into(), |status| format!("{status:?}"));
         // One with a wrong start has no header whose fields could be told.
@@ -90,10 +98,11 @@ impl Capture {
         let application = request.as_ref().and_then(Request::application);
         let [operation, application] =
             [operation, application].map(|field| field.unwrap_or_else(|| "unread".into()));
+        let broken = broken.map_or(String::new(), |at| format!(" {}", byte_of_body(at)));
         self.request.clear();
         writeln!(
             out,
-            "{offset:>10} {length:>10} {status:>7} {name:<31} {operation:<19} {application}"
+            "{offset:>10} {length:>10} {status:>7} {name:<31} {operation:<19} {application}{broken}"
         )
     }
 

@@ -95,7 +95,8 @@ Sends one request to the key service at the Unix socket SOCKET, and prints what 
   --session N             the session that the response has to repeat, 0 if not said
 
 A status other than 0 is said on standard error by name and number, and the program's status is 1,
-or 3 where `verify` says that the signature is bad.
+or 3 where `verify` says that the signature is bad. With status 7, a body that the service can't
+read, the byte of the body is said at which the first unreadable field begins.
 ";
 
 const ASK_PING: &str = "\
@@ -183,8 +184,10 @@ no keys but the list's, and prints a line for each request:
 The operation is `opcode-N` where no operation has that number. The application is the name in
 quotes, `nobody` for auth type 0, `auth-type-N` for one that does not exist. `unread` is what the
 service did not read: all of a request with a wrong start, and the auth bytes of an oversized one.
-Behind the last request, `held` says what is there of one that is not finished, and `dropped` how
-many bytes came behind a close. Refused requests do not change the program's status.
+Where the body can't be read (status 7) the line ends with the byte of the body at which the first
+unreadable field begins. Behind the last request, `held` says what is there of one that is not
+finished, and `dropped` how many bytes came behind a close. Refused requests do not change the
+program's status.
 
   --roster FILE     the roster file
   --list FILE       the list of keys that the service had; none if not said

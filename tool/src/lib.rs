@@ -14,6 +14,7 @@ mod list;
 mod output;
 mod pem;
 mod request;
+mod response;
 mod roster;
 mod rsa;
 

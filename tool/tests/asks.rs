@@ -614,6 +614,11 @@ fn any_status_is_said() {
     // That a signature is bad is no answer to a Ping.
     let bad = "refused: PsaErrorInvalidSignature (status 1149)";
     assert_said("status", &response(5, 1, 1149, b""), bad);
+    let broken = "refused: DeserializingBodyFailed (status 7), byte";
+    let said = format!("{broken} 12 of the body");
+    assert_said("status", &response(5, 1, 7, b"\x08\x0C"), &said);
+    let said = format!("{broken} 0 of the body");
+    assert_said("status", &response(5, 1, 7, b""), &said);
     let closed = "refused: InvalidHeader (status 17)";
     assert_said("status", &response(0, 0, 17, b""), closed);
 }

@@ -196,6 +196,29 @@ fn operations_and_applications_are_shown() {
 }
 
 #[test]
+fn where_a_body_broke_is_shown() {
+    let import = |body: &[u8]| request(IMPORT, Some(b"b"), body);
+    let stream = [
+        // A name that is cut; data that is cut, behind a name; a tag of number 0.
+        import(b"\x0A\x02k"),
+        import(b"\x0A\x01k\x12\x03\xAA\xBB"),
+        import(b"\x0A\x01k\x12\x02\xAA\xBB\x18\x80\x10\x20\x01\x00"),
+        // A group that ends with another's number, two deep; an end without a group.
+        import(b"\x0A\x01k\x3B\x43\x3C"),
+        request(PING, None, b"\x08\x01\x0C"),
+    ];
+    let stream: Vec<&[u8]> = stream.iter().map(Vec::as_slice).collect();
+    let expected = [
+        "0 32 7 DeserializingBodyFailed PsaImportKey \"b\" byte 0 of the body",
+        "32 36 7 DeserializingBodyFailed PsaImportKey \"b\" byte 3 of the body",
+        "68 42 7 DeserializingBodyFailed PsaImportKey \"b\" byte 12 of the body",
+        "110 35 7 DeserializingBodyFailed PsaImportKey \"b\" byte 3 of the body",
+        "145 31 7 DeserializingBodyFailed Ping nobody byte 2 of the body",
+    ];
+    assert_eq!(squeezed(&rows("broken", &stream)), expected);
+}
+
+#[test]
 fn an_oversized_request_is_shown_whole_and_its_name_is_not() {
     let named = request(PING, Some(b"b"), b"");
     // Longer than a chunk, and as short as can be: the name is read of neither.
