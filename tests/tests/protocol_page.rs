@@ -20,7 +20,7 @@ use std::collections::{BTreeMap, BTreeSet};
 use std::fmt::Debug;
 
 /// How many examples the page has. It says so itself, and none may get lost.
-const EXAMPLES: usize = 26;
+const EXAMPLES: usize = 29;
 const ROSTER: &str = "The roster of all examples";
 
 // ---- The examples
