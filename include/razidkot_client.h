@@ -44,7 +44,7 @@ extern "C" {
 /* No request is longer. */
 #define RAZIDKOT_CLIENT_LONGEST_REQUEST 4188
 /* The one size of a reader's state. */
-#define RAZIDKOT_CLIENT_STATE_SIZE 1036
+#define RAZIDKOT_CLIENT_STATE_SIZE 1037
 /* No longer response is read. */
 #define RAZIDKOT_CLIENT_LONGEST_RESPONSE 1024
 /* No list that is read has more entries. */
@@ -62,6 +62,18 @@ extern "C" {
 #define RAZIDKOT_CLIENT_LEAST_BITS 2048
 #define RAZIDKOT_CLIENT_MOST_BITS 4096
 #define RAZIDKOT_CLIENT_BITS_STEP 1024
+
+/*
+ * How a body is written: a request's content type says it of its own body, and its accept type asks for it in the
+ * response, whichever the request used. A service that knows format 1 alone answers content type 2 with
+ * RAZIDKOT_CONTENT_TYPE_NOT_SUPPORTED.
+ */
+enum razidkot_client_body_format {
+    /* Protocol Buffers. */
+    RAZIDKOT_CLIENT_BODY_FORMAT_PROTOBUF = 1,
+    /* Tagged records: a byte of tag, which is the field's number, two of length, and the value. */
+    RAZIDKOT_CLIENT_BODY_FORMAT_TAGGED = 2
+};
 
 /* The providers: those that razidkot_client_write_list_opcodes may name, and the entries of ListProviders' list. */
 enum razidkot_client_provider {
@@ -82,7 +94,7 @@ enum razidkot_client_opcode {
 
 /* ---- Requests written */
 
-/* What writing a request says. The first that applies, in this order. */
+/* What writing a request says. The first that applies, in this order, but for 8, which is judged before 1. */
 enum razidkot_client_write_code {
     RAZIDKOT_CLIENT_WRITE_WRITTEN = 0,
     /* The buffer has fewer than RAZIDKOT_CLIENT_LEAST_REQUEST_BUFFER bytes. */
@@ -97,8 +109,10 @@ enum razidkot_client_write_code {
     RAZIDKOT_CLIENT_WRITE_BITS_ILLEGAL = 5,
     /* The hash is not of 32 bytes. */
     RAZIDKOT_CLIENT_WRITE_HASH_ILLEGAL = 6,
-    /* The body would have more than RAZIDKOT_CLIENT_LONGEST_BODY bytes: the signature is too long. */
-    RAZIDKOT_CLIENT_WRITE_BODY_TOO_LONG = 7
+    /* The body, in its format, would have more than RAZIDKOT_CLIENT_LONGEST_BODY bytes: the signature is too long. */
+    RAZIDKOT_CLIENT_WRITE_BODY_TOO_LONG = 7,
+    /* The content type or the accept type is no razidkot_client_body_format. Judged first. */
+    RAZIDKOT_CLIENT_WRITE_TYPE_UNLISTED = 8
 };
 
 /* What writing a request says, and how long it is. */
@@ -112,23 +126,27 @@ typedef struct {
 /*
  * Each writes one request to the front of the buffer, from the application of that name if `named` is true (auth type 1),
  * else from nobody (auth type 0); of nobody's the name is not looked at. The session is any number: the response repeats
- * it. Bytes of the buffer past the request stay. A request that is refused (code 1 to 7) leaves all of the buffer as it
- * was. Nothing else is refused: what the service will not do, a keystore operation for nobody, the opcodes of a provider
+ * it. The body is in the format `content_type`, and the response's is to be in `accept_type`: each is a
+ * razidkot_client_body_format. Bytes of the buffer past the request stay. A request that is refused (code 1 to 8) leaves
+ * all of the buffer as it was. Nothing else is refused: what the service will not do, a keystore operation for nobody, the opcodes of a provider
  * that is not there or a signature of another length than the key's, is written as asked, and the response's status says
  * so.
  */
 
 /* Ping: which version of the protocol the service speaks. */
 razidkot_client_request razidkot_client_write_ping(uint8_t *out, size_t out_length, uint64_t session,
+                                                   uint8_t content_type, uint8_t accept_type,
                                                    bool named, const uint8_t *application, size_t application_length);
 
 /* ListProviders: which providers there are. */
 razidkot_client_request razidkot_client_write_list_providers(uint8_t *out, size_t out_length, uint64_t session,
+                                                             uint8_t content_type, uint8_t accept_type,
                                                              bool named, const uint8_t *application,
                                                              size_t application_length);
 
 /* ListOpcodes: which operations a provider has. */
 razidkot_client_request razidkot_client_write_list_opcodes(uint8_t *out, size_t out_length, uint64_t session,
+                                                           uint8_t content_type, uint8_t accept_type,
                                                            bool named, const uint8_t *application,
                                                            size_t application_length, uint32_t provider);
 
@@ -138,6 +156,7 @@ razidkot_client_request razidkot_client_write_list_opcodes(uint8_t *out, size_t 
  * that is to verify is a DER RSAPublicKey (RFC 8017); no other data is refused here.
  */
 razidkot_client_request razidkot_client_write_import(uint8_t *out, size_t out_length, uint64_t session,
+                                                     uint8_t content_type, uint8_t accept_type,
                                                      bool named, const uint8_t *application, size_t application_length,
                                                      const uint8_t *name, size_t name_length,
                                                      const uint8_t *bytes, size_t bytes_length,
@@ -145,11 +164,13 @@ razidkot_client_request razidkot_client_write_import(uint8_t *out, size_t out_le
 
 /* PsaDestroyKey: drops the key of that name. */
 razidkot_client_request razidkot_client_write_destroy(uint8_t *out, size_t out_length, uint64_t session,
+                                                      uint8_t content_type, uint8_t accept_type,
                                                       bool named, const uint8_t *application, size_t application_length,
                                                       const uint8_t *name, size_t name_length);
 
 /* PsaExportPublicKey: the data of the key of that name. */
 razidkot_client_request razidkot_client_write_export(uint8_t *out, size_t out_length, uint64_t session,
+                                                     uint8_t content_type, uint8_t accept_type,
                                                      bool named, const uint8_t *application, size_t application_length,
                                                      const uint8_t *name, size_t name_length);
 
@@ -159,9 +180,10 @@ razidkot_client_request razidkot_client_write_export(uint8_t *out, size_t out_le
  * that is good, RAZIDKOT_PSA_ERROR_INVALID_SIGNATURE for one that isn't, RAZIDKOT_PSA_ERROR_NOT_SUPPORTED for a key that
  * can't be used so, RAZIDKOT_PSA_ERROR_NOT_PERMITTED for one that may not be, RAZIDKOT_PSA_ERROR_DOES_NOT_EXIST for none.
  * The hash has RAZIDKOT_CLIENT_HASH_SIZE bytes. A signature of any length is written that leaves the body at most
- * RAZIDKOT_CLIENT_LONGEST_BODY bytes: of 4,025 or fewer always.
+ * RAZIDKOT_CLIENT_LONGEST_BODY bytes: of 4,023 or fewer always, in either format.
  */
 razidkot_client_request razidkot_client_write_verify(uint8_t *out, size_t out_length, uint64_t session,
+                                                     uint8_t content_type, uint8_t accept_type,
                                                      bool named, const uint8_t *application, size_t application_length,
                                                      const uint8_t *name, size_t name_length,
                                                      const uint8_t *hash, size_t hash_length,
@@ -176,15 +198,18 @@ enum razidkot_client_begin_code {
     /* The memory does not have RAZIDKOT_CLIENT_STATE_SIZE bytes. */
     RAZIDKOT_CLIENT_BEGIN_WRONG_SIZE = 1,
     /* The opcode is no razidkot_client_opcode. */
-    RAZIDKOT_CLIENT_BEGIN_UNLISTED_OPCODE = 2
+    RAZIDKOT_CLIENT_BEGIN_UNLISTED_OPCODE = 2,
+    /* The accept type is no razidkot_client_body_format. */
+    RAZIDKOT_CLIENT_BEGIN_UNLISTED_TYPE = 3
 };
 
 /*
- * Makes memory the state of a reader, for the response to the request of that opcode and session, and returns a
- * razidkot_client_begin_code. The memory may hold anything before; if it is refused (code 1 or 2) it stays as it was.
- * One state reads one response.
+ * Makes memory the state of a reader, for the response to the request of that opcode, session and accept type, and returns
+ * a razidkot_client_begin_code, the first that applies. The memory may hold anything before; if it is refused (code 1 to 3)
+ * it stays as it was. One state reads one response.
  */
-uint32_t razidkot_client_begin(uint8_t *state, size_t state_length, uint16_t opcode, uint64_t session);
+uint32_t razidkot_client_begin(uint8_t *state, size_t state_length, uint16_t opcode, uint64_t session,
+                               uint8_t accept_type);
 
 /* What razidkot_client_read says. The first that applies, in this order, but for 0 and 1, which say that none does. */
 enum razidkot_client_read_code {
@@ -200,7 +225,7 @@ enum razidkot_client_read_code {
     RAZIDKOT_CLIENT_READ_WRONG_HEADER_SIZE = 4,
     /* At the header's last byte, the 26th: a version other than 1.0. */
     RAZIDKOT_CLIENT_READ_WRONG_VERSION = 5,
-    /* At the header's last byte: a content type other than 1. */
+    /* At the header's last byte: a content type other than its request's accept type; with status 17 other than 1. */
     RAZIDKOT_CLIENT_READ_WRONG_CONTENT_TYPE = 6,
     /* At the header's last byte: opcode, session or provider is not its request's, nor is it a status 17 with none. */
     RAZIDKOT_CLIENT_READ_NOT_ITS_REQUESTS = 7,
@@ -272,10 +297,13 @@ razidkot_client_answer razidkot_client_read(uint8_t *state, size_t state_length,
 
 /*
  * Writes the entries of a list to the front of `entries`, as many as there is room for, and returns how many those are;
- * the room past them stays. `packed` is the list where it lies: `state + output.start`, of `output.length` bytes. In other
- * bytes it reads as many entries as can be read. Room for RAZIDKOT_CLIENT_MOST_ENTRIES holds any list.
+ * the room past them stays. `accept_type` is the one that the state was begun with: a varint an entry with 1, four bytes
+ * with 2. `packed` is the list where it lies: `state + output.start`, of `output.length` bytes. In other bytes it reads as
+ * many entries as can be read, and with another type than 1 and 2 it reads as with 1. Room for
+ * RAZIDKOT_CLIENT_MOST_ENTRIES holds any list.
  */
-size_t razidkot_client_read_list(const uint8_t *packed, size_t packed_length, uint32_t *entries, size_t entries_length);
+size_t razidkot_client_read_list(uint8_t accept_type, const uint8_t *packed, size_t packed_length,
+                                 uint32_t *entries, size_t entries_length);
 
 #ifdef __cplusplus
 }

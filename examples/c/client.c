@@ -1,7 +1,8 @@
 /*
- * A client of the key service in C: lists the providers, imports a key, exports it, asks for one that is not there and
- * destroys the first; then it has signatures checked with another. It prints what came back. The service is in the same program and stands for the other end of a
- * socket: send_bytes and receive_bytes are all that a socket would change.
+ * A client of the key service in C: lists the providers, imports a key, exports it in both body formats, asks for one that
+ * is not there and destroys the first; then it has signatures checked with another. It prints what came back. The service
+ * is in the same program and stands for the other end of a socket: send_bytes and receive_bytes are all that a socket
+ * would change.
  *
  *   rt staticlib abi && rt staticlib client_abi
  *   cc -std=c99 -Iinclude -o client examples/c/client.c target/staticlib/libclient_abi.a target/staticlib/libabi.a
@@ -111,6 +112,9 @@ static const uint8_t series_signature[] = {
 /* The hash of something else. */
 static const uint8_t other_hash[RAZIDKOT_CLIENT_HASH_SIZE] = {0};
 
+/* The formats of bodies. Lists are asked for in Protocol Buffers here. */
+enum { PROTOBUF = RAZIDKOT_CLIENT_BODY_FORMAT_PROTOBUF, TAGGED = RAZIDKOT_CLIENT_BODY_FORMAT_TAGGED };
+
 static uint8_t request[RAZIDKOT_CLIENT_LEAST_REQUEST_BUFFER];
 
 /* The last chunk; its bytes from `at` to `end` are not taken yet. So small that responses lie across chunks: a socket's
@@ -119,14 +123,16 @@ static uint8_t chunk[7];
 static size_t chunk_at, chunk_end;
 
 /* Sends the request that was written, and makes memory the state for its response. */
-static bool send_request(razidkot_client_request written, uint16_t opcode, uint64_t session, uint8_t *state)
+static bool send_request(razidkot_client_request written, uint16_t opcode, uint64_t session, uint8_t accept_type,
+                         uint8_t *state)
 {
     if (written.code != RAZIDKOT_CLIENT_WRITE_WRITTEN) {
         printf("request not written, code %" PRIu32 "\n", written.code);
         return false;
     }
     return send_bytes(request, written.written)
-        && razidkot_client_begin(state, RAZIDKOT_CLIENT_STATE_SIZE, opcode, session) == RAZIDKOT_CLIENT_BEGIN_FRESH;
+        && razidkot_client_begin(state, RAZIDKOT_CLIENT_STATE_SIZE, opcode, session, accept_type)
+            == RAZIDKOT_CLIENT_BEGIN_FRESH;
 }
 
 /*
@@ -151,7 +157,7 @@ static razidkot_client_answer read_response(uint8_t *state)
 static void print_list(const char *what, const uint8_t *packed, size_t length)
 {
     static uint32_t entries[RAZIDKOT_CLIENT_MOST_ENTRIES];
-    size_t count = razidkot_client_read_list(packed, length, entries, RAZIDKOT_CLIENT_MOST_ENTRIES);
+    size_t count = razidkot_client_read_list(PROTOBUF, packed, length, entries, RAZIDKOT_CLIENT_MOST_ENTRIES);
     printf(", %s", what);
     for (size_t at = 0; at < count; at++)
         printf(" %" PRIu32, entries[at]);
@@ -206,14 +212,14 @@ static uint8_t second[RAZIDKOT_CLIENT_STATE_SIZE];
 static bool list_providers(void)
 {
     razidkot_client_request written =
-        razidkot_client_write_list_providers(request, sizeof request, 1, false, NULL, 0);
-    return send_request(written, RAZIDKOT_CLIENT_OPCODE_LIST_PROVIDERS, 1, first)
+        razidkot_client_write_list_providers(request, sizeof request, 1, PROTOBUF, PROTOBUF, false, NULL, 0);
+    return send_request(written, RAZIDKOT_CLIENT_OPCODE_LIST_PROVIDERS, 1, PROTOBUF, first)
         && print_response("list providers", first);
 }
 
 static razidkot_client_request write_import(uint64_t session, uint32_t bits)
 {
-    return razidkot_client_write_import(request, sizeof request, session, true, scanner, sizeof scanner,
+    return razidkot_client_write_import(request, sizeof request, session, PROTOBUF, PROTOBUF, true, scanner, sizeof scanner,
                                         key_a, sizeof key_a, key_data, sizeof key_data, bits, true, false);
 }
 
@@ -222,28 +228,29 @@ static bool import_key(void)
     /* What is outside the bounds is refused before a byte is sent. */
     if (write_import(2, 2050).code == RAZIDKOT_CLIENT_WRITE_BITS_ILLEGAL)
         printf("import of 2050 bits: request not written: the key's bits\n");
-    return send_request(write_import(3, 2048), RAZIDKOT_CLIENT_OPCODE_PSA_IMPORT_KEY, 3, first)
+    return send_request(write_import(3, 2048), RAZIDKOT_CLIENT_OPCODE_PSA_IMPORT_KEY, 3, PROTOBUF, first)
         && print_response("import a", first);
 }
 
-static bool export_key(void)
+/* The same in either format: the request's body has it, and the response's. */
+static bool export_key(const char *what, uint64_t session, uint8_t format)
 {
     razidkot_client_request written = razidkot_client_write_export(
-        request, sizeof request, 4, true, scanner, sizeof scanner, key_a, sizeof key_a);
-    return send_request(written, RAZIDKOT_CLIENT_OPCODE_PSA_EXPORT_PUBLIC_KEY, 4, first)
-        && print_response("export a", first);
+        request, sizeof request, session, format, format, true, scanner, sizeof scanner, key_a, sizeof key_a);
+    return send_request(written, RAZIDKOT_CLIENT_OPCODE_PSA_EXPORT_PUBLIC_KEY, session, format, first)
+        && print_response(what, first);
 }
 
 /* Two requests sent before a response is read: a state for each, in the same order. */
 static bool export_and_destroy(void)
 {
     razidkot_client_request written = razidkot_client_write_export(
-        request, sizeof request, 5, true, scanner, sizeof scanner, key_b, sizeof key_b);
-    if (!send_request(written, RAZIDKOT_CLIENT_OPCODE_PSA_EXPORT_PUBLIC_KEY, 5, first))
+        request, sizeof request, 5, PROTOBUF, PROTOBUF, true, scanner, sizeof scanner, key_b, sizeof key_b);
+    if (!send_request(written, RAZIDKOT_CLIENT_OPCODE_PSA_EXPORT_PUBLIC_KEY, 5, PROTOBUF, first))
         return false;
     written = razidkot_client_write_destroy(
-        request, sizeof request, 6, true, scanner, sizeof scanner, key_a, sizeof key_a);
-    return send_request(written, RAZIDKOT_CLIENT_OPCODE_PSA_DESTROY_KEY, 6, second)
+        request, sizeof request, 6, PROTOBUF, PROTOBUF, true, scanner, sizeof scanner, key_a, sizeof key_a);
+    return send_request(written, RAZIDKOT_CLIENT_OPCODE_PSA_DESTROY_KEY, 6, PROTOBUF, second)
         && print_response("export b", first)
         && print_response("destroy a", second);
 }
@@ -251,9 +258,9 @@ static bool export_and_destroy(void)
 static bool import_series(void)
 {
     razidkot_client_request written = razidkot_client_write_import(
-        request, sizeof request, 7, true, scanner, sizeof scanner, key_series, sizeof key_series,
+        request, sizeof request, 7, PROTOBUF, PROTOBUF, true, scanner, sizeof scanner, key_series, sizeof key_series,
         series_data, sizeof series_data, 2048, false, true);
-    return send_request(written, RAZIDKOT_CLIENT_OPCODE_PSA_IMPORT_KEY, 7, first)
+    return send_request(written, RAZIDKOT_CLIENT_OPCODE_PSA_IMPORT_KEY, 7, PROTOBUF, first)
         && print_response("import series", first);
 }
 
@@ -262,9 +269,9 @@ static bool verify_with(const char *what, uint64_t session, const uint8_t *name,
                         const uint8_t *hash)
 {
     razidkot_client_request written = razidkot_client_write_verify(
-        request, sizeof request, session, true, scanner, sizeof scanner, name, name_length,
+        request, sizeof request, session, PROTOBUF, PROTOBUF, true, scanner, sizeof scanner, name, name_length,
         hash, RAZIDKOT_CLIENT_HASH_SIZE, series_signature, sizeof series_signature);
-    return send_request(written, RAZIDKOT_CLIENT_OPCODE_PSA_ASYMMETRIC_VERIFY, session, first)
+    return send_request(written, RAZIDKOT_CLIENT_OPCODE_PSA_ASYMMETRIC_VERIFY, session, PROTOBUF, first)
         && print_response(what, first);
 }
 
@@ -278,7 +285,7 @@ static bool verify_series(void)
 
 int main(void)
 {
-    bool done = start_service() && list_providers() && import_key() && export_key() && export_and_destroy()
-        && verify_series();
+    bool done = start_service() && list_providers() && import_key() && export_key("export a", 4, PROTOBUF)
+        && export_key("export a in format 2", 11, TAGGED) && export_and_destroy() && verify_series();
     return done ? 0 : 1;
 }

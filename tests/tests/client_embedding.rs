@@ -7,8 +7,8 @@ mod programs;
 use programs::{compile, printed, printed_by_package, repository, C, CPP};
 use razidkot_client::raw::{self, Answer, OutputNumbers};
 use razidkot_client::{
-    Opcode, Operation, Provider, ReadRefusal, Reader, Reading, Request, Response, Status,
-    WriteRefusal, LEAST_REQUEST_BUFFER,
+    BodyFormat, Opcode, Operation, Provider, ReadRefusal, Reader, Reading, Request, Response,
+    Status, WriteRefusal, LEAST_REQUEST_BUFFER,
 };
 use razidkot_tests::service::responses;
 use std::collections::BTreeMap;
@@ -183,18 +183,22 @@ fn sizes() -> Vec<(String, u64)> {
 
 /// What no enum of the crate has a number for, as the archive says it.
 fn numbers_said() -> Vec<(String, u64)> {
-    let began = |length: usize, opcode: u16| raw::begin(&mut vec![0; length], opcode, 0).into();
+    let began = |length: usize, opcode: u16, accept_type: u8| {
+        raw::begin(&mut vec![0; length], opcode, 0, accept_type).into()
+    };
     let said = |bytes: &[u8]| read(Opcode::Ping, bytes).code.into();
     let kind = |opcode: Opcode| read(opcode, &response(opcode, 0, b"")).output.kind.into();
-    let written = raw::write_ping(&mut [0; 5_120], 0, false, b"").code.into();
+    let wrote = |accept_type| raw::write_ping(&mut [0; 5_120], 0, 1, accept_type, false, b"").code;
     let ping = response(Opcode::Ping, 0, b"");
     let broken = read(Opcode::Ping, &response(Opcode::Ping, 7, b""));
-    let ill_formed = raw::read(&mut [0; 1_036], b"").code.into();
+    let ill_formed = raw::read(&mut [0; 1_037], b"").code.into();
     named([
-        ("WRITE_WRITTEN", written),
-        ("BEGIN_FRESH", began(1_036, 1)),
-        ("BEGIN_WRONG_SIZE", began(1_035, 1)),
-        ("BEGIN_UNLISTED_OPCODE", began(1_036, 2)),
+        ("WRITE_WRITTEN", wrote(2).into()),
+        ("WRITE_TYPE_UNLISTED", wrote(3).into()),
+        ("BEGIN_FRESH", began(1_037, 1, 2)),
+        ("BEGIN_WRONG_SIZE", began(1_036, 2, 0)),
+        ("BEGIN_UNLISTED_OPCODE", began(1_037, 2, 0)),
+        ("BEGIN_UNLISTED_TYPE", began(1_037, 1, 0)),
         ("READ_WAITING", said(&ping[..25])),
         ("READ_RESPONSE", said(&ping)),
         ("READ_STATE_ILL_FORMED", ill_formed),
@@ -216,6 +220,9 @@ fn every_number_of_the_client_header_is_that_of_rust_and_the_archive() {
             case.number().into()
         }),
         rows("RAZIDKOT_CLIENT_PROVIDER_", &Provider::ALL, |case| {
+            case.number().into()
+        }),
+        rows("RAZIDKOT_CLIENT_BODY_FORMAT_", &BodyFormat::ALL, |case| {
             case.number().into()
         }),
         rows("RAZIDKOT_CLIENT_WRITE_", &WriteRefusal::ALL, |case| {
@@ -281,7 +288,7 @@ fn response(opcode: Opcode, status: u16, body: &[u8]) -> Vec<u8> {
 
 fn read(opcode: Opcode, bytes: &[u8]) -> Answer {
     let mut state = [0; razidkot_client::STATE_SIZE];
-    assert_eq!(raw::begin(&mut state, opcode.number(), 0), 0);
+    assert_eq!(raw::begin(&mut state, opcode.number(), 0, 1), 0);
     raw::read(&mut state, bytes)
 }
 
@@ -305,7 +312,19 @@ fn write_refusals_are_judged_in_the_second_programs_order() {
         let mend = |place: usize, good: &'static [u8]| if at > place { good } else { b"" };
         let mut out = vec![0; if at > 0 { 5_120 } else { 5_119 }];
         let (application, name, data) = (mend(1, b"b"), mend(2, b"a"), mend(3, b"\xAA"));
-        let said = raw::write_import(&mut out, 0, true, application, name, data, 0, true, true);
+        let said = raw::write_import(
+            &mut out,
+            0,
+            1,
+            1,
+            true,
+            application,
+            name,
+            data,
+            0,
+            true,
+            true,
+        );
         let operation = reference::Operation::ImportKey {
             name,
             data,
@@ -313,7 +332,9 @@ fn write_refusals_are_judged_in_the_second_programs_order() {
             export_allowed: true,
             verify_allowed: true,
         };
-        let second_said = reference::write_request(&mut out, 0, Some(application), &operation);
+        let formats = reference::Formats::PROTOBUF;
+        let second_said =
+            reference::write_request(&mut out, 0, formats, Some(application), &operation);
         assert_eq!(second_said, Err(second));
         assert_eq!(
             (said.code, ours.number()),
@@ -325,13 +346,15 @@ fn write_refusals_are_judged_in_the_second_programs_order() {
         let mut out = vec![0; if at > 0 { 5_120 } else { 5_119 }];
         let (application, name, hash) = (mend(1, b"b"), mend(2, b"a"), mend(3, &[0; 32]));
         let signature = &[0; 4_096];
-        let said = raw::write_verify(&mut out, 0, true, application, name, hash, signature);
+        let said = raw::write_verify(&mut out, 0, 1, 1, true, application, name, hash, signature);
         let operation = reference::Operation::VerifySignature {
             name,
             hash,
             signature,
         };
-        let second_said = reference::write_request(&mut out, 0, Some(application), &operation);
+        let formats = reference::Formats::PROTOBUF;
+        let second_said =
+            reference::write_request(&mut out, 0, formats, Some(application), &operation);
         assert_eq!(second_said, Err(second));
         assert_eq!(
             (said.code, ours.number()),
@@ -361,7 +384,8 @@ fn read_refusals_are_judged_in_the_second_programs_order() {
             bytes[place] = byte;
         }
         let said = read(Opcode::PsaExportPublicKey, &bytes);
-        let second_said = reference::read_response(opcode, 0, &bytes);
+        let format = reference::BodyFormat::Protobuf;
+        let second_said = reference::read_response(opcode, 0, format, &bytes);
         assert_eq!(second_said.reading, reference::Reading::Refused(second));
         assert_eq!(said.taken, second_said.taken);
         assert_eq!(
@@ -406,10 +430,9 @@ fn status_17_goes_to_the_first_in_line_and_none_behind_it_is_answered() {
         Operation::DestroyKey { name: b"a" },
         Operation::Ping,
     ];
-    let requests = [1, 2, 3, 4].map(|session| Request {
-        session,
-        application: Some(b"b"),
-        operation: operations[session as usize - 1],
+    let requests = [1, 2, 3, 4].map(|session| {
+        let operation = operations[session as usize - 1];
+        Request::new(session, Some(b"b"), operation)
     });
     let mut sent = requests.map(|request| bytes_of(&request));
     // The first byte of the third is damaged on the way.

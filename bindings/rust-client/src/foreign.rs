@@ -14,6 +14,8 @@ unsafe extern "C" {
         out: *mut u8,
         out_length: usize,
         session: u64,
+        content_type: u8,
+        accept_type: u8,
         named: bool,
         application: *const u8,
         application_length: usize,
@@ -22,6 +24,8 @@ unsafe extern "C" {
         out: *mut u8,
         out_length: usize,
         session: u64,
+        content_type: u8,
+        accept_type: u8,
         named: bool,
         application: *const u8,
         application_length: usize,
@@ -30,6 +34,8 @@ unsafe extern "C" {
         out: *mut u8,
         out_length: usize,
         session: u64,
+        content_type: u8,
+        accept_type: u8,
         named: bool,
         application: *const u8,
         application_length: usize,
@@ -39,6 +45,8 @@ unsafe extern "C" {
         out: *mut u8,
         out_length: usize,
         session: u64,
+        content_type: u8,
+        accept_type: u8,
         named: bool,
         application: *const u8,
         application_length: usize,
@@ -54,6 +62,8 @@ unsafe extern "C" {
         out: *mut u8,
         out_length: usize,
         session: u64,
+        content_type: u8,
+        accept_type: u8,
         named: bool,
         application: *const u8,
         application_length: usize,
@@ -64,6 +74,8 @@ unsafe extern "C" {
         out: *mut u8,
         out_length: usize,
         session: u64,
+        content_type: u8,
+        accept_type: u8,
         named: bool,
         application: *const u8,
         application_length: usize,
@@ -74,6 +86,8 @@ unsafe extern "C" {
         out: *mut u8,
         out_length: usize,
         session: u64,
+        content_type: u8,
+        accept_type: u8,
         named: bool,
         application: *const u8,
         application_length: usize,
@@ -84,8 +98,13 @@ unsafe extern "C" {
         signature: *const u8,
         signature_length: usize,
     ) -> Request;
-    fn razidkot_client_begin(state: *mut u8, state_length: usize, opcode: u16, session: u64)
-        -> u32;
+    fn razidkot_client_begin(
+        state: *mut u8,
+        state_length: usize,
+        opcode: u16,
+        session: u64,
+        accept_type: u8,
+    ) -> u32;
     fn razidkot_client_read(
         state: *mut u8,
         state_length: usize,
@@ -93,6 +112,7 @@ unsafe extern "C" {
         chunk_length: usize,
     ) -> Answer;
     fn razidkot_client_read_list(
+        accept_type: u8,
         packed: *const u8,
         packed_length: usize,
         entries: *mut u32,
@@ -101,12 +121,21 @@ unsafe extern "C" {
 }
 
 /// Writes a Ping.
-pub fn write_ping(out: &mut [u8], session: u64, named: bool, application: &[u8]) -> Request {
+pub fn write_ping(
+    out: &mut [u8],
+    session: u64,
+    content_type: u8,
+    accept_type: u8,
+    named: bool,
+    application: &[u8],
+) -> Request {
     unsafe {
         razidkot_client_write_ping(
             out.as_mut_ptr(),
             out.len(),
             session,
+            content_type,
+            accept_type,
             named,
             application.as_ptr(),
             application.len(),
@@ -118,6 +147,8 @@ pub fn write_ping(out: &mut [u8], session: u64, named: bool, application: &[u8])
 pub fn write_list_providers(
     out: &mut [u8],
     session: u64,
+    content_type: u8,
+    accept_type: u8,
     named: bool,
     application: &[u8],
 ) -> Request {
@@ -126,6 +157,8 @@ pub fn write_list_providers(
             out.as_mut_ptr(),
             out.len(),
             session,
+            content_type,
+            accept_type,
             named,
             application.as_ptr(),
             application.len(),
@@ -134,9 +167,12 @@ pub fn write_list_providers(
 }
 
 /// Writes a ListOpcodes of a provider.
+#[allow(clippy::too_many_arguments)]
 pub fn write_list_opcodes(
     out: &mut [u8],
     session: u64,
+    content_type: u8,
+    accept_type: u8,
     named: bool,
     application: &[u8],
     provider: u32,
@@ -146,6 +182,8 @@ pub fn write_list_opcodes(
             out.as_mut_ptr(),
             out.len(),
             session,
+            content_type,
+            accept_type,
             named,
             application.as_ptr(),
             application.len(),
@@ -159,6 +197,8 @@ pub fn write_list_opcodes(
 pub fn write_import(
     out: &mut [u8],
     session: u64,
+    content_type: u8,
+    accept_type: u8,
     named: bool,
     application: &[u8],
     name: &[u8],
@@ -172,6 +212,8 @@ pub fn write_import(
             out.as_mut_ptr(),
             out.len(),
             session,
+            content_type,
+            accept_type,
             named,
             application.as_ptr(),
             application.len(),
@@ -187,9 +229,12 @@ pub fn write_import(
 }
 
 /// Writes a PsaDestroyKey of a key.
+#[allow(clippy::too_many_arguments)]
 pub fn write_destroy(
     out: &mut [u8],
     session: u64,
+    content_type: u8,
+    accept_type: u8,
     named: bool,
     application: &[u8],
     name: &[u8],
@@ -199,6 +244,8 @@ pub fn write_destroy(
             out.as_mut_ptr(),
             out.len(),
             session,
+            content_type,
+            accept_type,
             named,
             application.as_ptr(),
             application.len(),
@@ -209,9 +256,12 @@ pub fn write_destroy(
 }
 
 /// Writes a PsaExportPublicKey of a key.
+#[allow(clippy::too_many_arguments)]
 pub fn write_export(
     out: &mut [u8],
     session: u64,
+    content_type: u8,
+    accept_type: u8,
     named: bool,
     application: &[u8],
     name: &[u8],
@@ -221,6 +271,8 @@ pub fn write_export(
             out.as_mut_ptr(),
             out.len(),
             session,
+            content_type,
+            accept_type,
             named,
             application.as_ptr(),
             application.len(),
@@ -231,9 +283,12 @@ pub fn write_export(
 }
 
 /// Writes a PsaAsymmetricVerify of a signature on a hash with a key.
+#[allow(clippy::too_many_arguments)]
 pub fn write_verify(
     out: &mut [u8],
     session: u64,
+    content_type: u8,
+    accept_type: u8,
     named: bool,
     application: &[u8],
     name: &[u8],
@@ -245,6 +300,8 @@ pub fn write_verify(
             out.as_mut_ptr(),
             out.len(),
             session,
+            content_type,
+            accept_type,
             named,
             application.as_ptr(),
             application.len(),
@@ -259,9 +316,17 @@ pub fn write_verify(
 }
 
 /// Makes `state` the reader of the response to a request: 0; 1 for memory of another size, 2 for an
-/// opcode that is not listed, and then it stays as it was.
-pub fn begin(state: &mut [u8], opcode: u16, session: u64) -> u32 {
-    unsafe { razidkot_client_begin(state.as_mut_ptr(), state.len(), opcode, session) }
+/// opcode and 3 for an accept type that is not listed, and then it stays as it was.
+pub fn begin(state: &mut [u8], opcode: u16, session: u64, accept_type: u8) -> u32 {
+    unsafe {
+        razidkot_client_begin(
+            state.as_mut_ptr(),
+            state.len(),
+            opcode,
+            session,
+            accept_type,
+        )
+    }
 }
 
 /// Takes bytes of the chunk up to the response's last, or the refusal's, or all.
@@ -269,10 +334,12 @@ pub fn read(state: &mut [u8], chunk: &[u8]) -> Answer {
     unsafe { razidkot_client_read(state.as_mut_ptr(), state.len(), chunk.as_ptr(), chunk.len()) }
 }
 
-/// The entries of a list's packed varints, as many as there is room for, and how many those are.
-pub fn read_list(packed: &[u8], entries: &mut [u32]) -> usize {
+/// The entries of a list that lies there in the format of this accept type, as many as there is room
+/// for, and how many those are.
+pub fn read_list(accept_type: u8, packed: &[u8], entries: &mut [u32]) -> usize {
     unsafe {
         razidkot_client_read_list(
+            accept_type,
             packed.as_ptr(),
             packed.len(),
             entries.as_mut_ptr(),

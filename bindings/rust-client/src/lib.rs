@@ -6,11 +6,7 @@
 //! ```
 //! use razidkot_client::{Operation, Output, Reader, Reading, Request, LEAST_REQUEST_BUFFER};
 //!
-//! let request = Request {
-//!     session: 9,
-//!     application: None,
-//!     operation: Operation::ListProviders,
-//! };
+//! let request = Request::new(9, None, Operation::ListProviders);
 //! let mut buffer = [0; LEAST_REQUEST_BUFFER];
 //! let written = request.write(&mut buffer)?;
 //! // Send it.
@@ -37,12 +33,14 @@
 
 #[allow(unsafe_code)]
 mod foreign;
+mod format;
 mod opcode;
 mod output;
 pub mod raw;
 mod reader;
 mod request;
 
+pub use format::BodyFormat;
 pub use opcode::{Opcode, Provider};
 pub use output::{Entries, Output};
 pub use razidkot_status::Status;
@@ -54,7 +52,7 @@ pub const LEAST_REQUEST_BUFFER: usize = 5_120;
 /// No request is longer.
 pub const LONGEST_REQUEST: usize = 4_188;
 /// The one size of a reader's state.
-pub const STATE_SIZE: usize = 1_036;
+pub const STATE_SIZE: usize = 1_037;
 /// No longer response is read.
 pub const LONGEST_RESPONSE: usize = 1_024;
 /// No list that is read has more entries.

@@ -1,6 +1,6 @@
 //! What a response carries besides its status.
 
-use crate::raw;
+use crate::{raw, BodyFormat};
 use core::{fmt, iter};
 
 /// An output, read where it lies in the reader's memory. Of the statuses other than 0, 7 has
@@ -30,16 +30,21 @@ pub enum Output<'a> {
 
 impl<'a> Output<'a> {
     /// The output of a response in `state`. The places lie within it: that is proved.
-    pub(crate) fn placed(numbers: raw::OutputNumbers, state: &'a [u8]) -> Output<'a> {
+    pub(crate) fn placed(
+        numbers: raw::OutputNumbers,
+        state: &'a [u8],
+        format: BodyFormat,
+    ) -> Output<'a> {
         let place = &state[numbers.start..numbers.start + numbers.length];
+        let entries = |packed| Entries { packed, format };
         match numbers.kind {
             0 => Output::Nothing,
             1 => Output::Version {
                 major: numbers.major,
                 minor: numbers.minor,
             },
-            2 => Output::Providers(Entries { packed: place }),
-            3 => Output::Opcodes(Entries { packed: place }),
+            2 => Output::Providers(entries(place)),
+            3 => Output::Opcodes(entries(place)),
             4 => Output::Data(place),
             5 => Output::Offset(numbers.offset),
             kind => unreachable!("no output has the number {kind}"),
@@ -51,8 +56,9 @@ impl<'a> Output<'a> {
 /// where this one is.
 #[derive(Clone)]
 pub struct Entries<'a> {
-    /// Whole varints: the reader has judged them.
+    /// Whole entries: the reader has judged them.
     packed: &'a [u8],
+    format: BodyFormat,
 }
 
 /// The last byte of a varint has its top bit clear.
@@ -60,21 +66,30 @@ fn is_last(byte: &u8) -> bool {
     *byte < 0x80
 }
 
+/// How many bytes an entry has as a tagged record's.
+const TAGGED_ENTRY: usize = 4;
+
 impl Iterator for Entries<'_> {
     type Item = u32;
 
     fn next(&mut self) -> Option<u32> {
-        let length = self.packed.iter().position(is_last)? + 1;
-        let (varint, rest) = self.packed.split_at(length);
+        let length = match self.format {
+            BodyFormat::Protobuf => self.packed.iter().position(is_last)? + 1,
+            BodyFormat::Tagged => TAGGED_ENTRY,
+        };
+        let (first, rest) = self.packed.split_at_checked(length)?;
         self.packed = rest;
         let mut entry = [0];
-        let read = raw::read_list(varint, &mut entry);
-        assert_eq!(read, 1, "a varint that the reader has judged");
+        let read = raw::read_list(self.format.number(), first, &mut entry);
+        assert_eq!(read, 1, "an entry that the reader has judged");
         Some(entry[0])
     }
 
     fn size_hint(&self) -> (usize, Option<usize>) {
-        let count = self.packed.iter().filter(|byte| is_last(byte)).count();
+        let count = match self.format {
+            BodyFormat::Protobuf => self.packed.iter().filter(|byte| is_last(byte)).count(),
+            BodyFormat::Tagged => self.packed.len() / TAGGED_ENTRY,
+        };
         (count, Some(count))
     }
 }
@@ -82,7 +97,7 @@ impl Iterator for Entries<'_> {
 impl ExactSizeIterator for Entries<'_> {}
 impl iter::FusedIterator for Entries<'_> {}
 
-/// The same numbers, however their varints are written.
+/// The same numbers, however they are written.
 impl PartialEq for Entries<'_> {
     fn eq(&self, other: &Self) -> bool {
         Iterator::eq(self.clone(), other.clone())

@@ -2,12 +2,14 @@
 //! on them; they are for callers that keep a reader's state themselves.
 //!
 //! ```
-//! use razidkot_client::{raw, Opcode, STATE_SIZE};
+//! use razidkot_client::{raw, BodyFormat, Opcode, STATE_SIZE};
 //!
 //! let mut state = [0; STATE_SIZE];
 //! assert_eq!(raw::read(&mut state, b"\x10").code, 2, "no state was begun there");
-//! assert_eq!(raw::begin(&mut state, Opcode::PsaDestroyKey.number(), 5), 0);
-//! assert_eq!(raw::begin(&mut state, 2, 5), 2, "no opcode that is listed");
+//! let accept_type = BodyFormat::Protobuf.number();
+//! assert_eq!(raw::begin(&mut state, Opcode::PsaDestroyKey.number(), 5, accept_type), 0);
+//! assert_eq!(raw::begin(&mut state, 2, 5, accept_type), 2, "no opcode that is listed");
+//! assert_eq!(raw::begin(&mut state, 3, 5, 7), 3, "no body format");
 //!
 //! let response = b"\x10\xA7\xC0\x5E\x14\0\x01\0\x01\x05\0\0\0\0\0\0\0\x01\0\0\0\0\x03\0\x74\x04";
 //! let answer = raw::read(&mut state, response);
@@ -41,9 +43,9 @@ pub struct OutputNumbers {
     pub minor: u32,
     /// Where a request's body broke.
     pub offset: u32,
-    /// Where in the state's memory data, or a list's packed varints, begin.
+    /// Where in the state's memory data, or a list, begins.
     pub start: usize,
-    /// How many bytes they have.
+    /// How many bytes it has.
     pub length: usize,
 }
 

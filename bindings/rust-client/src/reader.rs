@@ -1,12 +1,14 @@
 //! A response's reader.
 
-use crate::{raw, Opcode, Output, Request, Status, STATE_SIZE};
+use crate::{raw, BodyFormat, Opcode, Output, Request, Status, STATE_SIZE};
 use core::fmt;
 
 /// Reads the response to one request. Its state is well formed always: only reading changes it.
 #[derive(Clone, PartialEq, Eq)]
 pub struct Reader {
     state: [u8; STATE_SIZE],
+    /// The format that the response's body has: the state has it too.
+    accept_type: BodyFormat,
     /// What the last call said; its places are those of `state`. How many bytes it took is no part
     /// of the reader, and left 0.
     last: raw::Answer,
@@ -30,18 +32,22 @@ const WAITING: raw::Answer = raw::Answer {
 impl Reader {
     /// The reader of the response to this request.
     pub fn begin(request: &Request) -> Reader {
-        Reader::awaiting(request.operation.opcode(), request.session)
+        Reader::awaiting(
+            request.operation.opcode(),
+            request.session,
+            request.accept_type,
+        )
     }
 
-    /// The reader of the response to a request of this opcode and session, which may be another
-    /// program's.
+    /// The reader of the response to a request of this opcode, session and accept type, which may be
+    /// another program's.
     ///
     /// ```
-    /// use razidkot_client::{Opcode, Output, Reader, Reading, Response, Status};
+    /// use razidkot_client::{BodyFormat, Opcode, Output, Reader, Reading, Response, Status};
     ///
     /// // Byte 12 of the import's body is the first byte of a field that can't be read.
     /// let response = b"\x10\xA7\xC0\x5E\x14\0\x01\0\x01\x05\0\0\0\0\0\0\0\x01\x02\0\0\0\x06\0\x07\0\x08\x0C";
-    /// let mut reader = Reader::awaiting(Opcode::PsaImportKey, 5);
+    /// let mut reader = Reader::awaiting(Opcode::PsaImportKey, 5, BodyFormat::Protobuf);
     /// let Reading::Response(response) = reader.read(response).said? else {
     ///     panic!("it is whole");
     /// };
@@ -49,12 +55,13 @@ impl Reader {
     /// assert_eq!(response.output, Output::Offset(12));
     /// # Ok::<(), Box<dyn std::error::Error>>(())
     /// ```
-    pub fn awaiting(opcode: Opcode, session: u64) -> Reader {
+    pub fn awaiting(opcode: Opcode, session: u64, accept_type: BodyFormat) -> Reader {
         let mut state = [0; STATE_SIZE];
-        let code = raw::begin(&mut state, opcode.number(), session);
-        assert_eq!(code, 0, "memory of the exact size and a listed opcode");
+        let code = raw::begin(&mut state, opcode.number(), session, accept_type.number());
+        assert_eq!(code, 0, "the exact size, a listed opcode and a listed type");
         Reader {
             state,
+            accept_type,
             last: WAITING,
         }
     }
@@ -67,7 +74,7 @@ impl Reader {
     /// ```
     /// use razidkot_client::{Operation, Output, ReadRefusal, Reader, Reading, Request, Status};
     ///
-    /// let ping = Request { session: 5, application: None, operation: Operation::Ping };
+    /// let ping = Request::new(5, None, Operation::Ping);
     /// let response = b"\x10\xA7\xC0\x5E\x14\0\x01\0\0\x05\0\0\0\0\0\0\0\x01\x02\0\0\0\x01\0\0\0\x08\x01";
     ///
     /// let mut reader = Reader::begin(&ping);
@@ -103,7 +110,7 @@ impl Reader {
             0 => Ok(Reading::Waiting),
             1 => Ok(Reading::Response(Response {
                 status: self.last.status as u16,
-                output: Output::placed(self.last.output, &self.state),
+                output: Output::placed(self.last.output, &self.state, self.accept_type),
             })),
             2 => unreachable!("a reader's state is well formed"),
             code => Err(ReadRefusal::ALL[code as usize - 3]),
@@ -169,7 +176,8 @@ pub enum ReadRefusal {
     WrongHeaderSize = 4,
     /// At the header's last byte, the 26th: a version other than 1.0.
     WrongVersion = 5,
-    /// At the header's last byte: a content type other than 1.
+    /// At the header's last byte: a content type other than its request's accept type; with status 17
+    /// other than 1.
     WrongContentType = 6,
     /// At the header's last byte: opcode, session or provider is not its request's, nor is it a
     /// status 17 with none.
@@ -205,7 +213,7 @@ impl fmt::Display for ReadRefusal {
             ReadRefusal::WrongMagic => "no magic number",
             ReadRefusal::WrongHeaderSize => "a header size other than 20",
             ReadRefusal::WrongVersion => "a version other than 1.0",
-            ReadRefusal::WrongContentType => "a content type other than 1",
+            ReadRefusal::WrongContentType => "a content type other than its request's accept type",
             ReadRefusal::NotItsRequests => "opcode, session or provider not its request's",
             ReadRefusal::ContentTooLong => "content above 998 bytes",
             ReadRefusal::UnreadableBody => "an unreadable body",

@@ -1,9 +1,10 @@
 //! A request, and writing it.
 
-use crate::{raw, Opcode, HASH_SIZE};
+use crate::{raw, BodyFormat, Opcode, HASH_SIZE};
 use core::fmt;
 
-/// A request: who asks for what, and the session that its response repeats.
+/// A request: who asks for what, the session that its response repeats, and the formats of both
+/// bodies.
 #[derive(Clone, Copy, Debug, PartialEq, Eq)]
 pub struct Request<'a> {
     /// Any number.
@@ -12,9 +13,48 @@ pub struct Request<'a> {
     pub application: Option<&'a [u8]>,
     /// What is asked for.
     pub operation: Operation<'a>,
+    /// The format of the request's body.
+    pub content_type: BodyFormat,
+    /// The format that the response's body is to have, whichever the request's has.
+    pub accept_type: BodyFormat,
 }
 
-impl Request<'_> {
+impl<'a> Request<'a> {
+    /// One with both bodies in Protocol Buffers.
+    pub const fn new(
+        session: u64,
+        application: Option<&'a [u8]>,
+        operation: Operation<'a>,
+    ) -> Request<'a> {
+        Request {
+            session,
+            application,
+            operation,
+            content_type: BodyFormat::Protobuf,
+            accept_type: BodyFormat::Protobuf,
+        }
+    }
+
+    /// The same with both bodies in this format.
+    ///
+    /// ```
+    /// use razidkot_client::{BodyFormat, Operation, Request, LEAST_REQUEST_BUFFER};
+    ///
+    /// let export = Request::new(0, Some(b"scanner"), Operation::ExportPublicKey { name: b"a" });
+    /// let mut buffer = [0; LEAST_REQUEST_BUFFER];
+    /// let written = export.in_format(BodyFormat::Tagged).write(&mut buffer)?;
+    /// assert_eq!(buffer[17..19], [2, 2]);
+    /// assert_eq!(&buffer[28..written], b"\x01\x01\x00ascanner");
+    /// # Ok::<(), razidkot_client::WriteRefusal>(())
+    /// ```
+    pub const fn in_format(self, format: BodyFormat) -> Request<'a> {
+        Request {
+            content_type: format,
+            accept_type: format,
+            ..self
+        }
+    }
+
     /// Writes the request to the front of `buffer` and says how many bytes it has; bytes past it
     /// stay. A refused request leaves all of `buffer` as it was.
     ///
@@ -25,11 +65,7 @@ impl Request<'_> {
     /// ```
     /// use razidkot_client::{Operation, Request, WriteRefusal, LEAST_REQUEST_BUFFER};
     ///
-    /// let mut request = Request {
-    ///     session: 0,
-    ///     application: Some(b"scanner"),
-    ///     operation: Operation::ExportPublicKey { name: b"a" },
-    /// };
+    /// let mut request = Request::new(0, Some(b"scanner"), Operation::ExportPublicKey { name: b"a" });
     /// let mut buffer = [0; LEAST_REQUEST_BUFFER];
     /// assert_eq!(request.write(&mut buffer), Ok(28 + 3 + 7));
     /// assert_eq!(&buffer[28..38], b"\x0A\x01ascanner");
@@ -42,27 +78,36 @@ impl Request<'_> {
         let answer = self.write_raw(buffer);
         match answer.code {
             0 => Ok(answer.written),
+            8 => unreachable!("both types are listed"),
             code => Err(WriteRefusal::ALL[code as usize - 1]),
         }
     }
 
     fn write_raw(&self, out: &mut [u8]) -> raw::Request {
-        let session = self.session;
-        let (named, application) = match self.application {
+        let (session, content, accept) = (
+            self.session,
+            self.content_type.number(),
+            self.accept_type.number(),
+        );
+        let (named, by) = match self.application {
             Some(name) => (true, name),
             None => (false, &[][..]),
         };
         match self.operation {
-            Operation::Ping => raw::write_ping(out, session, named, application),
-            Operation::ListProviders => raw::write_list_providers(out, session, named, application),
+            Operation::Ping => raw::write_ping(out, session, content, accept, named, by),
+            Operation::ListProviders => {
+                raw::write_list_providers(out, session, content, accept, named, by)
+            }
             Operation::ListOpcodes { provider } => {
-                raw::write_list_opcodes(out, session, named, application, provider)
+                raw::write_list_opcodes(out, session, content, accept, named, by, provider)
             }
             Operation::ImportKey(key) => raw::write_import(
                 out,
                 session,
+                content,
+                accept,
                 named,
-                application,
+                by,
                 key.name,
                 key.data,
                 key.bits,
@@ -70,16 +115,18 @@ impl Request<'_> {
                 key.verify_allowed,
             ),
             Operation::DestroyKey { name } => {
-                raw::write_destroy(out, session, named, application, name)
+                raw::write_destroy(out, session, content, accept, named, by, name)
             }
             Operation::ExportPublicKey { name } => {
-                raw::write_export(out, session, named, application, name)
+                raw::write_export(out, session, content, accept, named, by, name)
             }
             Operation::AsymmetricVerify(Verify {
                 name,
                 hash,
                 signature,
-            }) => raw::write_verify(out, session, named, application, name, hash, signature),
+            }) => raw::write_verify(
+                out, session, content, accept, named, by, name, hash, signature,
+            ),
         }
     }
 }
@@ -169,11 +216,8 @@ impl<'a> Verify<'a> {
     /// use razidkot_client::{Operation, Request, Verify, LEAST_REQUEST_BUFFER};
     ///
     /// let (hash, signature) = ([0x5A; 32], [0xA5; 256]);
-    /// let request = Request {
-    ///     session: 0,
-    ///     application: Some(b"scanner"),
-    ///     operation: Operation::AsymmetricVerify(Verify::new(b"a", &hash, &signature)),
-    /// };
+    /// let verify = Operation::AsymmetricVerify(Verify::new(b"a", &hash, &signature));
+    /// let request = Request::new(0, Some(b"scanner"), verify);
     /// let mut buffer = [0; LEAST_REQUEST_BUFFER];
     /// // The header, the name's field, the hash's, the signature's, and the application's name.
     /// assert_eq!(request.write(&mut buffer), Ok(28 + 3 + 34 + 259 + 7));

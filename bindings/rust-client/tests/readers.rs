@@ -1,8 +1,8 @@
 //! Responses read through the safe types: outputs, refusals, and chunks.
 
 use razidkot_client::{
-    Import, Opcode, Operation, Output, ReadRefusal, Reader, Reading, Request, Response, Status,
-    Verify, LONGEST_RESPONSE, MOST_ENTRIES, STATE_SIZE,
+    BodyFormat, Import, Opcode, Operation, Output, ReadRefusal, Reader, Reading, Request, Response,
+    Status, Verify, LONGEST_RESPONSE, MOST_ENTRIES, STATE_SIZE,
 };
 
 const SESSION: u64 = 0x0102_0304_0506_0708;
@@ -29,11 +29,13 @@ fn operation(opcode: Opcode) -> Operation<'static> {
 }
 
 fn reader(opcode: Opcode) -> Reader {
-    Reader::begin(&Request {
-        session: SESSION,
-        application: None,
-        operation: operation(opcode),
-    })
+    Reader::begin(&Request::new(SESSION, None, operation(opcode)))
+}
+
+/// One that has asked for tagged records.
+fn tagged_reader(opcode: Opcode) -> Reader {
+    let request = Request::new(SESSION, None, operation(opcode));
+    Reader::begin(&request.in_format(BodyFormat::Tagged))
 }
 
 /// Magic, H, version, provider, session, content type, content length, opcode, status, body.
@@ -168,7 +170,7 @@ fn data_is_handed_out_where_it_lies() {
         panic!("{reader:?}");
     };
     assert_eq!(data, [0xAA, 0xBB, 0xCC]);
-    let place = 12 + 26 + 2;
+    let place = 13 + 26 + 2;
     assert_eq!(data.as_ptr(), reader.memory()[place..].as_ptr());
 }
 
@@ -188,9 +190,124 @@ fn any_status_but_0_and_7_is_read_as_a_number_with_nothing() {
     }
 }
 
+/// A response whose body is tagged records.
+fn tagged(opcode: Opcode, status: u16, body: &[u8]) -> Vec<u8> {
+    let mut bytes = response(opcode, status, body);
+    bytes[17] = 2;
+    bytes
+}
+
+#[test]
+fn outputs_are_read_from_tagged_records() {
+    let said = |opcode, body: &[u8], expect: &dyn Fn(Output)| {
+        let mut reader = tagged_reader(opcode);
+        match reader.read(&tagged(opcode, 0, body)).said {
+            Ok(Reading::Response(Response { status: 0, output })) => expect(output),
+            other => panic!("{other:?}"),
+        }
+    };
+    let version = b"\x01\x04\x00\x01\x01\x00\x00\x02\x04\x00\x07\x00\x00\x00";
+    said(Opcode::Ping, version, &|output| {
+        let (major, minor) = (257, 7);
+        assert_eq!(output, Output::Version { major, minor });
+    });
+    let list = b"\x01\x0C\x00\x00\x00\x00\x00\x2C\x01\x00\x00\xFF\xFF\xFF\xFF";
+    said(Opcode::ListProviders, list, &|output| {
+        let Output::Providers(mut list) = output else {
+            panic!("{output:?}");
+        };
+        assert_eq!(list.len(), 3);
+        assert!(list.clone().eq([0, 300, u32::MAX]));
+        assert_eq!((list.nth(1), list.len()), (Some(300), 1));
+        assert_eq!((list.next(), list.next()), (Some(u32::MAX), None));
+    });
+    said(Opcode::ListOpcodes, b"", &|output| {
+        let Output::Opcodes(list) = output else {
+            panic!("{output:?}");
+        };
+        assert_eq!(list.len(), 0);
+    });
+    let data = b"\x01\x03\x00\xAA\xBB\xCC";
+    said(Opcode::PsaExportPublicKey, data, &|output| {
+        assert_eq!(output, Output::Data(&[0xAA, 0xBB, 0xCC]));
+    });
+}
+
+#[test]
+fn lists_of_both_formats_are_equal_by_their_numbers() {
+    let mut one = reader(Opcode::ListOpcodes);
+    one.read(&response(Opcode::ListOpcodes, 0, b"\x0A\x02\x03\x06"));
+    let mut other = tagged_reader(Opcode::ListOpcodes);
+    let body = b"\x01\x08\x00\x03\x00\x00\x00\x06\x00\x00\x00";
+    other.read(&tagged(Opcode::ListOpcodes, 0, body));
+    assert_eq!(one.said(), other.said());
+}
+
+#[test]
+fn tagged_records_are_read_strictly() {
+    for body in [
+        // A 0 that is there, a record that is repeated, an unlisted one, other lengths, a cut.
+        &b"\x01\x04\x00\x00\x00\x00\x00"[..],
+        b"\x01\x04\x00\x01\x00\x00\x00\x01\x04\x00\x01\x00\x00\x00",
+        b"\x02\x04\x00\x01\x00\x00\x00\x01\x04\x00\x01\x00\x00\x00",
+        b"\x03\x04\x00\x01\x00\x00\x00",
+        b"\x01\x03\x00\x01\x00\x00",
+        b"\x01\x05\x00\x01\x00\x00\x00\x00",
+        b"\x01\x04\x00\x01\x00\x00",
+        b"\x01\x04",
+    ] {
+        let mut reader = tagged_reader(Opcode::Ping);
+        let answer = reader.read(&tagged(Opcode::Ping, 0, body));
+        assert_eq!(answer.said, Err(ReadRefusal::UnreadableBody), "{body:?}");
+    }
+    let mut reader = tagged_reader(Opcode::ListOpcodes);
+    let answer = reader.read(&tagged(Opcode::ListOpcodes, 0, b"\x01\x03\x00\x03\x00\x00"));
+    assert_eq!(answer.said, Err(ReadRefusal::UnreadableBody));
+}
+
+#[test]
+fn a_content_type_other_than_the_accept_type_is_refused() {
+    let refused = Err(ReadRefusal::WrongContentType);
+    let opcode = Opcode::PsaDestroyKey;
+    for number in 0..=u8::MAX {
+        let mut bytes = response(opcode, 1140, b"");
+        bytes[17] = number;
+        for format in BodyFormat::ALL {
+            let mut reader = Reader::awaiting(opcode, SESSION, format);
+            let said = reader.read(&bytes).said;
+            assert_eq!(
+                said == refused,
+                number != format.number(),
+                "{format:?} {number}"
+            );
+        }
+    }
+}
+
+#[test]
+fn status_17_has_content_type_1_whatever_was_asked_for() {
+    let mut zeros = *b"\x10\xA7\xC0\x5E\x14\0\x01\0\0\0\0\0\0\0\0\0\0\x01\0\0\0\0\0\0\x11\0";
+    let mut reader = tagged_reader(Opcode::Ping);
+    let Ok(Reading::Response(response)) = reader.read(&zeros).said else {
+        panic!("{reader:?}");
+    };
+    assert_eq!(response.listed_status(), Some(Status::InvalidHeader));
+    zeros[17] = 2;
+    let refused = Err(ReadRefusal::WrongContentType);
+    assert_eq!(tagged_reader(Opcode::Ping).read(&zeros).said, refused);
+    assert_eq!(reader_of_status_17_with_its_own_session().said(), refused);
+}
+
+/// A status 17 of type 2 that repeats its request's session and opcode.
+fn reader_of_status_17_with_its_own_session() -> Reader {
+    let mut reader = tagged_reader(Opcode::Ping);
+    reader.read(&tagged(Opcode::Ping, 17, b""));
+    reader
+}
+
 /// What a status 7 response with this body says, to a request of this opcode.
 fn said_of_7(opcode: Opcode, body: &[u8]) -> Result<u32, ReadRefusal> {
-    let mut reader = Reader::awaiting(opcode, SESSION);
+    let mut reader = Reader::awaiting(opcode, SESSION, BodyFormat::Protobuf);
     match reader.read(&response(opcode, 7, body)).said? {
         Reading::Response(Response {
             status: 7,
@@ -211,6 +328,17 @@ fn status_7_says_where_the_body_broke() {
         assert_eq!(said_of_7(opcode, b"\x08\x85\x80\x80\x80\x10"), Ok(5));
         assert_eq!(said_of_7(opcode, b"\x08\x05\x10\x07\x0A\x01\x09"), Ok(5));
     }
+}
+
+#[test]
+fn the_offset_is_read_from_tagged_records() {
+    let mut reader = tagged_reader(Opcode::PsaImportKey);
+    let body = b"\x01\x04\x00\x0C\x00\x00\x00";
+    let answer = reader.read(&tagged(Opcode::PsaImportKey, 7, body));
+    let Ok(Reading::Response(response)) = answer.said else {
+        panic!("{answer:?}");
+    };
+    assert_eq!((response.status, response.output), (7, Output::Offset(12)));
 }
 
 #[test]
@@ -309,7 +437,8 @@ fn a_fresh_reader_has_its_request_and_waits() {
         let memory = [
             &opcode.number().to_le_bytes()[..],
             &SESSION.to_le_bytes(),
-            &[0; STATE_SIZE - 10],
+            &[1],
+            &[0; STATE_SIZE - 11],
         ];
         assert_eq!(reader.memory(), memory.concat());
         assert_eq!(reader.said(), Ok(Reading::Waiting));

@@ -1,9 +1,9 @@
 //! Requests written through the safe types: their bytes, their bounds and what is refused.
 
 use razidkot_client::{
-    Import, Opcode, Operation, Request, Verify, WriteRefusal, BITS_STEP, HASH_SIZE, LEAST_BITS,
-    LEAST_REQUEST_BUFFER, LONGEST_APPLICATION_NAME, LONGEST_BODY, LONGEST_DATA, LONGEST_KEY_NAME,
-    LONGEST_REQUEST, MOST_BITS,
+    BodyFormat, Import, Opcode, Operation, Request, Verify, WriteRefusal, BITS_STEP, HASH_SIZE,
+    LEAST_BITS, LEAST_REQUEST_BUFFER, LONGEST_APPLICATION_NAME, LONGEST_BODY, LONGEST_DATA,
+    LONGEST_KEY_NAME, LONGEST_REQUEST, MOST_BITS,
 };
 
 const SESSION: u64 = 0x0102_0304_0506_0708;
@@ -19,11 +19,7 @@ const IMPORT: Import = Import {
 const VERIFY: Verify = Verify::new(b"a", &[0x5A; HASH_SIZE], b"\xCC\xDD");
 
 fn request<'a>(application: Option<&'a [u8]>, operation: Operation<'a>) -> Request<'a> {
-    Request {
-        session: SESSION,
-        application,
-        operation,
-    }
+    Request::new(SESSION, application, operation)
 }
 
 /// Writes to a buffer that had other bytes, and gives it whole.
@@ -35,11 +31,23 @@ fn written(request: &Request) -> (Result<usize, WriteRefusal>, Vec<u8>) {
 
 /// Header size, version, provider, session, types, content length, auth length, opcode, body, auth.
 fn expected(provider: u8, auth_type: u8, opcode: u16, body: &[u8], auth: &[u8]) -> Vec<u8> {
+    typed([1, 1], provider, auth_type, opcode, body, auth)
+}
+
+/// The same with another content and accept type.
+fn typed(
+    [content_type, accept_type]: [u8; 2],
+    provider: u8,
+    auth_type: u8,
+    opcode: u16,
+    body: &[u8],
+    auth: &[u8],
+) -> Vec<u8> {
     [
         &b"\x10\xA7\xC0\x5E\x16\x00\x01\x00"[..],
         &[provider],
         &SESSION.to_le_bytes(),
-        &[1, 1, auth_type],
+        &[content_type, accept_type, auth_type],
         &(body.len() as u32).to_le_bytes(),
         &(auth.len() as u16).to_le_bytes(),
         &opcode.to_le_bytes(),
@@ -91,6 +99,49 @@ fn each_operation_is_written_as_asked() {
 }
 
 #[test]
+fn each_operation_is_written_as_tagged_records() {
+    use Operation::*;
+    let import = b"\x01\x01\x00a\x02\x02\x00\xAA\xBB\x03\x04\x00\x00\x08\x00\x00\x04\x01\x00\x01\x05\x01\x00\x01";
+    let hash = [0x5A; 32];
+    let verify = [
+        b"\x01\x01\x00a\x02\x20\x00",
+        &hash[..],
+        b"\x03\x02\x00\xCC\xDD",
+    ];
+    let verify = verify.concat();
+    let named: [(Operation, u8, u16, &[u8]); 8] = [
+        (Ping, 0, 1, b""),
+        (ListProviders, 0, 8, b""),
+        (
+            ListOpcodes { provider: 1 },
+            0,
+            9,
+            b"\x01\x04\x00\x01\x00\x00\x00",
+        ),
+        (ListOpcodes { provider: 0 }, 0, 9, b""),
+        (ImportKey(IMPORT), 1, 6, import),
+        (DestroyKey { name: b"key" }, 1, 3, b"\x01\x03\x00key"),
+        (ExportPublicKey { name: b"key" }, 1, 7, b"\x01\x03\x00key"),
+        (AsymmetricVerify(VERIFY), 1, 5, &verify),
+    ];
+    for (operation, provider, opcode, body) in named {
+        let by_scanner = typed([2, 2], provider, 1, opcode, body, b"scanner");
+        let tagged = request(Some(b"scanner"), operation).in_format(BodyFormat::Tagged);
+        expect_written(tagged, &by_scanner);
+        // The response in the other format: no byte but the accept type changes.
+        let accept_type = BodyFormat::Protobuf;
+        let by_scanner = typed([2, 1], provider, 1, opcode, body, b"scanner");
+        expect_written(
+            Request {
+                accept_type,
+                ..tagged
+            },
+            &by_scanner,
+        );
+    }
+}
+
+#[test]
 fn each_permission_stands_in_its_own_field() {
     let body = |export_allowed, verify_allowed| {
         let import = Import {
@@ -130,16 +181,22 @@ fn bounds_themselves_are_written() {
     }
 }
 
-/// The name's field has 2 bytes more than the name, the hash's 34, the signature's 3 more than it.
-fn longest_signature(name: &[u8]) -> usize {
-    LONGEST_BODY - (2 + name.len()) - (2 + HASH_SIZE) - 3
+/// In Protocol Buffers the name's field has 2 bytes more than the name, the hash's 34, the
+/// signature's 3 more than it. As tagged records each has 3 more.
+fn longest_signature(format: BodyFormat, name: &[u8]) -> usize {
+    let heads = match format {
+        BodyFormat::Protobuf => 2 + 2 + 3,
+        BodyFormat::Tagged => 3 + 3 + 3,
+    };
+    LONGEST_BODY - heads - name.len() - HASH_SIZE
 }
 
 #[test]
 fn a_signature_may_fill_the_body_and_not_a_byte_more() {
     let application = [b'~'; LONGEST_APPLICATION_NAME];
-    for name in [&b"a"[..], &[b'!'; LONGEST_KEY_NAME]] {
-        let signature = vec![0xFF; longest_signature(name) + 1];
+    let names = [&b"a"[..], &[b'!'; LONGEST_KEY_NAME]];
+    for (format, name) in BodyFormat::ALL.iter().flat_map(|&f| names.map(|n| (f, n))) {
+        let signature = vec![0xFF; longest_signature(format, name) + 1];
         let verify = |length: usize| {
             let signature = &signature[..length];
             let verify = Verify {
@@ -147,7 +204,7 @@ fn a_signature_may_fill_the_body_and_not_a_byte_more() {
                 signature,
                 ..VERIFY
             };
-            request(Some(&application), Operation::AsymmetricVerify(verify))
+            request(Some(&application), Operation::AsymmetricVerify(verify)).in_format(format)
         };
         let (result, buffer) = written(&verify(signature.len() - 1));
         assert_eq!(result, Ok(LONGEST_REQUEST));
@@ -155,7 +212,8 @@ fn a_signature_may_fill_the_body_and_not_a_byte_more() {
         expect_refused(verify(signature.len()), WriteRefusal::BodyTooLong);
     }
     // The least bound of all names: what the header promises.
-    assert_eq!(longest_signature(&[b'!'; LONGEST_KEY_NAME]), 4_025);
+    let longest = |format| longest_signature(format, &[b'!'; LONGEST_KEY_NAME]);
+    assert_eq!(BodyFormat::ALL.map(longest), [4_025, 4_023]);
 }
 
 #[test]

@@ -1,7 +1,7 @@
-//! A client of the key service in Rust: lists the providers, imports a key, exports it, asks for one
-//! that is not there and destroys the first; then it has signatures checked with another. It prints
-//! what came back. It reads from any stream; here the service is in the same program (`stream.rs`)
-//! and stands for a socket.
+//! A client of the key service in Rust: lists the providers, imports a key, exports it in both body
+//! formats, asks for one that is not there and destroys the first; then it has signatures checked
+//! with another. It prints what came back. It reads from any stream; here the service is in the same
+//! program (`stream.rs`) and stands for a socket.
 //!
 //!     rt staticlib abi && rt staticlib client_abi && cargo run --quiet -p razidkot-client-example
 
@@ -10,7 +10,7 @@ mod series;
 mod stream;
 
 use client::Client;
-use razidkot_client::{Import, Operation, Output, Reader, Reading, Request, Verify};
+use razidkot_client::{BodyFormat, Import, Operation, Output, Reader, Reading, Request, Verify};
 use std::error::Error;
 use stream::Stream;
 
@@ -38,7 +38,7 @@ fn main() -> Result<(), Box<dyn Error>> {
     let mut client = Client::new(Stream::open(b"\x01\x07\x00scanner")?);
 
     // A session of its own for each request, so that no response is taken for another's.
-    let list = request(1, None, Operation::ListProviders);
+    let list = Request::new(1, None, Operation::ListProviders);
     print("list providers", &client.ask(&list)?)?;
 
     // What is outside the bounds is refused before a byte is sent.
@@ -46,18 +46,21 @@ fn main() -> Result<(), Box<dyn Error>> {
         bits: 2_050,
         ..IMPORT
     };
-    let odd = request(2, SCANNER, Operation::ImportKey(odd));
+    let odd = Request::new(2, SCANNER, Operation::ImportKey(odd));
     if let Err(refusal) = client.ask(&odd) {
         println!("import of 2050 bits: {refusal}");
     }
-    let import = request(3, SCANNER, Operation::ImportKey(IMPORT));
+    let import = Request::new(3, SCANNER, Operation::ImportKey(IMPORT));
     print("import a", &client.ask(&import)?)?;
-    let export = request(4, SCANNER, Operation::ExportPublicKey { name: b"a" });
+    let export = Request::new(4, SCANNER, Operation::ExportPublicKey { name: b"a" });
     print("export a", &client.ask(&export)?)?;
+    // The same in the other format: the request's body has it, and the response's.
+    let export = Request::new(11, SCANNER, export.operation).in_format(BodyFormat::Tagged);
+    print("export a in format 2", &client.ask(&export)?)?;
 
     // Two requests sent before a response is read: a reader for each, in the same order.
-    let export = request(5, SCANNER, Operation::ExportPublicKey { name: b"b" });
-    let destroy = request(6, SCANNER, Operation::DestroyKey { name: b"a" });
+    let export = Request::new(5, SCANNER, Operation::ExportPublicKey { name: b"b" });
+    let destroy = Request::new(6, SCANNER, Operation::DestroyKey { name: b"a" });
     let mut exported = client.send(&export)?;
     let mut destroyed = client.send(&destroy)?;
     client.receive(&mut exported)?;
@@ -67,11 +70,11 @@ fn main() -> Result<(), Box<dyn Error>> {
 
     // The status says what a signature is worth: 0 good, 1149 bad, and any other that it was not
     // checked.
-    let import = request(7, SCANNER, Operation::ImportKey(SERIES));
+    let import = Request::new(7, SCANNER, Operation::ImportKey(SERIES));
     print("import series", &client.ask(&import)?)?;
     let verify = |session, name, hash| {
         let verify = Verify::new(name, hash, series::SIGNATURE);
-        request(session, SCANNER, Operation::AsymmetricVerify(verify))
+        Request::new(session, SCANNER, Operation::AsymmetricVerify(verify))
     };
     let good = verify(8, SERIES.name, series::HASH);
     print("verify abc", &client.ask(&good)?)?;
@@ -79,18 +82,6 @@ fn main() -> Result<(), Box<dyn Error>> {
     print("verify something else", &client.ask(&bad)?)?;
     let without_key = verify(10, b"b", series::HASH);
     print("verify with b", &client.ask(&without_key)?)
-}
-
-fn request<'a>(
-    session: u64,
-    application: Option<&'a [u8]>,
-    operation: Operation<'a>,
-) -> Request<'a> {
-    Request {
-        session,
-        application,
-        operation,
-    }
 }
 
 /// A response: its status, and what it carries.

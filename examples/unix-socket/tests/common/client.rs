@@ -27,11 +27,7 @@ impl Client {
     /// The bytes of the next request, which has a session of its own, and the reader of its response.
     pub fn write(&mut self, operation: Operation) -> (Vec<u8>, Reader) {
         self.session += 1;
-        let request = Request {
-            session: self.session,
-            application: self.application,
-            operation,
-        };
+        let request = Request::new(self.session, self.application, operation);
         let mut buffer = [0; LEAST_REQUEST_BUFFER];
         let written = request.write(&mut buffer).expect("a legal request");
         (buffer[..written].to_vec(), Reader::begin(&request))
