@@ -10,11 +10,13 @@ use std::str::FromStr;
 /// Options that stand alone, of all commands.
 const FLAGS: [&str; 4] = ["--help", "-h", "--export", "--verify"];
 /// Options that a value follows.
-const VALUED: [&str; 8] = [
+const VALUED: [&str; 10] = [
     "-o",
     "--app",
     "--session",
     "--bits",
+    "--format",
+    "--accept",
     "--hash",
     "--signature",
     "--roster",

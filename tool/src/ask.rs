@@ -4,8 +4,8 @@ use crate::arguments::{number, Arguments};
 use crate::key::{self, PublicKey};
 use crate::response::byte_of_body;
 use crate::{hash, input, output, Failure};
-use razidkot_client::{Import, Opcode, Operation, Output, Provider, Reader, Reading, Request};
-use razidkot_client::{Response, Status, Verify, WriteRefusal, LEAST_REQUEST_BUFFER};
+use razidkot_client::{BodyFormat, Import, Opcode, Operation, Output, Provider, Reader, Reading};
+use razidkot_client::{Request, Response, Status, Verify, WriteRefusal, LEAST_REQUEST_BUFFER};
 use std::error::Error;
 use std::ffi::OsString;
 use std::fmt::Debug;
@@ -23,6 +23,9 @@ struct Ask {
     socket: PathBuf,
     application: Option<Vec<u8>>,
     session: u64,
+    /// The format of the request's body, and that asked for in the response.
+    format: BodyFormat,
+    accept: BodyFormat,
     asked: Asked,
 }
 
@@ -85,6 +88,8 @@ impl Ask {
         let socket = PathBuf::from(arguments.word("ask", "SOCKET")?);
         let application = arguments.value("--app").map(OsStringExt::into_vec);
         let session = arguments.number("ask", "--session")?.unwrap_or(0);
+        let format = format(&mut arguments, "--format")?.unwrap_or_default();
+        let accept = self::format(&mut arguments, "--accept")?.unwrap_or(format);
         let operation = arguments.word("ask", "an operation")?;
         let asked = match operation.to_str() {
             Some("ping") => without("ask ping", Asked::Ping, arguments),
@@ -100,6 +105,8 @@ impl Ask {
             socket,
             application,
             session,
+            format,
+            accept,
             asked,
         })
     }
@@ -109,6 +116,8 @@ impl Ask {
             session: self.session,
             application: self.application.as_deref(),
             operation: self.asked.operation(),
+            content_type: self.format,
+            accept_type: self.accept,
         }
     }
 }
@@ -148,6 +157,17 @@ impl Asked {
             Asked::Ping | Asked::Providers | Asked::Opcodes(_) => b"",
         }
     }
+}
+
+/// The value of an option as a body format.
+fn format(arguments: &mut Arguments, option: &str) -> Result<Option<BodyFormat>, Failure> {
+    let Some(number) = arguments.number("ask", option)? else {
+        return Ok(None);
+    };
+    let format = BodyFormat::from_number(number);
+    let unknown = || format!("{option} {number}: not 1, Protocol Buffers, nor 2, tagged records");
+    let format = format.ok_or_else(|| Failure::usage("ask", unknown()))?;
+    Ok(Some(format))
 }
 
 /// An operation without input.

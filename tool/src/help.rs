@@ -77,7 +77,7 @@ with the reason.
 ";
 
 const ASK: &str = "\
-razidkot ask SOCKET OPERATION .. [--app NAME] [--session N]
+razidkot ask SOCKET OPERATION .. [--app NAME] [--session N] [--format N] [--accept N]
 
 Sends one request to the key service at the Unix socket SOCKET, and prints what comes back.
 
@@ -93,6 +93,9 @@ Sends one request to the key service at the Unix socket SOCKET, and prints what 
 
   --app NAME              the application that asks; without it nobody does
   --session N             the session that the response has to repeat, 0 if not said
+  --format N              the format of the request's body: 1, Protocol Buffers, if not said, or
+                          2, tagged records
+  --accept N              the format of the response's body, if it shall be another
 
 A status other than 0 is said on standard error by name and number, and the program's status is 1,
 or 3 where `verify` says that the signature is bad. With status 7, a body that the service can't

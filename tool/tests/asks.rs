@@ -4,7 +4,7 @@ mod common;
 
 use common::keys::{Forms, Signed, PEM, SHORT_PEM};
 use common::{folder, free, razidkot, series, Ended};
-use razidkot_client::{Import, Operation, Request, Verify, LEAST_REQUEST_BUFFER};
+use razidkot_client::{BodyFormat, Import, Operation, Request, Verify, LEAST_REQUEST_BUFFER};
 use razidkot_tests::ask::record;
 use std::ffi::OsStr;
 use std::fs;
@@ -144,6 +144,36 @@ fn a_keys_life() {
     }
     refused(import, "PsaErrorInsufficientStorage (status 1142)");
     service.stop(12);
+}
+
+/// All operations with both bodies as tagged records, and with one of them.
+#[test]
+fn a_keys_life_in_either_format() {
+    let (service, folder) = (Service::start("formats"), folder("formats"));
+    let key = folder.file("key", series::DATA);
+    let signature = folder.file("signature", series::SIGNATURE);
+    let formats = [
+        words!["--format", "2"],
+        words!["--accept", "2"],
+        words!["--format", "2", "--accept", "1"],
+    ];
+    for format in formats {
+        let app = words!["--app", "scanner"];
+        let asked = |words: &[&OsStr]| service.ask(&[words, app, format].concat());
+        assert_eq!(asked(words!["ping"]).text(), "1.0\n");
+        assert_eq!(asked(words!["providers"]).text(), "0 Core\n1 Keystore\n");
+        let core = "1 Ping\n8 ListProviders\n9 ListOpcodes\n";
+        assert_eq!(asked(words!["opcodes", "0"]).text(), core);
+        let import = words!["import", "k", key, "--export", "--verify"];
+        assert_eq!(asked(import).printed(), b"");
+        assert_eq!(asked(words!["export", "k"]).printed(), series::DATA);
+        let verify = words!["verify", "k", "--hash", ABC, "--signature", signature];
+        assert_eq!(asked(verify).text(), "good signature\n");
+        assert_eq!(asked(words!["destroy", "k"]).printed(), b"");
+        let said = "PsaErrorDoesNotExist (status 1140)";
+        service.assert_refused(&[words!["export", "k"], app, format].concat(), said);
+    }
+    service.stop(3 * 7);
 }
 
 /// What the tool lists, the service has for everybody, and nobody can change.
@@ -530,19 +560,25 @@ fn the_request_is_what_the_command_line_says() {
         ),
     ];
     for (words, operation) in cases {
-        let nobody = Request {
-            session: 0,
-            application: None,
-            operation,
-        };
+        let nobody = Request::new(0, None, operation);
         assert_sent("sent", words, nobody);
-        let named = Request {
-            session: 0x0102_0304_0506_0708,
-            application: Some(b"scanner"),
-            operation,
-        };
+        let named = Request::new(0x0102_0304_0506_0708, Some(b"scanner"), operation);
         let more = words!["--app", "scanner", "--session", "72623859790382856"];
         assert_sent("sent", &[words, more].concat(), named);
+        let tagged = nobody.in_format(BodyFormat::Tagged);
+        assert_sent("sent", &[words, words!["--format", "2"]].concat(), tagged);
+        let [protobuf, accept_type] = BodyFormat::ALL;
+        let other = Request {
+            accept_type,
+            ..nobody
+        };
+        assert_sent("sent", &[words, words!["--accept=2"]].concat(), other);
+        let other = Request {
+            accept_type: protobuf,
+            ..tagged
+        };
+        let both = words!["--accept", "1", "--format", "2"];
+        assert_sent("sent", &[words, both].concat(), other);
     }
 }
 
@@ -565,11 +601,7 @@ fn an_import_sends_the_key_and_what_it_may_be_used_for() {
             export_allowed,
             verify_allowed,
         };
-        let request = Request {
-            session: 0,
-            application: None,
-            operation: Operation::ImportKey(key),
-        };
+        let request = Request::new(0, None, Operation::ImportKey(key));
         let words = [words!["import", "a", file], more].concat();
         assert_sent("imported", &words, request);
     }

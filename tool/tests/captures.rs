@@ -218,6 +218,20 @@ fn where_a_body_broke_is_shown() {
     assert_eq!(squeezed(&rows("broken", &stream)), expected);
 }
 
+/// The response has the accept type's format, and the offset is read from either.
+#[test]
+fn where_tagged_records_broke_is_shown() {
+    let body = b"\x01\x01\x00k\x02\x03\x00\xAA\xBB";
+    let import = with_byte(request(IMPORT, Some(b"b"), body), 17, 2);
+    let other = with_byte(import.clone(), 18, 2);
+    let expected = [
+        "0 38 7 DeserializingBodyFailed PsaImportKey \"b\" byte 4 of the body",
+        "38 38 7 DeserializingBodyFailed PsaImportKey \"b\" byte 4 of the body",
+    ];
+    let rows = rows("broken_records", &[&import, &other]);
+    assert_eq!(squeezed(&rows), expected);
+}
+
 #[test]
 fn an_oversized_request_is_shown_whole_and_its_name_is_not() {
     let named = request(PING, Some(b"b"), b"");

@@ -168,6 +168,21 @@ const NOT_UNDERSTOOD: [(&str, &str, &str); 58] = [
         " ask",
     ),
     (
+        "ask s ping --format 3",
+        "--format 3: not 1, Protocol Buffers, nor 2, tagged records",
+        " ask",
+    ),
+    (
+        "ask s ping --accept 0",
+        "--accept 0: not 1, Protocol Buffers, nor 2, tagged records",
+        " ask",
+    ),
+    (
+        "ask s ping --format protobuf",
+        "--format protobuf: no number, or too large",
+        " ask",
+    ),
+    (
         "ask s providers --export",
         "--export is no option here",
         " ask providers",
