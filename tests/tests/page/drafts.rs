@@ -40,8 +40,8 @@ impl Draft {
     pub fn has(&self, status: u64) -> bool {
         match status {
             4 => self.major != 1,
-            2 => self.content_type != 1,
-            3 => self.accept_type != 1,
+            2 => self.content_type > 2,
+            3 => self.accept_type > 2,
             9 => self.opcode != 6,
             6 => self.provider > 1,
             1 => self.provider != 1,
@@ -83,8 +83,8 @@ pub fn drafts() -> Vec<Draft> {
     }];
     let auths: [(u8, &[u8]); 5] = [(1, b"ct"), (1, b"us"), (0, b""), (0, b"ct"), (2, b"ct")];
     let drafts = each(drafts, &[1, 2], |draft, major| draft.major = major);
-    let drafts = each(drafts, &[1, 2], |draft, kind| draft.content_type = kind);
-    let drafts = each(drafts, &[1, 2], |draft, kind| draft.accept_type = kind);
+    let drafts = each(drafts, &[1, 3], |draft, kind| draft.content_type = kind);
+    let drafts = each(drafts, &[1, 2, 3], |draft, kind| draft.accept_type = kind);
     let drafts = each(drafts, &[6, 0], |draft, opcode| draft.opcode = opcode);
     let drafts = each(drafts, &[1, 0, 2], |draft, provider| {
         draft.provider = provider

@@ -2,12 +2,16 @@
 
 use super::text::bytes_of;
 use super::Fault;
-use razidkot_client::{Import, Opcode, Operation, Request, Verify, LEAST_REQUEST_BUFFER};
+use razidkot_client::{
+    BodyFormat, Import, Opcode, Operation, Request, Verify, LEAST_REQUEST_BUFFER,
+};
 
 pub struct Wanted {
     pub opcode: Opcode,
     pub buffer: usize,
     session: u64,
+    content_type: BodyFormat,
+    accept_type: BodyFormat,
     application: Option<Vec<u8>>,
     provider: u32,
     name: Vec<u8>,
@@ -17,6 +21,15 @@ pub struct Wanted {
     bits: u32,
     export_allowed: bool,
     verify_allowed: bool,
+}
+
+/// `type 2`.
+fn format_of(text: &str) -> Result<BodyFormat, Fault> {
+    let number = text
+        .strip_prefix("type ")
+        .and_then(|text| text.parse().ok());
+    let format = number.and_then(BodyFormat::from_number);
+    format.ok_or(format!("{text}: no body format"))
 }
 
 fn parsed<T: std::str::FromStr>(text: &str) -> Result<T, Fault> {
@@ -34,6 +47,8 @@ impl Wanted {
             opcode: opcode.ok_or(format!("{name}: no operation"))?,
             buffer: LEAST_REQUEST_BUFFER,
             session: 0,
+            content_type: BodyFormat::Protobuf,
+            accept_type: BodyFormat::Protobuf,
             application: None,
             provider: 0,
             name: Vec::new(),
@@ -53,6 +68,8 @@ impl Wanted {
         match what {
             "nobody" => self.application = None,
             "session" => self.session = parsed(value)?,
+            "content" => self.content_type = format_of(value)?,
+            "accept" => self.accept_type = format_of(value)?,
             "application" => self.application = Some(value.into()),
             "provider" => self.provider = parsed(value)?,
             "name" => self.name = value.into(),
@@ -98,6 +115,8 @@ impl Wanted {
             session: self.session,
             application: self.application.as_deref(),
             operation: self.operation(),
+            content_type: self.content_type,
+            accept_type: self.accept_type,
         }
     }
 
