@@ -43,7 +43,7 @@ pub fn bill_from_reader(roster: &[u8], mut stream: impl Read, list: &[u8]) -> io
 }
 
 /// Loads the roster; the only line of the bill where it or, the roster being good, the list is bad.
-fn refused_start(roster: &[u8], list: &[u8], registry: &mut [u8]) -> Option<String> {
+pub(crate) fn refused_start(roster: &[u8], list: &[u8], registry: &mut [u8]) -> Option<String> {
     if let Err(fault) = load_roster(roster, registry) {
         return Some(format!("roster R{}", fault.number()));
     }
@@ -95,7 +95,7 @@ fn refused_lines(counters: &Counters) -> impl Iterator<Item = String> + '_ {
 }
 
 /// Every line ends with a newline, the last one too.
-fn text_of(lines: &[String]) -> Vec<u8> {
+pub(crate) fn text_of(lines: &[String]) -> Vec<u8> {
     lines
         .iter()
         .flat_map(|line| [line.as_bytes(), b"\n"])
@@ -105,7 +105,7 @@ fn text_of(lines: &[String]) -> Vec<u8> {
 }
 
 /// The next bytes of the stream; none at its end.
-fn read_chunk<'a>(stream: &mut impl Read, buffer: &'a mut [u8]) -> io::Result<&'a [u8]> {
+pub(crate) fn read_chunk<'a>(stream: &mut impl Read, buffer: &'a mut [u8]) -> io::Result<&'a [u8]> {
     loop {
         match stream.read(buffer) {
             Ok(count) => return Ok(&buffer[..count]),

@@ -2,6 +2,7 @@
 //! from their text alone. Each module names the heading that it follows.
 #![forbid(unsafe_code)]
 
+mod audit;
 mod bill;
 mod bytes;
 mod call;
@@ -25,6 +26,7 @@ mod status;
 mod tagged;
 mod wire;
 
+pub use audit::{audit, audit_from_readers, verdict, Verdict};
 pub use bill::{bill, bill_from_reader, bill_text};
 pub use call::{call, Refusal, Taken, MAX_CHUNK, MIN_JOURNAL_BUFFER, MIN_RESPONSE_BUFFER};
 pub use client::{
