@@ -41,7 +41,7 @@ pub extern "C" fn probe_response_header(
     status: u16,
     out: &mut [u8; 26],
 )
-    ensures { λ _. ⌜ now (out .exit) ≡ responseHeader provider session «content_length» opcode status ⌝ }
+    ensures { λ _. ⌜ now (out .exit) ≡ responseHeader provider session 1 «content_length» opcode status ⌝ }
 {
-    *out = response_header(provider, session, content_length, opcode, status);
+    *out = response_header(provider, session, 1, content_length, opcode, status);
 }

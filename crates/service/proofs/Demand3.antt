@@ -99,12 +99,12 @@ called-on list registry seen call ok =
 never-empty : (list : List ℕ) → Every (judgement list) Anything NotEmpty
 unfolding judge judgement refusedEarly verdictOf
 never-empty list = record {
-  bad = λ r c g. record { response = response-some 0 0 0 _ []; registry = tt };
-  large = λ r c header g. record { response = response-some _ _ _ _ []; registry = tt };
+  bad = λ r c g. record { response = response-some 0 0 _ 0 _ []; registry = tt };
+  large = λ r c header g. record { response = response-some _ _ _ _ _ []; registry = tt };
   judged = λ r c request g.
       either (Answers (judgement list) Anything NotEmpty) (oversized request)
-      (λ _. record { response = response-some _ _ _ _ []; registry = tt })
-      (λ _. record { response = response-some _ _ _ _ _; registry = tt });
+      (λ _. record { response = response-some _ _ _ _ _ []; registry = tt })
+      (λ _. record { response = response-some _ _ _ _ _ _; registry = tt });
 }
 
 -- ---- requests
