@@ -35,6 +35,7 @@ use Rattle.messages.specs.Protobuf.{packedOf}
 use Rattle.messages.specs.Operations.{readBody, inputFields, askingOf, asked, operationOf, outputBytes}
 use Rattle.judgement.specs.Operations.{success, refuse, withinBounds, placeKey, importBy, performImport, destroyOf, performDestroy, counted, exportOf, performExport, performListOpcodes, perform, refuseAt, operated}
 use Rattle.judgement.specs.Counts.{noCounts, increment, indexOf, countRefused, countServed, count}
+use Rattle.messages.specs.Formats.{formatFor, contentTypeOf}
 use Rattle.judgement.specs.Judgement.{applicationOf, refusals, askersSlots, resultOf, changedBy, verdictOf, refusedEarly, oversizedStatus, judgement}
 use Rattle.billing.specs.Ascii.{ascii}
 use Rattle.billing.specs.Bill.{digitsBefore, decimal, textLine, applicationLines, keyLine, slotLines, keyLines, refusedLines, billOf, refusedRoster, billFor, isListRefused, bill}
@@ -42,7 +43,7 @@ use Rattle.billing.specs.Claims.{Shown, Case, shownBy, startOf, shownFor
 
 -- all that a case computes with
 unfoldable pub showing : (roster stream list : List ℕ) → Shown
-unfolding rosterOf readRecords recordTurn isWhole recordStep recordFaults firstOf legalName field littleEndian registryOf lineOf flatten rules rulesFrom rulesWithin start answer finish judge next legalStart oversized judgement noCounts requestOf resultOf refusals oneOf opcodesOf isSome applicationOf applicationNamed indexFrom refuseAt operated inputFields askingOf asked operationOf readBody scanAt scanFrom stepAt itemOf fieldAt contentAt numberAt spanAt fixedAt groupAt varintOf withValue perform withinBounds placeKey importBy performImport performDestroy destroyOf performExport counted exportOf keyNamed ownIn listedIn keyOf shippedKey keysIn listOf pairStep pairsDone listedNamed performListOpcodes success refuse numberField bytesField packedField flatMap varint varintWithin importBits legalData legalBits slotNamed keyBytes slotBytes used usedSlot askersSlots verdictOf refusedEarly oversizedStatus responseBytes responseHeader littleEndianOf statusNumber changedBy changed count countServed countRefused increment indexOf slotsOf usesOf slotOf billOf textLine decimal digitsBefore applicationLines keyLine slotLines keyLines refusedLines heldBytes ascii shownBy startOf bill billFor isListRefused wellFormedList refusedRoster faultNumber listed messageBytes readMessage packedOf outputBytes bind
+unfolding rosterOf readRecords recordTurn isWhole recordStep recordFaults firstOf legalName field littleEndian registryOf lineOf flatten rules rulesFrom rulesWithin start answer finish judge next legalStart oversized judgement noCounts requestOf resultOf refusals oneOf opcodesOf isSome applicationOf applicationNamed indexFrom refuseAt operated inputFields askingOf asked operationOf formatFor contentTypeOf readBody scanAt scanFrom stepAt itemOf fieldAt contentAt numberAt spanAt fixedAt groupAt varintOf withValue perform withinBounds placeKey importBy performImport performDestroy destroyOf performExport counted exportOf keyNamed ownIn listedIn keyOf shippedKey keysIn listOf pairStep pairsDone listedNamed performListOpcodes success refuse numberField bytesField packedField flatMap varint varintWithin importBits legalData legalBits slotNamed keyBytes slotBytes used usedSlot askersSlots verdictOf refusedEarly oversizedStatus responseBytes responseHeader littleEndianOf statusNumber changedBy changed count countServed countRefused increment indexOf slotsOf usesOf slotOf billOf textLine decimal digitsBefore applicationLines keyLine slotLines keyLines refusedLines heldBytes ascii shownBy startOf bill billFor isListRefused wellFormedList refusedRoster faultNumber listed messageBytes readMessage packedOf outputBytes bind
 showing roster stream list = shownBy (rules (judgement list) (startOf (rosterOf roster)) stream) (bill (some roster) (some stream) (some list))
 
 -- a case holds if it is computed so

@@ -11,11 +11,8 @@ use lib.ListN.{length, getD, take}
 use Rattle.wire.specs.Choice.{if_then_else_}
 use Rattle.wire.specs.Lists.{same}
 use Rattle.wire.specs.Request.{headerLength, Request, requestOf}
-use Rattle.wire.specs.Response.{responseBytes}
 use Rattle.wire.proofs.TestLaws.{every-at}
 use Rattle.wire.proofs.ListLaws.{same-refl, same-true}
-use Rattle.messages.specs.Protobuf.{protobuf}
-use Rattle.messages.specs.Operations.{outputBytes}
 use Rattle.stream.specs.Frame.{legalStart, oversized}
 use Rattle.stream.specs.Rules.{Verdict, judge}
 use Rattle.stream.specs.Parts.{verdictOn}
@@ -25,10 +22,9 @@ use Rattle.registry.specs.WellFormed.{wellFormedRegistry}
 use Rattle.registry.specs.declared.Line.{Line}
 use Rattle.registry.proofs.RegistryLaws.{named-used, found-line, found-by-names}
 use Rattle.registry.proofs.UseLaws.{changedSlots, changedUses}
-use Rattle.judgement.specs.Status.{statusNumber}
 use Rattle.judgement.specs.Operations.{Result}
 use Rattle.judgement.specs.Counts.{Counts}
-use Rattle.judgement.specs.Judgement.{applicationOf, resultOf, verdictOf, refusedEarly, judgement}
+use Rattle.judgement.specs.Judgement.{answerBytes, applicationOf, resultOf, verdictOf, refusedEarly, judgement}
 use Rattle.judgement.proofs.CountLaws.{servedNext}
 use Rattle.judgement.proofs.AskerLaws.{asks-by-name, asks-named, served-type, same-result, open-result}
 use Rattle.judgement.proofs.VerdictLaws.{late-verdict, verdict-kept, verdict-lines, ServedFor, untouched, moved}
@@ -127,7 +123,7 @@ module _ (list name : List ℕ) (line : Line) where
     own-answer =
         let f : Request = requestOf q in
         ap (λ (v : Verdict (List ℕ) Counts (List ℕ)). v .response) (late-verdict list r c q (mine .legal) (mine .small))
-        ∙ ap (λ (x : Result). responseBytes (f .provider) (f .session) (f .opcode) (statusNumber (x .status)) (outputBytes protobuf (x .output))) own-result
+        ∙ ap (answerBytes f) own-result
         ∙ sym (ap (λ (v : Verdict (List ℕ) Counts (List ℕ)). v .response) (late-verdict list r′ c′ q (mine .legal) (mine .small)))
 
     own-view : view (verdictOn (judgement list) r c q .registry) (verdictOn (judgement list) r c q .counts)
@@ -160,5 +156,4 @@ open-answer list list′ r r′ c c′ bytes e = go (oversized bytes)
         ≡ (if t then judgement list′ .onOversized r′ c′ (take (headerLength bytes) bytes) else judgement list′ .onRequest r′ c′ bytes) .response
     go true = refl
     go false =
-        ap (λ (x : Result). responseBytes (q .provider) (q .session) (q .opcode) (statusNumber (x .status)) (outputBytes protobuf (x .output)))
-        (open-result list list′ r r′ q e)
+        ap (answerBytes q) (open-result list list′ r r′ q e)

@@ -24,6 +24,7 @@ use Rattle.messages.specs.Opcodes.{opcodesOf}
 use Rattle.messages.specs.Format.{listed, messageBytes, readMessage}
 use Rattle.messages.specs.Protobuf.{packedOf}
 use Rattle.messages.specs.Operations.{readBody, inputFields, askingOf, asked, operationOf, outputBytes}
+use Rattle.messages.specs.Formats.{formatFor, contentTypeOf}
 use Rattle.registry.specs.Names.{indexFrom, distinct}
 use Rattle.registry.specs.Slots.{keyBytes, slotBytes, slotOf, used, usedSlot, wellFormedSlot}
 use Rattle.registry.specs.Registry.{applicationNamed, slotsOf, usesOf, slotNamed, changed, lineOf, registryOf}
@@ -95,7 +96,7 @@ record Shown : Type 0 where
 
 -- what application "b" gets
 showing : List CallOn → Shown
-unfolding firstOf isSome oneOf littleEndian littleEndianOf field scanFrom scanAt requestOf responseHeader responseBytes varintOf numberAt fixedAt spanAt contentAt fieldAt groupAt withValue itemOf stepAt varintWithin varint numberField bytesField packedField flatMap flatten legalName legalData legalBits importBits opcodesOf listed messageBytes readMessage packedOf readBody inputFields askingOf asked operationOf outputBytes indexFrom distinct keyBytes slotBytes slotOf used usedSlot wellFormedSlot applicationNamed slotsOf usesOf slotNamed changed lineOf registryOf usedFirst wellFormedRegistry isWhole recordTurn readRecords pairStep pairsDone listOf wellFormedList keysIn listedNamed shippedKey keyOf ownIn listedIn keyNamed legalStart oversized next judge isBeginning wellFormed keep respond dropByte openRule skipRule byteRule callRule callOn written bytesOf connectionBytes connectionOf wellFormedConnection statusNumber success refuse withinBounds placeKey importBy performImport counted exportOf performExport perform refuseAt operated noCounts increment indexOf countRefused countServed count applicationOf refusals askersSlots resultOf changedBy verdictOf refusedEarly judgement totalsOf countersOf zeroCounters maximum largestCount largestCounter stateIn memoryOf give recordedFor journalling layout refusalTests refusalOf callOutcome with historyOf exchangesFrom exchanges isBy those bind
+unfolding firstOf isSome oneOf littleEndian littleEndianOf field scanFrom scanAt requestOf responseHeader responseBytes varintOf numberAt fixedAt spanAt contentAt fieldAt groupAt withValue itemOf stepAt varintWithin varint numberField bytesField packedField flatMap flatten legalName legalData legalBits importBits opcodesOf listed messageBytes readMessage packedOf readBody inputFields askingOf asked operationOf formatFor contentTypeOf outputBytes indexFrom distinct keyBytes slotBytes slotOf used usedSlot wellFormedSlot applicationNamed slotsOf usesOf slotNamed changed lineOf registryOf usedFirst wellFormedRegistry isWhole recordTurn readRecords pairStep pairsDone listOf wellFormedList keysIn listedNamed shippedKey keyOf ownIn listedIn keyNamed legalStart oversized next judge isBeginning wellFormed keep respond dropByte openRule skipRule byteRule callRule callOn written bytesOf connectionBytes connectionOf wellFormedConnection statusNumber success refuse withinBounds placeKey importBy performImport counted exportOf performExport perform refuseAt operated noCounts increment indexOf countRefused countServed count applicationOf refusals askersSlots resultOf changedBy verdictOf refusedEarly judgement totalsOf countersOf zeroCounters maximum largestCount largestCounter stateIn memoryOf give recordedFor journalling layout refusalTests refusalOf callOutcome with historyOf exchangesFrom exchanges isBy those bind
 showing calls =
     let o = historyOf shipped (freshWith (registryOf ((0x61 ∷ []) ∷ (0x62 ∷ []) ∷ [])) zeroCounters) calls in
     let xs = exchanges calls (o .answers) in

@@ -1,26 +1,31 @@
 -- The records of a stream of bytes are bytes.
 use mathlib.Core.Path.{_≡_, refl, sym, ap, ap₂, _∙_, subst}
-use mathlib.Core.Bool.{Bool, true, false, _&&_}
-use mathlib.Core.Option.{Option, none, some}
-use mathlib.Core.List.{List, [], _∷_, _++_, flatten}
-use Prim.Native.Nat.{ℕ, zero, suc, _+_, _/_, _%_, _^_, _<_}
+use mathlib.Core.Bool.{Bool, true, false, not, _&&_}
+use mathlib.Core.Option.{Option, none, some, bind}
+use mathlib.Core.List.{List, [], _∷_, _++_, map, flatten}
+use Prim.Native.Nat.{ℕ, zero, suc, _+_, _-_, _/_, _%_, _^_, _<_}
 use native.Mathlib.Omega.{arith}
 use borrow.Author.Tests.{lt-ltb}
-use lib.ListN.{length, getD}
+use lib.ListN.{length, drop, getD, set}
 use lib.Bits.{xor-lt}
-use lib.Dec.{eqb}
-use Rattle.wire.specs.Lists.{all}
-use Rattle.wire.specs.Numbers.{littleEndianOf}
+use lib.Dec.{leb, ltb, eqb}
+use Rattle.wire.specs.Lists.{all, same as alikeBytes, blocks}
+use Rattle.wire.specs.Numbers.{littleEndian, littleEndianOf, field as numberAt}
 use Rattle.wire.specs.Request.{contentLength, headerLength, Request, requestOf}
 use Rattle.wire.proofs.TestLaws.{either}
-use Rattle.wire.proofs.ListLaws.{all-append, all-first, all-last, all-within}
+use Rattle.wire.proofs.ListLaws.{all-append, all-drop, all-first, all-last, all-within}
 use Rattle.wire.proofs.NumberLaws.{isByte}
 use Rattle.keys.specs.Key.{legalBits}
 use Rattle.keys.proofs.KeyLaws.{legal-bits}
-use Rattle.messages.specs.Protobuf.{protobuf}
+use Rattle.messages.specs.Tagged.{given, ofValue, taggedAt, tagged}
+use Rattle.messages.specs.Formats.{formatOf, formatFor}
+use Rattle.messages.specs.declared.format.BodyFormat.{BodyFormat}
+use Rattle.messages.specs.declared.format.BodyFormat.the-variants.{Protobuf, Tagged}
 use Rattle.messages.specs.Operations.{Operation, ping, listProviders, listOpcodes, importKey, destroyKey, exportPublicKey, verifySignature, Asking, inputFields, askingOf, askingBy, asked, operationIn, operationOf}
-use Rattle.messages.specs.Message.{Kind, uint32, bool, bytes, uint32s, Value, number, octetsOf, Schema, Message, absent}
-use Rattle.messages.specs.Format.{Reading}
+use Rattle.messages.specs.Message.{Kind, uint32, bool, bytes, uint32s, Value, number, flag as flagValue, octets, numbers, octetsOf, Schema, Message, kindAt, absent}
+use Rattle.messages.specs.Format.{Format, Field, field, skipped, unreadable, fieldWith, listed, Reading, read, broken, SoFar, turnOf, turnAt, readMessage}
+use Rattle.records.specs.Records.{recordLength, recordIn, isWhole}
+use Rattle.wire.specs.Scan.{Turn, follow, scanFrom, scanAt}
 use Rattle.messages.specs.code.Places.{schemaPlaced, valueOf as placedValue, valuesOf, five, seen}
 use Rattle.messages.proofs.PlacesLaws.{placed}
 use Rattle.messages.proofs.PlacedLaws.{input-few, input-no-lists}
@@ -168,11 +173,95 @@ seen-bytes : (opcode : ℕ) (body : List ℕ) → all isByte body ≡ true → (
 seen-bytes opcode body w (Readable v) = asking-bytes opcode (valuesOf body (inputFields opcode) (five v)) (values-bytes body w (inputFields opcode) (five v))
 seen-bytes opcode body w (Unreadable at) = unfold OfBytes in tt
 
-operation-bytes : (opcode : ℕ) (body : List ℕ) → all isByte body ≡ true → OfBytes (operationOf protobuf opcode body)
+-- ---- a body of format 2
+
+abbrev FieldBytes : Field → Type 0
+FieldBytes (field n v next) = BytesIn v
+FieldBytes (skipped next) = Unit {0}
+FieldBytes unreadable = Unit {0}
+
+abbrev ReadBytes : Reading → Type 0
+ReadBytes (read m) = AllBytes m
+ReadBytes (broken at) = Unit {0}
+
+abbrev AnyBytes : Option Value → Type 0
+AnyBytes none = Unit {0}
+AnyBytes (some v) = BytesIn v
+
+set-bytes : (m : Message) (i : ℕ) (v : Value) → AllBytes m → BytesIn v → AllBytes (set m i v)
+set-bytes [] i v h b = tt
+set-bytes (x ∷ m) zero v h b = (b, h .1)
+set-bytes (x ∷ m) (suc i) v h b = (h .0, set-bytes m i v (h .1) b)
+
+none-bytes : (schema : Schema) → AllBytes (map absent schema)
+none-bytes [] = tt
+none-bytes (kind ∷ schema) = (absent-bytes kind, none-bytes schema)
+
+module _ (format : Format) (schema : Schema) (body : List ℕ) (found : (at : ℕ) → FieldBytes (format .fieldAt schema body at)) where
+  abbrev from : (count at : ℕ) → SoFar → Reading
+  from count at so = scanFrom (turnAt format schema body) (λ x. read (x .1)) (length body) count at so
+
+  scan-bytes : (count at : ℕ) (so : SoFar) → AllBytes (so .1) → ReadBytes (from count at so)
+  unfolding scanFrom
+  scan-bytes zero at so h = h
+  scan-bytes (suc count) at so h =
+      either ReadBytes (ltb at (length body)) (λ _. step (λ next so′ h′. scan-bytes count next so′ h′) (format .fieldAt schema body at) (found at)) (λ _. h)
+    where
+      step : ((next : ℕ) (so′ : SoFar) → AllBytes (so′ .1) → ReadBytes (from count next so′))
+          → (f : Field) → FieldBytes f → ReadBytes (follow (turnOf format at so f) (λ next so′. from count next so′))
+      step ih (field n v next) b =
+          either (λ (t : Turn SoFar Reading). ReadBytes (follow t (λ next so′. from count next so′))) (format .mayFollow (so .0) n)
+          (λ _. ih next (n, set (so .1) (n - 1) v) (set-bytes (so .1) (n - 1) v h b)) (λ _. tt)
+      step ih (skipped next) b = ih next so h
+      step ih unreadable b = tt
+
+  read-bytes : ReadBytes (readMessage format schema body)
+  unfolding readMessage scanAt
+  read-bytes = scan-bytes (length body - 0) 0 (0, map absent schema) (none-bytes schema)
+
+module _ (body : List ℕ) (w : all isByte body ≡ true) where
+  given-bytes : (t : Bool) (v : Value) → BytesIn v → AnyBytes (given t v)
+  given-bytes true v b = b
+  given-bytes false v b = tt
+
+  value-read : (s : List ℕ) → all isByte s ≡ true → (kind : Kind) → AnyBytes (ofValue s kind)
+  value-read s h uint32 = given-bytes (eqb (length s) 4 && not (eqb (littleEndian s) 0)) (number (littleEndian s)) refl
+  value-read s h bool = given-bytes (alikeBytes s (1 ∷ [])) (flagValue true) refl
+  value-read s h bytes = given-bytes (leb 1 (length s)) (octets s) h
+  value-read s h uint32s = given-bytes (leb 1 (length s) && eqb (length s % 4) 0) (numbers (map littleEndian (blocks (length s / 4) 4 s))) refl
+
+  with-bytes : (n next : ℕ) (o : Option Value) → AnyBytes o → FieldBytes (fieldWith n next o)
+  with-bytes n next none h = tt
+  with-bytes n next (some v) h = h
+
+  listed-bytes : (schema : Schema) (n : ℕ) (s : List ℕ) → all isByte s ≡ true → (next : ℕ) → FieldBytes (listed schema n (ofValue s) next)
+  unfolding listed bind
+  listed-bytes schema n s h next = go (kindAt schema n)
+    where
+      go : (k : Option Kind) → FieldBytes (fieldWith n next (bind k (ofValue s)))
+      go none = tt
+      go (some kind) = with-bytes n next (ofValue s kind) (value-read s h kind)
+
+  tagged-bytes : (schema : Schema) (at : ℕ) → FieldBytes (taggedAt schema body at)
+  unfolding taggedAt
+  tagged-bytes schema at =
+      let rest : List ℕ = drop at body in
+      either FieldBytes (isWhole rest)
+      (λ _. listed-bytes schema (recordIn rest .tag) (recordIn rest .value) (all-within isByte rest 3 (numberAt 1 2 rest) (all-drop isByte at body w)) (at + recordLength rest))
+      (λ _. tt)
+
+by-reading : (opcode : ℕ) (r : Reading) → ReadBytes r → OfBytes (operationIn (askingBy opcode r))
+by-reading opcode (read m) h = asking-bytes opcode m h
+by-reading opcode (broken at) h = unfold OfBytes in tt
+
+operation-bytes : (format : BodyFormat) (opcode : ℕ) (body : List ℕ) → all isByte body ≡ true → OfBytes (operationOf (formatOf format) opcode body)
 unfolding operationOf asked
-operation-bytes opcode body w =
+operation-bytes Protobuf opcode body w =
     subst (λ (r : Reading). OfBytes (operationIn (askingBy opcode r))) (sym (placed (inputFields opcode) body (input-few opcode) (input-no-lists opcode)))
     (seen-bytes opcode body w (bodyOf (schemaPlaced (inputFields opcode)) body))
+operation-bytes Tagged opcode body w =
+    by-reading opcode (readMessage tagged (inputFields opcode) body)
+    (read-bytes tagged (inputFields opcode) body (λ at. tagged-bytes body w (inputFields opcode) at))
 
 -- ---- the record of a request of bytes
 
@@ -180,9 +269,9 @@ module _ (list r : List ℕ) (w : wellFormedRegistry r ≡ true) (c : Counts) (r
   abbrev q : Request
   q = requestOf request
 
-  asked-bytes : OfBytes (operationOf protobuf (q .opcode) (q .body))
+  asked-bytes : OfBytes (operationOf (formatOf (formatFor (q .contentType))) (q .opcode) (q .body))
   unfolding requestOf
-  asked-bytes = operation-bytes (q .opcode) (q .body) (all-within isByte request (headerLength request) (contentLength request) b)
+  asked-bytes = operation-bytes (formatFor (q .contentType)) (q .opcode) (q .body) (all-within isByte request (headerLength request) (contentLength request) b)
 
   OfAct : Option Act → Type 0
   OfAct none = Unit {0}
@@ -214,7 +303,7 @@ module _ (list r : List ℕ) (w : wellFormedRegistry r ≡ true) (c : Counts) (r
           same = record { names = refl; slots = λ line u. refl }
       go true e =
           let same : Alike r r = record { names = refl; slots = λ line u. refl } in
-          let is : servedAct list r q ≡ actAsked (applicationOf r q) (operationOf protobuf (q .opcode) (q .body)) = (unfold servedAct in rw (e, servedAct)) in
+          let is : servedAct list r q ≡ actAsked (applicationOf r q) (operationOf (formatOf (formatFor (q .contentType))) (q .opcode) (q .body)) = (unfold servedAct in rw (e, servedAct)) in
           by-act (servedAct list r q) (subst OfAct (sym is) (asker-bytes (applicationOf r q) _ asked-bytes)) _ (served-replayed list r r same q e)
 
   pub reply-bytes : all isByte (verdictOn (journalling list) r c request .response .recorded) ≡ true

@@ -17,7 +17,8 @@ use Rattle.wire.proofs.TestLaws.{some≢none, not-across, every-at, first-has, 
 use Rattle.wire.proofs.ListLaws.{all-at, map-at, same-refl}
 use Rattle.keys.specs.Key.{Key, importBits}
 use Rattle.keys.specs.Names.{legalName, keyNameMost, isNew}
-use Rattle.messages.specs.Protobuf.{protobuf}
+use Rattle.messages.specs.Format.{Format}
+use Rattle.messages.specs.Formats.{formatOf, formatFor}
 use Rattle.messages.specs.Operations.{Operation, ping, listProviders, listOpcodes, importKey, destroyKey, exportPublicKey, verifySignature, Asking, asks, garbled, asked as asking, operationOf}
 use Rattle.registry.specs.Slots.{Entry, free, held, nameOf, used}
 use Rattle.registry.specs.Registry.{lineCount, slotsOf, usesOf, slotNamed, Change, unchanged, fill, addUse, changed}
@@ -160,11 +161,11 @@ module _ (slots : List Entry) (keys : List ListedKey) where
   by-operation (exportPublicKey name) = by-export name
   by-operation (verifySignature name hash signature) = by-verify name hash signature
 
-  by-body : (opcode : ℕ) (body : List ℕ) → Ended slots (operationOf protobuf opcode body) (operated protobuf opcode body slots keys)
+  by-body : (format : Format) (opcode : ℕ) (body : List ℕ) → Ended slots (operationOf format opcode body) (operated format opcode body slots keys)
   unfolding operationOf operated statusNumber refuseAt
-  by-body opcode body = go (asking protobuf opcode body) refl
+  by-body format opcode body = go (asking format opcode body) refl
     where
-      go : (a : Asking) → asking protobuf opcode body ≡ a → Ended slots (operationOf protobuf opcode body) (operated protobuf opcode body slots keys)
+      go : (a : Asking) → asking format opcode body ≡ a → Ended slots (operationOf format opcode body) (operated format opcode body slots keys)
       go (garbled at) e = rw (e, operationOf, operated) (refuses refl)
       go (asks operation) e = rw (e, operationOf, operated) (by-operation operation)
 
@@ -177,7 +178,7 @@ ended list r request = go (firstOf (refusals r q)) refl
 
     go : (o : Option Status) → firstOf (refusals r q) ≡ o → Ended (askersSlots r (applicationOf r q)) (asked request) (resultOf list r q)
     go (some status) e = rw (e, resultOf) (refuses (first-has Refusing (refusals r q) (all-refusing r q) status e))
-    go none e = rw (e, resultOf) (by-body (askersSlots r (applicationOf r q)) (keysIn list) (q .opcode) (q .body))
+    go none e = rw (e, resultOf) (by-body (askersSlots r (applicationOf r q)) (keysIn list) (formatOf (formatFor (q .contentType))) (q .opcode) (q .body))
 
 -- ---- what it does to the counts
 

@@ -23,6 +23,7 @@ use Rattle.messages.specs.Opcodes.{opcodesOf}
 use Rattle.messages.specs.Format.{listed, messageBytes, readMessage}
 use Rattle.messages.specs.Protobuf.{packedOf}
 use Rattle.messages.specs.Operations.{readBody, inputFields, askingOf, asked as asking, operationOf, outputBytes}
+use Rattle.messages.specs.Formats.{formatFor, contentTypeOf}
 use Rattle.registry.specs.Names.{indexFrom}
 use Rattle.registry.specs.Slots.{keyBytes, slotBytes, slotOf, used, usedSlot}
 use Rattle.registry.specs.Registry.{slotCount, applicationNamed, slotsOf, usesOf, slotNamed, changed, lineOf, registryOf}
@@ -70,7 +71,7 @@ record Shown : Type 0 where
   destroyed : ℕ
 
 showing : Shown
-unfolding firstOf isSome oneOf littleEndian littleEndianOf field scanFrom scanAt requestOf responseHeader responseBytes varintOf numberAt fixedAt spanAt contentAt fieldAt groupAt withValue itemOf stepAt varintWithin varint numberField bytesField packedField flatMap flatten legalName legalData legalBits importBits opcodesOf listed messageBytes readMessage packedOf readBody inputFields askingOf asking operationOf outputBytes indexFrom keyBytes slotBytes slotOf used usedSlot applicationNamed slotsOf usesOf slotNamed changed lineOf registryOf isWhole recordTurn readRecords pairStep pairsDone listOf keysIn listedNamed shippedKey keyOf ownIn listedIn keyNamed legalStart oversized next answer finish judge rulesWithin rulesFrom start rules andBefore heldParts partsWithin partsOf verdictOn statusNumber success refuse withinBounds placeKey importBy performImport counted exportOf performExport verifyWith performVerify perform refuseAt operated noCounts increment indexOf countRefused countServed count applicationOf refusals askersSlots resultOf changedBy verdictOf judgement asked keyUsed keyDestroyed isFor isServed isOwn isUse destroysKey registryAfter countIf bind
+unfolding firstOf isSome oneOf littleEndian littleEndianOf field scanFrom scanAt requestOf responseHeader responseBytes varintOf numberAt fixedAt spanAt contentAt fieldAt groupAt withValue itemOf stepAt varintWithin varint numberField bytesField packedField flatMap flatten legalName legalData legalBits importBits opcodesOf listed messageBytes readMessage packedOf readBody inputFields askingOf asking operationOf formatFor contentTypeOf outputBytes indexFrom keyBytes slotBytes slotOf used usedSlot applicationNamed slotsOf usesOf slotNamed changed lineOf registryOf isWhole recordTurn readRecords pairStep pairsDone listOf keysIn listedNamed shippedKey keyOf ownIn listedIn keyNamed legalStart oversized next answer finish judge rulesWithin rulesFrom start rules andBefore heldParts partsWithin partsOf verdictOn statusNumber success refuse withinBounds placeKey importBy performImport counted exportOf performExport verifyWith performVerify perform refuseAt operated noCounts increment indexOf countRefused countServed count applicationOf refusals askersSlots resultOf changedBy verdictOf judgement asked keyUsed keyDestroyed isFor isServed isOwn isUse destroysKey registryAfter countIf bind
 showing =
     let registry = registryOf ((0x61 ∷ []) ∷ (0x62 ∷ []) ∷ []) in
     let line : Line = record { 0 = 0 } in

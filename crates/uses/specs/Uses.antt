@@ -7,7 +7,7 @@ use lib.Dec.{eqb}
 use Rattle.wire.specs.Choice.{if_then_else_, isSome}
 use Rattle.wire.specs.Lists.{every}
 use Rattle.wire.specs.Request.{requestOf}
-use Rattle.messages.specs.Protobuf.{protobuf}
+use Rattle.messages.specs.Formats.{formatOf, formatFor}
 use Rattle.messages.specs.Operations.{Operation, ping, listProviders, listOpcodes, importKey, destroyKey, exportPublicKey, verifySignature, operationOf}
 use Rattle.keys.specs.Names.{isNew}
 use Rattle.registry.specs.Slots.{Entry, nameOf}
@@ -24,7 +24,7 @@ use Rattle.judgement.specs.Judgement.{applicationOf, resultOf, judgement}
 unfoldable pub asked : (request : List ℕ) → Option Operation
 asked request =
     let q = requestOf request in
-    operationOf protobuf (q .opcode) (q .body)
+    operationOf (formatOf (formatFor (q .contentType))) (q .opcode) (q .body)
 
 -- the key that an operation uses
 unfoldable pub keyUsed : Operation → Option (List ℕ)
