@@ -16,7 +16,7 @@ use Rattle.reading.proofs.CallLaws.{call-facts}
 use Rattle.client_responses.specs.Reading.{Asked, Reply, found, responseReader}
 use Rattle.client_responses.specs.State.{responseMost, stateSize, stateBytes, askedIn, bytesIn, layout, wellFormedState, beginState, ReadOutcome, refusal, readOutcome}
 use Rattle.client_responses.specs.declared.Begun.the-variants.{Fresh}
-use Rattle.client_responses.proofs.StateLaws.{isListed, held-back, well-there, well}
+use Rattle.client_responses.proofs.StateLaws.{isListed, isType, Listed, held-back, well-there, well}
 use Rattle.client_responses.proofs.FoundLaws.{wanted}
 use Rattle.client_responses.proofs.ReadLaws.{outcome}
 
@@ -45,7 +45,7 @@ module _ (asked : Asked) where
       subst (λ (r : Reading (List ℕ) Reply). Fits (r .kept)) (c .reads)
       (always (responseReader asked) Fits goes-on s f (take (callRule (responseReader asked) s chunk .taken) chunk))
 
-  module _ (listed : isListed (asked .opcode) ≡ true) where
+  module _ (listed : Listed asked) where
     pub sound : Sound (responseReader asked) [] (layout asked) refusal (λ _. true) Fits
     unfolding responseReader layout refusal
     sound = record {
@@ -66,9 +66,9 @@ call-leaves memory chunk w =
 
 -- ---- and no beginning
 
--- what is begun is for a listed opcode, and holds nothing
+-- what is begun is for a listed opcode and accept type, and holds nothing
 pub record BeginFacts (memory : List ℕ) (asked : Asked) : Type 0 where
-  pub listed : isListed (asked .opcode) ≡ true
+  pub listed : Listed asked
   pub empty : beginState memory asked .memory ≡ stateBytes asked []
 
 pub begun : (memory : List ℕ) (asked : Asked) → beginState memory asked .answer ≡ Fresh → BeginFacts memory asked
@@ -76,7 +76,9 @@ unfolding beginState
 begun memory asked e =
     decide (eqb (length memory) stateSize)
     (λ s. decide (isListed (asked .opcode))
-    (λ l. record { listed = l; empty = rw (s, l, beginState) })
+    (λ l. decide (isType (asked .acceptType))
+    (λ t. record { listed = (l, t); empty = rw (s, l, t, beginState) })
+    (λ t. absurd (let q = rw (s, l, t, beginState) at e in let z : _≡_ {A = ℕ} 0 1 = cc in omega arith)))
     (λ l. absurd (let q = rw (s, l, beginState) at e in let z : _≡_ {A = ℕ} 0 1 = cc in omega arith)))
     (λ s. absurd (let q = rw (s, beginState) at e in let z : _≡_ {A = ℕ} 0 1 = cc in omega arith))
 

@@ -15,6 +15,7 @@ use Rattle.wire.specs.Response.{responseHeaderSize, responseLeast, responseOf}
 use Rattle.wire.specs.declared.response.ResponseHeader.{ResponseHeader}
 use Rattle.wire.proofs.TestLaws.{none-at, some≢none}
 use Rattle.wire.proofs.NumberLaws.{field-append}
+use Rattle.messages.specs.Formats.{formatFor}
 use Rattle.reading.proofs.ReaderLaws.{decide}
 use Rattle.client_responses.specs.Reading.{Asked, responseContentMost, refused, headerTests, bodyReply, foundBehind, found}
 use Rattle.client_responses.specs.State.{responseMost}
@@ -65,7 +66,7 @@ module _ (asked : Asked) (h : ResponseHeader) (s : List ℕ) where
     behind-part l = rw (e, lt-ltb (length s) (responseLeast + h .«content_length») l, foundBehind)
 
     pub behind-whole : responseLeast + h .«content_length» ≤ length s
-        → foundBehind asked h s ≡ some (bodyReply (asked .opcode) (h .status) (take (h .«content_length») (drop responseLeast s)))
+        → foundBehind asked h s ≡ some (bodyReply (formatFor (asked .acceptType)) (asked .opcode) (h .status) (take (h .«content_length») (drop responseLeast s)))
     unfolding foundBehind
     behind-whole l = rw (e, le-ltb (length s) (responseLeast + h .«content_length») l, foundBehind)
 

@@ -11,15 +11,17 @@ use Rattle.wire.specs.Choice.{firstOf}
 use Rattle.wire.specs.Numbers.{field}
 use Rattle.wire.specs.Response.{responseLeast}
 use Rattle.wire.proofs.ListLaws.{length-part, part-of-part}
-use Rattle.messages.specs.Protobuf.{protobuf}
+use Rattle.messages.specs.Formats.{formatOf}
 use Rattle.messages.specs.Operations.{Output, providers, opcodes, exported, answerOf}
-use Rattle.messages.specs.Placed.{spanIn, firstEntries, listIn, outputIn, readIn, SpanWithin, OutputWithin}
+use Rattle.messages.specs.Placed.{spanIn, entriesOf, listIn, outputIn, readIn, SpanWithin, OutputWithin}
+use Rattle.messages.specs.declared.format.BodyFormat.{BodyFormat}
 use Rattle.messages.specs.declared.read.Span.{Span}
 use Rattle.messages.specs.declared.read.Output.{Output as OutputPlaces}
 use Rattle.messages.specs.declared.read.Output.the-variants.{Nothing, Version, Providers, Opcodes, Data, Offset}
 use Rattle.messages.specs.declared.read.OutputRead.the-variants.{Read, Unreadable}
 use Rattle.client_responses.specs.Reading.{responseContentMost, Reply, answered, refused, ofOutput, bodyReply}
 use Rattle.client_responses.specs.State.{countAt, bytesAt, stateSize, bytesIn, saidOf, said}
+use Rattle.client_responses.specs.Handed.{formatIn}
 use Rattle.client_responses.specs.code.Looked.{bodyAt, spanMoved, outputMoved, checkOf, Looked}
 use Rattle.client_responses.specs.declared.ReadRefusal.{ReadRefusal}
 use Rattle.client_responses.specs.declared.ReadRefusal.the-variants.{UnreadableBody}
@@ -29,15 +31,15 @@ use Rattle.client_responses.specs.declared.look.HeaderCheck.the-variants
 
 -- ---- places moved
 
-module _ (n k : ℕ) (m : List ℕ) where
+module _ (format : BodyFormat) (n k : ℕ) (m : List ℕ) where
   span-moved : (span : Span) → SpanWithin n span → spanIn (take n (drop k m)) span ≡ spanIn m (spanMoved k span)
   span-moved span w = part-of-part (span .len) (span .start) n (drop k m) w ∙ ap (take (span .len)) (drop-drop (span .start) k m)
 
-  list-moved : (span : Span) → SpanWithin n span → listIn (take n (drop k m)) span ≡ listIn m (spanMoved k span)
-  list-moved span w = ap firstEntries (span-moved span w)
+  list-moved : (span : Span) → SpanWithin n span → listIn format (take n (drop k m)) span ≡ listIn format m (spanMoved k span)
+  list-moved span w = ap (entriesOf format) (span-moved span w)
 
   -- an output in a part, as one in the whole
-  output-moved : (o : OutputPlaces) → OutputWithin n o → outputIn (take n (drop k m)) o ≡ outputIn m (outputMoved k o)
+  output-moved : (o : OutputPlaces) → OutputWithin n o → outputIn format (take n (drop k m)) o ≡ outputIn format m (outputMoved k o)
   output-moved Nothing w = refl
   output-moved (Version major minor) w = refl
   output-moved (Providers span) w = ap providers (list-moved span w)
@@ -101,17 +103,17 @@ module _ (m : List ℕ) (size : length m ≡ stateSize) (opcode status content :
   pub body-long : length body ≡ content
   body-long = length-part m bodyAt content (omega arith)
 
-  pub said-output : (output : OutputPlaces) → readIn body (Read output) ≡ answerOf protobuf opcode status body → OutputWithin content output
-      → Looked m (some (bodyReply opcode status body)) (Response (record { status = status; output = outputMoved bodyAt output }))
+  pub said-output : (output : OutputPlaces) → readIn (formatIn m) body (Read output) ≡ answerOf (formatOf (formatIn m)) opcode status body → OutputWithin content output
+      → Looked m (some (bodyReply (formatIn m) opcode status body)) (Response (record { status = status; output = outputMoved bodyAt output }))
   unfolding bodyReply
   said-output output e w = record {
     said-is =
-        ap (λ (o : Output). said (answered status o)) (sym (output-moved content bodyAt m output w))
+        ap (λ (o : Output). said (answered status o)) (sym (output-moved (formatIn m) content bodyAt m output w))
         ∙ ap (λ (o : Option Output). said (ofOutput status o)) e;
     within = moved-within content bodyAt (length m) (omega arith) output w;
   }
 
-  pub said-unreadable : readIn body Unreadable ≡ answerOf protobuf opcode status body → Looked m (some (bodyReply opcode status body)) (Refused UnreadableBody)
+  pub said-unreadable : readIn (formatIn m) body Unreadable ≡ answerOf (formatOf (formatIn m)) opcode status body → Looked m (some (bodyReply (formatIn m) opcode status body)) (Refused UnreadableBody)
   unfolding bodyReply
   said-unreadable e = looked-refused m _ UnreadableBody (ap (λ (o : Option Output). some (ofOutput status o)) (sym e))
 

@@ -21,7 +21,7 @@ use Rattle.reading.proofs.CutLaws.{cut-theorem}
 use Rattle.client_responses.specs.Reading.{Asked, Reply, found, responseReader}
 use Rattle.client_responses.specs.State.{stateBytes, bytesIn, layout, Said, waiting, said, saidOf, ReadOutcome, refusal, readOutcome}
 use Rattle.client_responses.specs.Claims.{ReadRun, Contract, refusalIn, replyIn, asCall, ranAs, Reads, lastSaid, ReadsInPieces, InPieces, KeepsStates}
-use Rattle.client_responses.proofs.StateLaws.{isListed, asked-back, held-back, well-there}
+use Rattle.client_responses.proofs.StateLaws.{Listed, asked-back, held-back, well-there}
 use Rattle.client_responses.proofs.ReadLaws.{outcome, outcome-refused}
 use Rattle.client_responses.proofs.CutLaws.{Fits, none-of, sound, call-fits, call-leaves, begun, begin-leaves}
 
@@ -79,7 +79,7 @@ module _ (asked : Asked) where
           → R .ended s ≡ false → read R s (b ∷ bytes) .kept ≡ s ++ take (read R s (b ∷ bytes) .taken) (b ∷ bytes)
       on-byte ih p = rw (read-byte R s b bytes p) (ih ∙ append-assoc s (b ∷ []) (take (read R (s ++ (b ∷ [])) bytes .taken) bytes))
 
-  module _ (listed : isListed (asked .opcode) ≡ true) where
+  module _ (listed : Listed asked) where
     -- ---- one call of the code, on a state that holds `s`
 
     one : (s chunk : List ℕ) → Fits s

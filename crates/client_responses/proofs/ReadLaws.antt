@@ -26,7 +26,7 @@ use Rattle.client_responses.specs.code.Looked.{Looked, Holding, Filled}
 use Rattle.client_responses.specs.declared.look.Said.{Said as SaidPlaces}
 use Rattle.client_responses.specs.declared.look.Said.the-variants.{IllFormed, Waiting, Response, Refused}
 use Rattle.client_responses.proofs.look.Said.{the-type}
-use Rattle.client_responses.proofs.StateLaws.{isListed, asked-back, held-back, size-there, well-there, Well, well, memory-is}
+use Rattle.client_responses.proofs.StateLaws.{Listed, asked-back, held-back, size-there, well-there, Well, well, memory-is}
 use Rattle.client_responses.proofs.FoundLaws.{wanted}
 
 -- ---- what is said
@@ -59,7 +59,7 @@ module _ {m : List ℕ} {o : Option Reply} {r : SaidPlaces} (l : Looked m o r) w
 
 -- ---- a state that holds the beginning of a response
 
-pub holding-of : (asked : Asked) (held memory : List ℕ) → memory ≡ stateBytes asked held → isListed (asked .opcode) ≡ true → found asked held ≡ none → Holding memory
+pub holding-of : (asked : Asked) (held memory : List ℕ) → memory ≡ stateBytes asked held → Listed asked → found asked held ≡ none → Holding memory
 holding-of asked held memory e listed none′ =
     let w = wanted asked held none′ in
     let more = w .more in
@@ -173,7 +173,7 @@ module _ (asked : Asked) (held chunk : List ℕ) where
         passed = subst (Passed R held chunk 0) same (pass-none R held chunk);
       }
 
-  module _ (listed : isListed (asked .opcode) ≡ true) (memory : List ℕ) (used : ℕ) (p : Part memory used) where
+  module _ (listed : Listed asked) (memory : List ℕ) (used : ℕ) (p : Part memory used) where
     pub part-holds : Holding memory
     part-holds = holding-of asked (kept used) memory (p .memory-is) listed (p .begun)
 

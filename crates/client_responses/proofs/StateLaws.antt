@@ -6,7 +6,7 @@ use mathlib.Core.List.{List, [], _∷_, _++_, append-assoc}
 use native.Mathlib.Omega.{arith}
 use borrow.Author.Tests.{eq-eqb, ne-eqb, eqb-true, leb-true, le-leb, lt-leb}
 use borrow.Rule.Slice.PartMut.{putMid}
-use lib.ListN.{length, take, drop, replicate, length-append, length-drop, take-append-drop}
+use lib.ListN.{length, take, drop, set, replicate, length-append, length-drop, take-append-drop}
 use lib.Dec.{eqb, leb}
 use lib.Seq.{drop-drop, drop-append-add, drop-append-seam, take-append-seam, length-take-le}
 use Rattle.wire.specs.Lists.{all, oneOf, isZero, padded, over}
@@ -16,11 +16,19 @@ use Rattle.wire.proofs.ListLaws.{length-padded, all-zeros, all-take, all-drop, 
 use Rattle.wire.proofs.NumberLaws.{isByte, length-number, field-back, bytes-back}
 use Rattle.wire.proofs.BufferLaws.{onward}
 use Rattle.messages.specs.Opcodes.{coreOpcodes, keystoreOpcodes}
+use Rattle.messages.specs.Formats.{contentTypes}
 use Rattle.client_responses.specs.Reading.{Asked}
-use Rattle.client_responses.specs.State.{responseMost, sessionAt, countAt, bytesAt, stateSize, stateBytes, askedIn, bytesIn, wellFormedState}
+use Rattle.client_responses.specs.State.{responseMost, sessionAt, acceptAt, countAt, bytesAt, stateSize, stateBytes, askedIn, bytesIn, wellFormedState}
 
 abbrev pub isListed : (opcode : ℕ) → Bool
 isListed opcode = oneOf (coreOpcodes ++ keystoreOpcodes) opcode
+
+abbrev pub isType : (acceptType : ℕ) → Bool
+isType acceptType = oneOf contentTypes acceptType
+
+-- a request whose response can be read
+abbrev pub Listed : Asked → Type 0
+Listed asked = (isListed (asked .opcode) ≡ true) × (isType (asked .acceptType) ≡ true)
 
 -- ---- the parts of a stored state
 
@@ -36,6 +44,10 @@ module _ (asked : Asked) (bytes : List ℕ) where
   unfolding stateBytes littleEndianOf
   session-there = field-back sessionAt 7 (asked .session) stored _ refl
 
+  accept-there : field acceptAt 1 stored ≡ asked .acceptType
+  unfolding stateBytes littleEndianOf
+  accept-there = field-back acceptAt 0 (asked .acceptType) stored _ refl
+
   pub count-there : field countAt 2 stored ≡ length bytes
   unfolding stateBytes littleEndianOf
   count-there = field-back countAt 1 (length bytes) stored _ refl
@@ -46,7 +58,7 @@ module _ (asked : Asked) (bytes : List ℕ) where
 
   pub asked-back : askedIn stored ≡ asked
   unfolding askedIn
-  asked-back = λ i. record { opcode = opcode-there i; session = session-there i }
+  asked-back = λ i. record { opcode = opcode-there i; session = session-there i; acceptType = accept-there i }
 
   pub held-back : bytesIn stored ≡ bytes
   unfolding bytesIn
@@ -64,13 +76,14 @@ module _ (asked : Asked) (bytes : List ℕ) where
         (sym (drop-drop (length bytes) bytesAt stored) ∙ ap (drop (length bytes)) bytes-there ∙ drop-append-seam bytes (replicate (responseMost - length bytes) 0))
         ∙ all-zeros (responseMost - length bytes)
 
-    pub well-there : isListed (asked .opcode) ≡ true → wellFormedState stored ≡ true
+    pub well-there : Listed asked → wellFormedState stored ≡ true
     unfolding wellFormedState
-    well-there listed =
+    well-there (listed, typed) =
         ap₂ _&&_ (eq-eqb _ _ size-there)
         (ap₂ _&&_ (ap isListed opcode-there ∙ listed)
+        (ap₂ _&&_ (ap isType accept-there ∙ typed)
         (ap₂ _&&_ (le-leb _ _ (let e = count-there in (let x : field countAt 2 stored ≤ responseMost = omega arith in x)))
-        (ap₂ _&&_ zeros-there refl)))
+        (ap₂ _&&_ zeros-there refl))))
 
 -- ---- memory, test by test
 
@@ -88,23 +101,28 @@ module _ (m : List ℕ) where
     unlisted h = rw (eq-eqb (length m) stateSize size, h, wellFormedState)
 
     module _ (listed : isListed (field 0 2 m) ≡ true) where
-      pub too-many : responseMost < count → wellFormedState m ≡ false
+      pub other-type : isType (field acceptAt 1 m) ≡ false → wellFormedState m ≡ false
       unfolding wellFormedState
-      too-many h = rw (eq-eqb (length m) stateSize size, listed, lt-leb count responseMost h, wellFormedState)
+      other-type h = rw (eq-eqb (length m) stateSize size, listed, h, wellFormedState)
 
-      pub zeros-decide : count ≤ responseMost → wellFormedState m ≡ all isZero (drop (bytesAt + count) m)
-      unfolding wellFormedState
-      zeros-decide h = rw (eq-eqb (length m) stateSize size, listed, le-leb count responseMost h, wellFormedState) (go (all isZero (drop (bytesAt + count) m)))
-        where
-          go : (t : Bool) → t && true ≡ t
-          go true = refl
-          go false = refl
+      module _ (typed : isType (field acceptAt 1 m) ≡ true) where
+        pub too-many : responseMost < count → wellFormedState m ≡ false
+        unfolding wellFormedState
+        too-many h = rw (eq-eqb (length m) stateSize size, listed, typed, lt-leb count responseMost h, wellFormedState)
+
+        pub zeros-decide : count ≤ responseMost → wellFormedState m ≡ all isZero (drop (bytesAt + count) m)
+        unfolding wellFormedState
+        zeros-decide h = rw (eq-eqb (length m) stateSize size, listed, typed, le-leb count responseMost h, wellFormedState) (go (all isZero (drop (bytesAt + count) m)))
+          where
+            go : (t : Bool) → t && true ≡ t
+            go true = refl
+            go false = refl
 
 -- ---- well-formed memory
 
 pub record Well (m : List ℕ) : Type 0 where
   pub size : length m ≡ stateSize
-  pub listed : isListed (askedIn m .opcode) ≡ true
+  pub listed : Listed (askedIn m)
   pub few : field countAt 2 m ≤ responseMost
   pub long : length (bytesIn m) ≡ field countAt 2 m
   pub zeros : all isZero (drop (bytesAt + field countAt 2 m) m) ≡ true
@@ -113,6 +131,7 @@ abbrev tests : List ℕ → List Bool
 tests m =
     eqb (length m) stateSize
     ∷ isListed (field 0 2 m)
+    ∷ isType (field acceptAt 1 m)
     ∷ leb (field countAt 2 m) responseMost
     ∷ all isZero (drop (bytesAt + field countAt 2 m) m)
     ∷ []
@@ -121,13 +140,13 @@ pub well : (m : List ℕ) → wellFormedState m ≡ true → Well m
 unfolding wellFormedState askedIn bytesIn
 well m w =
     let size : length m ≡ stateSize = eqb-true (length m) stateSize (every-at (tests m) 0 w) in
-    let few : field countAt 2 m ≤ responseMost = leb-true (field countAt 2 m) responseMost (every-at (tests m) 2 w) in
+    let few : field countAt 2 m ≤ responseMost = leb-true (field countAt 2 m) responseMost (every-at (tests m) 3 w) in
     record {
       size = size;
-      listed = every-at (tests m) 1 w;
+      listed = (every-at (tests m) 1 w, every-at (tests m) 2 w);
       few = few;
       long = length-take-le (field countAt 2 m) (drop bytesAt m) (let d = length-drop bytesAt m in omega arith);
-      zeros = every-at (tests m) 3 w;
+      zeros = every-at (tests m) 4 w;
     }
 
 -- a number of bytes, and what stands behind it
@@ -160,31 +179,33 @@ module _ (m : List ℕ) (w : Well m) where
   memory-is bytes =
       let size = w .size in
       sym (
-      ap (λ (l : List ℕ). littleEndianOf 2 (field 0 2 m) ++ (littleEndianOf 8 (field sessionAt 8 m) ++ l))
+      ap (λ (l : List ℕ). littleEndianOf 2 (field 0 2 m) ++ (littleEndianOf 8 (field sessionAt 8 m) ++ (littleEndianOf 1 (field acceptAt 1 m) ++ l)))
       (ap₂ (λ (n : ℕ) (l : List ℕ). littleEndianOf 2 n ++ l) (w .long) held-next ∙ number-next countAt 1 m bytes (omega arith))
+      ∙ ap (λ (l : List ℕ). littleEndianOf 2 (field 0 2 m) ++ (littleEndianOf 8 (field sessionAt 8 m) ++ l)) (number-next acceptAt 0 m bytes (omega arith))
       ∙ ap (λ (l : List ℕ). littleEndianOf 2 (field 0 2 m) ++ l) (number-next sessionAt 7 m bytes (omega arith))
       ∙ number-next 0 1 m bytes (omega arith))
 
 -- ---- a state begun
 
-begun : (asked : Asked) → over (littleEndianOf 2 (asked .opcode) ++ littleEndianOf 8 (asked .session)) (replicate stateSize 0) ≡ stateBytes asked []
+begun : (asked : Asked) → set (over (littleEndianOf 2 (asked .opcode) ++ littleEndianOf 8 (asked .session)) (replicate stateSize 0)) acceptAt (asked .acceptType) ≡ stateBytes asked []
 unfolding stateBytes littleEndianOf
 begun asked = refl
 
 pub begun-put : (asked : Asked) (first second zeros l part : List ℕ) → first ≡ littleEndianOf 2 (asked .opcode) → second ≡ littleEndianOf 8 (asked .session)
     → zeros ≡ replicate stateSize 0 → l ≡ over first zeros → part ≡ over second (take (length l - sessionAt) (drop sessionAt l))
-    → putMid sessionAt (length l - sessionAt) l part ≡ stateBytes asked []
+    → set (putMid sessionAt (length l - sessionAt) l part) acceptAt (asked .acceptType) ≡ stateBytes asked []
 begun-put asked first second zeros l part f s z e p =
-    onward first second zeros l part sessionAt (sym (ap length f ∙ length-number 2 (asked .opcode))) e p
+    ap (λ (x : List ℕ). set x acceptAt (asked .acceptType))
+    (onward first second zeros l part sessionAt (sym (ap length f ∙ length-number 2 (asked .opcode))) e p
     ∙ ap₂ (λ (x y : List ℕ). over (x ++ y) zeros) f s
-    ∙ ap (over (littleEndianOf 2 (asked .opcode) ++ littleEndianOf 8 (asked .session))) z
+    ∙ ap (over (littleEndianOf 2 (asked .opcode) ++ littleEndianOf 8 (asked .session))) z)
     ∙ begun asked
 
 -- ---- bytes put behind those that are held
 
 module _ (asked : Asked) where
   abbrev numbers : List ℕ
-  numbers = littleEndianOf 2 (asked .opcode) ++ littleEndianOf 8 (asked .session)
+  numbers = littleEndianOf 2 (asked .opcode) ++ (littleEndianOf 8 (asked .session) ++ littleEndianOf 1 (asked .acceptType))
 
   abbrev laid : (n : ℕ) (bytes : List ℕ) → List ℕ
   laid n bytes = (numbers ++ littleEndianOf 2 n) ++ padded responseMost bytes

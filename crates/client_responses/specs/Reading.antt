@@ -11,9 +11,10 @@ use Rattle.wire.specs.Request.{magicNumber, magic, headerSize}
 use Rattle.wire.specs.Response.{responseHeaderSize, responseLeast, responseOf}
 use Rattle.wire.specs.declared.response.ResponseHeader.{ResponseHeader}
 use Rattle.reading.specs.Reader.{Reader}
-use Rattle.messages.specs.Protobuf.{protobuf}
+use Rattle.messages.specs.Formats.{formatOf, formatFor}
 use Rattle.messages.specs.Opcodes.{coreOpcodes}
 use Rattle.messages.specs.Operations.{Output, answerOf}
+use Rattle.messages.specs.declared.format.BodyFormat.{BodyFormat}
 use Rattle.client_responses.specs.declared.ReadRefusal.{ReadRefusal}
 use Rattle.client_responses.specs.declared.ReadRefusal.the-variants.{WrongMagic, WrongHeaderSize, WrongVersion, WrongContentType, NotItsRequests, ContentTooLong, UnreadableBody}
 
@@ -21,6 +22,7 @@ use Rattle.client_responses.specs.declared.ReadRefusal.the-variants.{Wro
 pub record Asked : Type 0 where
   pub opcode : ℕ
   pub session : ℕ
+  pub acceptType : ℕ
 
 -- provider 0 is core, 1 keystore
 abbrev pub providerFor : (opcode : ℕ) → ℕ
@@ -38,9 +40,13 @@ abbrev pub responseContentMost : ℕ
 responseContentMost = 998
 
 -- its opcode, session and provider are its request's
-unfoldable pub isIts : Asked → ResponseHeader → Bool
-isIts asked h =
-    every (eqb (h .opcode) (asked .opcode) ∷ eqb (h .session) (asked .session) ∷ eqb (h .provider) (providerFor (asked .opcode)) ∷ [])
+unfoldable pub isIts : (opcode session : ℕ) → ResponseHeader → Bool
+isIts opcode session h =
+    every (eqb (h .opcode) opcode ∷ eqb (h .session) session ∷ eqb (h .provider) (providerFor opcode) ∷ [])
+
+-- the content type that it must have: the accept type that was sent, with status 17 always 1
+unfoldable pub typeFor : (acceptType status : ℕ) → ℕ
+typeFor acceptType status = if eqb status 17 then 1 else acceptType
 
 -- status 17 with these three zero and no content, which is read as it stands
 unfoldable pub isInvalidHeader : ResponseHeader → Bool
@@ -50,8 +56,8 @@ isInvalidHeader h =
 unfoldable pub headerTests : Asked → ResponseHeader → List (Bool × ReadRefusal)
 headerTests asked h =
     (not (eqb (h .major) 1 && eqb (h .minor) 0), WrongVersion)
-    ∷ (not (eqb (h .«content_type») 1), WrongContentType)
-    ∷ (not (isIts asked h || isInvalidHeader h), NotItsRequests)
+    ∷ (not (eqb (h .«content_type») (typeFor (asked .acceptType) (h .status))), WrongContentType)
+    ∷ (not (isIts (asked .opcode) (asked .session) h || isInvalidHeader h), NotItsRequests)
     ∷ (ltb responseContentMost (h .«content_length»), ContentTooLong)
     ∷ []
 
@@ -61,8 +67,8 @@ abbrev pub ofOutput : (status : ℕ) → Option Output → Reply
 ofOutput status none = refused UnreadableBody
 ofOutput status (some output) = answered status output
 
-unfoldable pub bodyReply : (opcode status : ℕ) (body : List ℕ) → Reply
-bodyReply opcode status body = ofOutput status (answerOf protobuf opcode status body)
+unfoldable pub bodyReply : BodyFormat → (opcode status : ℕ) (body : List ℕ) → Reply
+bodyReply format opcode status body = ofOutput status (answerOf (formatOf format) opcode status body)
 
 -- ---- what bytes are read as, if that can be said yet
 
@@ -72,7 +78,7 @@ foundBehind asked h bytes = elim (firstOf (headerTests asked h)) [
   | some refusal ↦ some (refused refusal)
   | none ↦
       if ltb (length bytes) (responseLeast + h .«content_length») then none
-      else some (bodyReply (asked .opcode) (h .status) (take (h .«content_length») (drop responseLeast bytes)))
+      else some (bodyReply (formatFor (asked .acceptType)) (asked .opcode) (h .status) (take (h .«content_length») (drop responseLeast bytes)))
 ]
 
 unfoldable pub found : Asked → (bytes : List ℕ) → Option Reply

@@ -11,11 +11,12 @@ use Rattle.wire.specs.Numbers.{littleEndianOf, field}
 use Rattle.wire.specs.Response.{responseLeast}
 use Rattle.reading.specs.Calls.{Call, Layout, callOn}
 use Rattle.messages.specs.Opcodes.{coreOpcodes, keystoreOpcodes}
+use Rattle.messages.specs.Formats.{contentTypes}
 use Rattle.client_responses.specs.Reading.{Asked, responseContentMost, Reply, found, responseReader}
 use Rattle.client_responses.specs.declared.Begun.{Begun}
-use Rattle.client_responses.specs.declared.Begun.the-variants.{Fresh, WrongSize, UnlistedOpcode}
+use Rattle.client_responses.specs.declared.Begun.the-variants.{Fresh, WrongSize, UnlistedOpcode, UnlistedType}
 
--- ---- how it lies in memory: the request's opcode and session, how many bytes are held, and they, with zeros behind
+-- ---- how it lies in memory: the request's opcode, session and accept type, how many bytes are held, and they, with zeros behind
 
 -- the longest response
 abbrev pub responseMost : ℕ
@@ -24,8 +25,11 @@ responseMost = responseLeast + responseContentMost
 abbrev pub sessionAt : ℕ
 sessionAt = 2
 
+abbrev pub acceptAt : ℕ
+acceptAt = sessionAt + 8
+
 abbrev pub countAt : ℕ
-countAt = sessionAt + 8
+countAt = acceptAt + 1
 
 abbrev pub bytesAt : ℕ
 bytesAt = countAt + 2
@@ -37,11 +41,12 @@ unfoldable pub stateBytes : Asked → (bytes : List ℕ) → List ℕ
 stateBytes asked bytes =
     littleEndianOf 2 (asked .opcode)
     ++ (littleEndianOf 8 (asked .session)
+    ++ (littleEndianOf 1 (asked .acceptType)
     ++ (littleEndianOf 2 (length bytes)
-    ++ padded responseMost bytes))
+    ++ padded responseMost bytes)))
 
 unfoldable pub askedIn : (memory : List ℕ) → Asked
-askedIn memory = record { opcode = field 0 2 memory; session = field sessionAt 8 memory }
+askedIn memory = record { opcode = field 0 2 memory; session = field sessionAt 8 memory; acceptType = field acceptAt 1 memory }
 
 unfoldable pub bytesIn : (memory : List ℕ) → List ℕ
 bytesIn memory = take (field countAt 2 memory) (drop bytesAt memory)
@@ -49,13 +54,15 @@ bytesIn memory = take (field countAt 2 memory) (drop bytesAt memory)
 unfoldable pub layout : Asked → Layout (List ℕ) (List ℕ) Reply (Unit {0}) (Option Reply)
 layout asked = record { load = bytesIn; store = stateBytes asked; give = λ reply _. reply }
 
--- ---- which memory is a state: of the one exact size, for a listed opcode, with at most the longest response and zeros behind
+-- ---- which memory is a state: of the one exact size, for a listed opcode and accept type, with at most the longest response and
+-- zeros behind
 
 unfoldable pub wellFormedState : (memory : List ℕ) → Bool
 wellFormedState memory =
     every (
     eqb (length memory) stateSize
     ∷ oneOf (coreOpcodes ++ keystoreOpcodes) (field 0 2 memory)
+    ∷ oneOf contentTypes (field acceptAt 1 memory)
     ∷ leb (field countAt 2 memory) responseMost
     ∷ all isZero (drop (bytesAt + field countAt 2 memory) memory)
     ∷ [])
@@ -69,7 +76,9 @@ pub record Beginning : Type 0 where
 unfoldable pub beginState : (memory : List ℕ) → Asked → Beginning
 beginState memory asked =
     if eqb (length memory) stateSize then
-    (if oneOf (coreOpcodes ++ keystoreOpcodes) (asked .opcode) then record { answer = Fresh; memory = stateBytes asked [] }
+    (if oneOf (coreOpcodes ++ keystoreOpcodes) (asked .opcode) then
+    (if oneOf contentTypes (asked .acceptType) then record { answer = Fresh; memory = stateBytes asked [] }
+    else record { answer = UnlistedType; memory = memory })
     else record { answer = UnlistedOpcode; memory = memory })
     else record { answer = WrongSize; memory = memory }
 

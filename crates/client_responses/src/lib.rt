@@ -19,4 +19,5 @@ pub enum Begun {
     Fresh,
     WrongSize,
     UnlistedOpcode,
+    UnlistedType,
 }

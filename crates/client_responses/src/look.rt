@@ -6,6 +6,8 @@ use crate::state::BYTES_AT;
 use crate::state::CONTENT_MOST;
 use crate::state::COUNT_AT;
 use crate::state::SESSION_AT;
+use crate::state::accept_type_of;
+use messages::format::format_for;
 use messages::opcodes::is_core;
 use messages::read::Output;
 use messages::read::OutputRead;
@@ -28,8 +30,9 @@ ghost use lib.ListN.{length, take, drop};
 ghost use Rattle.wire.specs.Choice.{firstOf};
 ghost use Rattle.wire.specs.Numbers.{field};
 ghost use Rattle.messages.specs.Placed.{OutputWithin, SpanWithin};
-ghost use Rattle.client_responses.specs.Reading.{providerFor, responseContentMost, isIts, isInvalidHeader, headerTests, bodyReply, foundBehind, found};
+ghost use Rattle.client_responses.specs.Reading.{providerFor, responseContentMost, isIts, isInvalidHeader, typeFor, headerTests, bodyReply, foundBehind, found};
 ghost use Rattle.client_responses.specs.State.{countAt, bytesAt, responseMost, stateSize, askedIn, bytesIn, wellFormedState};
+ghost use Rattle.client_responses.specs.Handed.{formatIn};
 ghost use Rattle.client_responses.specs.code.Looked.{bodyAt, spanMoved, outputMoved, checkOf, wantedOf, Looked, Run};
 
 // The status's number, and the output, whose places are places in the state's memory.
@@ -64,7 +67,7 @@ fn provider_for(opcode: u16) -> u8
 
 // Whether opcode, session and provider are the request's.
 fn is_its(opcode: u16, session: u64, h: ResponseHeader) -> bool
-    ensures { λ r. ⌜ r ≡ isIts (record { opcode = opcode; session = session }) h ⌝ }
+    ensures { λ r. ⌜ r ≡ isIts opcode session h ⌝ }
 {
     if h.opcode != opcode {
         return false;
@@ -96,7 +99,7 @@ fn is_invalid_header(h: ResponseHeader) -> bool
 
 // The answer to the request, or one that is read for any request.
 fn is_answer(opcode: u16, session: u64, h: ResponseHeader) -> bool
-    ensures { λ r. ⌜ r ≡ isIts (record { opcode = opcode; session = session }) h || isInvalidHeader h ⌝ }
+    ensures { λ r. ⌜ r ≡ isIts opcode session h || isInvalidHeader h ⌝ }
 {
     if is_its(opcode, session, h) {
         return true;
@@ -104,9 +107,19 @@ fn is_answer(opcode: u16, session: u64, h: ResponseHeader) -> bool
     is_invalid_header(h)
 }
 
+// The content type that a response must have.
+fn type_for(accept_type: u8, status: u16) -> u8
+    ensures { λ r. ⌜ r ≡ typeFor «accept_type» status ⌝ }
+{
+    if status == 17 {
+        return 1;
+    }
+    accept_type
+}
+
 // The first test that applies.
-fn check_header(opcode: u16, session: u64, h: ResponseHeader) -> HeaderCheck
-    ensures { λ r. ⌜ r ≡ checkOf (firstOf (headerTests (record { opcode = opcode; session = session }) h)) ⌝ }
+fn check_header(opcode: u16, session: u64, accept_type: u8, h: ResponseHeader) -> HeaderCheck
+    ensures { λ r. ⌜ r ≡ checkOf (firstOf (headerTests (record { opcode = opcode; session = session; acceptType = «accept_type» }) h)) ⌝ }
 {
     if h.major != 1 {
         return HeaderCheck::Refused(ReadRefusal::WrongVersion);
@@ -114,7 +127,7 @@ fn check_header(opcode: u16, session: u64, h: ResponseHeader) -> HeaderCheck
     if h.minor != 0 {
         return HeaderCheck::Refused(ReadRefusal::WrongVersion);
     }
-    if h.content_type != 1 {
+    if h.content_type != type_for(accept_type, h.status) {
         return HeaderCheck::Refused(ReadRefusal::WrongContentType);
     }
     if !is_answer(opcode, session, h) {
@@ -154,10 +167,11 @@ fn move_output(output: Output) -> Output
 // What a whole body is read as.
 fn read_reply(memory: &[u8], opcode: u16, status: u16, content: usize) -> Said
     requires { ⌜ (length (now memory) ≡ stateSize) × (content ≤ responseContentMost) ⌝ }
-    ensures { λ r. ⌜ Looked (now (memory .entry)) (some (bodyReply opcode status (take content (drop bodyAt (now (memory .entry)))))) r ⌝ }
+    ensures { λ r. ⌜ Looked (now (memory .entry)) (some (bodyReply (formatIn (now (memory .entry))) opcode status (take content (drop bodyAt (now (memory .entry)))))) r ⌝ }
 {
+    let format = format_for(accept_type_of(memory));
     let end = BODY_AT + content;
-    match read_answer(opcode, status, &memory[BODY_AT..end]) {
+    match read_answer(format, opcode, status, &memory[BODY_AT..end]) {
         OutputRead::Read(output) => Said::Response(Response {
             status,
             output: move_output(output),
@@ -173,7 +187,8 @@ fn look_behind(memory: &[u8], count: usize, h: ResponseHeader) -> Said
 {
     let opcode = read_u16(memory, 0);
     let session = read_u64(memory, SESSION_AT);
-    match check_header(opcode, session, h) {
+    let accept_type = accept_type_of(memory);
+    match check_header(opcode, session, accept_type, h) {
         HeaderCheck::Refused(refusal) => Said::Refused(refusal),
         HeaderCheck::Passed => {
             let content = h.content_length as usize;
@@ -243,7 +258,8 @@ pub fn first_run(memory: &[u8], chunk: &[u8]) -> usize
     let h = read_response(chunk);
     let opcode = read_u16(memory, 0);
     let session = read_u64(memory, SESSION_AT);
-    match check_header(opcode, session, h) {
+    let accept_type = accept_type_of(memory);
+    match check_header(opcode, session, accept_type, h) {
         HeaderCheck::Refused(_) => RESPONSE_LEAST,
         HeaderCheck::Passed => RESPONSE_LEAST + h.content_length as usize,
     }

@@ -17,7 +17,7 @@ use Rattle.client_responses.proofs.look.check_header.Statement.{stateme
 use Rattle.client_responses.proofs.look.check_header.Tie as tie
 
 abbrev asked : tie.Start → Asked
-asked s = record { opcode = s .args .opcode; session = s .args .session }
+asked s = record { opcode = s .args .opcode; session = s .args .session; acceptType = s .args .accept-type }
 
 -- what the tests from number k on come to
 abbrev from : ℕ → tie.Start → HeaderCheck
@@ -27,7 +27,7 @@ abbrev s2 : tie.Else2 → tie.Start
 s2 c = c .before .before .before .before
 
 abbrev s3 : tie.Else3 → tie.Start
-s3 c = s2 (c .before .before)
+s3 c = s2 (c .before .before .before)
 
 abbrev s4 : tie.Else4 → tie.Start
 s4 c = s3 (c .before .before)
@@ -39,7 +39,7 @@ left2 c = passes _ _ _ (rw (eq-eqb _ _ (c .before .before .if1 .left), eq-eqb _ 
 
 left3 : (c : tie.Else3) → from 0 (s3 c) ≡ from 2 (s3 c)
 unfolding headerTests
-left3 c = left2 (c .before .before) ∙ passes _ _ _ (ap not (eq-eqb _ _ (c .if3 .left)))
+left3 c = left2 (c .before .before .before) ∙ passes _ _ _ (ap not (eq-eqb _ _ (c .if3 .left ∙ c .before .before .type-for .ensures)))
 
 left4 : (c : tie.Else4) → from 0 (s4 c) ≡ from 3 (s4 c)
 unfolding headerTests
@@ -53,9 +53,12 @@ returns-2 : tie.Need-returns-2
 unfolding headerTests
 returns-2 c = sym (stops _ _ _ (rw (eq-eqb _ _ (c .before .before .if1 .left), ne-eqb _ _ (c .if2 .taken)) refl))
 
+type-for-requires : tie.Need-type-for-requires
+type-for-requires c κs = search needs
+
 returns-3 : tie.Need-returns-3
 unfolding headerTests
-returns-3 c = sym (left2 (c .before .before) ∙ stops _ _ _ (ap not (ne-eqb _ _ (c .if3 .taken))))
+returns-3 c = sym (left2 (c .before .before .before) ∙ stops _ _ _ (ap not (ne-eqb _ _ (λ e. c .if3 .taken (e ∙ sym (c .before .before .type-for .ensures))))))
 
 is-answer-requires : tie.Need-is-answer-requires
 is-answer-requires c κs = search needs
@@ -83,6 +86,7 @@ check-header-spec =
     (tie.spec
     returns
     returns-2
+    type-for-requires
     returns-3
     is-answer-requires
     returns-4
