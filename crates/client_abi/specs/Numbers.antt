@@ -1,5 +1,5 @@
 -- What the client's functions exported to C answer, as numbers. Those of a refusal are in the order in which they are judged; one
--- that is added later comes last.
+-- that is added later comes last, as 8, which is judged first.
 use Prim.Native.Nat.{ℕ}
 use mathlib.Core.Path.{_≡_}
 use mathlib.Core.List.{List}
@@ -11,11 +11,11 @@ use Rattle.client_requests.specs.Writing.{WriteOutcome}
 use Rattle.client_responses.specs.State.{Beginning, ReadOutcome}
 use Rattle.client_responses.specs.Handed.{handed, SaidWithin}
 use Rattle.client_requests.specs.declared.WriteRefusal.{WriteRefusal}
-use Rattle.client_requests.specs.declared.WriteRefusal.the-variants.{BufferTooSmall, ApplicationNameIllegal, KeyNameIllegal, DataIllegal, BitsIllegal, HashIllegal, BodyTooLong}
+use Rattle.client_requests.specs.declared.WriteRefusal.the-variants.{BufferTooSmall, ApplicationNameIllegal, KeyNameIllegal, DataIllegal, BitsIllegal, HashIllegal, BodyTooLong, TypeUnlisted}
 use Rattle.client_requests.specs.declared.Written.{Written}
 use Rattle.client_requests.specs.declared.Written.the-variants.{Bytes, Refused}
 use Rattle.client_responses.specs.declared.Begun.{Begun}
-use Rattle.client_responses.specs.declared.Begun.the-variants.{Fresh, WrongSize, UnlistedOpcode}
+use Rattle.client_responses.specs.declared.Begun.the-variants.{Fresh, WrongSize, UnlistedOpcode, UnlistedType}
 use Rattle.client_responses.specs.declared.ReadRefusal.{ReadRefusal}
 use Rattle.client_responses.specs.declared.ReadRefusal.the-variants.{WrongMagic, WrongHeaderSize, WrongVersion, WrongContentType, NotItsRequests, ContentTooLong, UnreadableBody}
 use Rattle.client_responses.specs.declared.look.Response.{Response}
@@ -36,6 +36,7 @@ refusalNumber DataIllegal = 4
 refusalNumber BitsIllegal = 5
 refusalNumber HashIllegal = 6
 refusalNumber BodyTooLong = 7
+refusalNumber TypeUnlisted = 8
 
 -- a refused request has no bytes
 unfoldable pub requestNumbers : Written → Request
@@ -52,6 +53,7 @@ unfoldable pub begunNumber : Begun → ℕ
 begunNumber Fresh = 0
 begunNumber WrongSize = 1
 begunNumber UnlistedOpcode = 2
+begunNumber UnlistedType = 3
 
 -- what beginning a state says, and the memory after it
 abbrev pub beganWith : Beginning → ℕ × List ℕ

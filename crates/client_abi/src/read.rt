@@ -1,4 +1,4 @@
-// Responses read in chunks ("The client's half").
+// Responses read in chunks ("The client's half", "A second body format").
 use client_responses::Begun;
 use client_responses::ReadRefusal;
 use client_responses::look::Response;
@@ -6,16 +6,18 @@ use client_responses::look::Said;
 use client_responses::read::ReadAnswer;
 use client_responses::read::read;
 use client_responses::state::begin;
+use messages::format::format_for;
 use messages::read::Output;
 use messages::read::Span;
 use messages::read::read_list;
 ghost use mathlib.Core.Path.{_≡_};
+ghost use Rattle.messages.specs.Formats.{formatFor};
 ghost use Rattle.messages.specs.Placed.{readListOutcome};
 ghost use Rattle.client_responses.specs.State.{beginState, readOutcome};
 ghost use Rattle.client_abi.specs.Numbers.{beganWith, readRefusalNumber, placedNumbers, outputNumbers, withoutResponse, responseNumbers, saidNumbers, answerNumbers, Says};
 
-// An output: its number; a version's two; where a body broke; the place, in the state's memory, of data or of a list's packed
-// varints. What an output doesn't have is 0.
+// An output: its number; a version's two; where a body broke; the place, in the state's memory, of data or of a list's
+// entries. What an output doesn't have is 0.
 #[repr(C)]
 pub struct OutputNumbers {
     pub kind: u32,
@@ -35,15 +37,21 @@ pub struct Answer {
     pub output: OutputNumbers,
 }
 
-// 0 for a state begun, 1 for memory of another size, 2 for an opcode that is not listed.
+// 0 for a state begun, 1 for memory of another size, 2 for an opcode that is not listed, 3 for an accept type that is not.
 #[no_mangle]
-pub extern "C" fn razidkot_client_begin(state: &mut [u8], opcode: u16, session: u64) -> u32
-    ensures { λ r. ⌜ (r, now (state .exit)) ≡ beganWith (beginState (now (state .entry)) (record { opcode = opcode; session = session })) ⌝ }
+pub extern "C" fn razidkot_client_begin(
+    state: &mut [u8],
+    opcode: u16,
+    session: u64,
+    accept_type: u8,
+) -> u32
+    ensures { λ r. ⌜ (r, now (state .exit)) ≡ beganWith (beginState (now (state .entry)) (record { opcode = opcode; session = session; acceptType = «accept_type» })) ⌝ }
 {
-    match begin(state, opcode, session) {
+    match begin(state, opcode, session, accept_type) {
         Begun::Fresh => 0,
         Begun::WrongSize => 1,
         Begun::UnlistedOpcode => 2,
+        Begun::UnlistedType => 3,
     }
 }
 
@@ -158,10 +166,15 @@ pub extern "C" fn razidkot_client_read(state: &mut [u8], chunk: &[u8]) -> Answer
     number(read(state, chunk))
 }
 
-// The entries of a list's packed varints, as many as there is room for, and how many those are.
+// The entries of a list in the format of its accept type, as many as there is room for, and how many those are. A type other than
+// 2 is read as 1.
 #[no_mangle]
-pub extern "C" fn razidkot_client_read_list(packed: &[u8], entries: &mut [u32]) -> usize
-    ensures { λ r. ⌜ record { count = r; entries = now (entries .exit) } ≡ readListOutcome (now (packed .entry)) (now (entries .entry)) ⌝ }
+pub extern "C" fn razidkot_client_read_list(
+    accept_type: u8,
+    list: &[u8],
+    entries: &mut [u32],
+) -> usize
+    ensures { λ r. ⌜ record { count = r; entries = now (entries .exit) } ≡ readListOutcome (formatFor «accept_type») (now (list .entry)) (now (entries .entry)) ⌝ }
 {
-    read_list(packed, entries)
+    read_list(format_for(accept_type), list, entries)
 }

@@ -1,4 +1,6 @@
-// Requests written ("The client's half", "Checking signatures").
+// Requests written ("The client's half", "Checking signatures", "A second body format"). A content type says the format of the
+// body, an accept type the one that is asked for in the response: 1 or 2.
+use client_requests::Types;
 use client_requests::WriteRefusal;
 use client_requests::Written;
 use client_requests::write::write_destroy;
@@ -31,6 +33,7 @@ fn refusal_number(refusal: WriteRefusal) -> u32
         WriteRefusal::BitsIllegal => 5,
         WriteRefusal::HashIllegal => 6,
         WriteRefusal::BodyTooLong => 7,
+        WriteRefusal::TypeUnlisted => 8,
     }
 }
 
@@ -53,43 +56,63 @@ fn number(written: Written) -> Request
 pub extern "C" fn razidkot_client_write_ping(
     out: &mut [u8],
     session: u64,
+    content_type: u8,
+    accept_type: u8,
     named: bool,
     application: &[u8],
 ) -> Request
-    ensures { λ r. ⌜ (r, now (out .exit)) ≡ writtenWith (writeOutcome (now (out .entry)) session (senderOf named (now (application .entry))) ping) ⌝ }
+    ensures { λ r. ⌜ (r, now (out .exit)) ≡ writtenWith (writeOutcome (now (out .entry)) session (record { content = «content_type»; accept = «accept_type» }) (senderOf named (now (application .entry))) ping) ⌝ }
 {
-    number(write_ping(out, session, named, application))
+    let types = Types {
+        content: content_type,
+        accept: accept_type,
+    };
+    number(write_ping(out, session, types, named, application))
 }
 
 #[no_mangle]
 pub extern "C" fn razidkot_client_write_list_providers(
     out: &mut [u8],
     session: u64,
+    content_type: u8,
+    accept_type: u8,
     named: bool,
     application: &[u8],
 ) -> Request
-    ensures { λ r. ⌜ (r, now (out .exit)) ≡ writtenWith (writeOutcome (now (out .entry)) session (senderOf named (now (application .entry))) listProviders) ⌝ }
+    ensures { λ r. ⌜ (r, now (out .exit)) ≡ writtenWith (writeOutcome (now (out .entry)) session (record { content = «content_type»; accept = «accept_type» }) (senderOf named (now (application .entry))) listProviders) ⌝ }
 {
-    number(write_list_providers(out, session, named, application))
+    let types = Types {
+        content: content_type,
+        accept: accept_type,
+    };
+    number(write_list_providers(out, session, types, named, application))
 }
 
 #[no_mangle]
 pub extern "C" fn razidkot_client_write_list_opcodes(
     out: &mut [u8],
     session: u64,
+    content_type: u8,
+    accept_type: u8,
     named: bool,
     application: &[u8],
     provider: u32,
 ) -> Request
-    ensures { λ r. ⌜ (r, now (out .exit)) ≡ writtenWith (writeOutcome (now (out .entry)) session (senderOf named (now (application .entry))) (listOpcodes provider)) ⌝ }
+    ensures { λ r. ⌜ (r, now (out .exit)) ≡ writtenWith (writeOutcome (now (out .entry)) session (record { content = «content_type»; accept = «accept_type» }) (senderOf named (now (application .entry))) (listOpcodes provider)) ⌝ }
 {
-    number(write_list_opcodes(out, session, named, application, provider))
+    let types = Types {
+        content: content_type,
+        accept: accept_type,
+    };
+    number(write_list_opcodes(out, session, types, named, application, provider))
 }
 
 #[no_mangle]
 pub extern "C" fn razidkot_client_write_import(
     out: &mut [u8],
     session: u64,
+    content_type: u8,
+    accept_type: u8,
     named: bool,
     application: &[u8],
     name: &[u8],
@@ -98,11 +121,16 @@ pub extern "C" fn razidkot_client_write_import(
     exported: bool,
     verified: bool,
 ) -> Request
-    ensures { λ r. ⌜ (r, now (out .exit)) ≡ writtenWith (writeOutcome (now (out .entry)) session (senderOf named (now (application .entry))) (importKey (record { name = now (name .entry); bytes = now (bytes .entry); bits = bits; exportAllowed = exported; verifyAllowed = verified }))) ⌝ }
+    ensures { λ r. ⌜ (r, now (out .exit)) ≡ writtenWith (writeOutcome (now (out .entry)) session (record { content = «content_type»; accept = «accept_type» }) (senderOf named (now (application .entry))) (importKey (record { name = now (name .entry); bytes = now (bytes .entry); bits = bits; exportAllowed = exported; verifyAllowed = verified }))) ⌝ }
 {
+    let types = Types {
+        content: content_type,
+        accept: accept_type,
+    };
     number(write_import(
         out,
         session,
+        types,
         named,
         application,
         name,
@@ -117,39 +145,66 @@ pub extern "C" fn razidkot_client_write_import(
 pub extern "C" fn razidkot_client_write_destroy(
     out: &mut [u8],
     session: u64,
+    content_type: u8,
+    accept_type: u8,
     named: bool,
     application: &[u8],
     name: &[u8],
 ) -> Request
-    ensures { λ r. ⌜ (r, now (out .exit)) ≡ writtenWith (writeOutcome (now (out .entry)) session (senderOf named (now (application .entry))) (destroyKey (now (name .entry)))) ⌝ }
+    ensures { λ r. ⌜ (r, now (out .exit)) ≡ writtenWith (writeOutcome (now (out .entry)) session (record { content = «content_type»; accept = «accept_type» }) (senderOf named (now (application .entry))) (destroyKey (now (name .entry)))) ⌝ }
 {
-    number(write_destroy(out, session, named, application, name))
+    let types = Types {
+        content: content_type,
+        accept: accept_type,
+    };
+    number(write_destroy(out, session, types, named, application, name))
 }
 
 #[no_mangle]
 pub extern "C" fn razidkot_client_write_export(
     out: &mut [u8],
     session: u64,
+    content_type: u8,
+    accept_type: u8,
     named: bool,
     application: &[u8],
     name: &[u8],
 ) -> Request
-    ensures { λ r. ⌜ (r, now (out .exit)) ≡ writtenWith (writeOutcome (now (out .entry)) session (senderOf named (now (application .entry))) (exportPublicKey (now (name .entry)))) ⌝ }
+    ensures { λ r. ⌜ (r, now (out .exit)) ≡ writtenWith (writeOutcome (now (out .entry)) session (record { content = «content_type»; accept = «accept_type» }) (senderOf named (now (application .entry))) (exportPublicKey (now (name .entry)))) ⌝ }
 {
-    number(write_export(out, session, named, application, name))
+    let types = Types {
+        content: content_type,
+        accept: accept_type,
+    };
+    number(write_export(out, session, types, named, application, name))
 }
 
 #[no_mangle]
 pub extern "C" fn razidkot_client_write_verify(
     out: &mut [u8],
     session: u64,
+    content_type: u8,
+    accept_type: u8,
     named: bool,
     application: &[u8],
     name: &[u8],
     hash: &[u8],
     signature: &[u8],
 ) -> Request
-    ensures { λ r. ⌜ (r, now (out .exit)) ≡ writtenWith (writeOutcome (now (out .entry)) session (senderOf named (now (application .entry))) (verifySignature (now (name .entry)) (now (hash .entry)) (now (signature .entry)))) ⌝ }
+    ensures { λ r. ⌜ (r, now (out .exit)) ≡ writtenWith (writeOutcome (now (out .entry)) session (record { content = «content_type»; accept = «accept_type» }) (senderOf named (now (application .entry))) (verifySignature (now (name .entry)) (now (hash .entry)) (now (signature .entry)))) ⌝ }
 {
-    number(write_verify(out, session, named, application, name, hash, signature))
+    let types = Types {
+        content: content_type,
+        accept: accept_type,
+    };
+    number(write_verify(
+        out,
+        session,
+        types,
+        named,
+        application,
+        name,
+        hash,
+        signature,
+    ))
 }

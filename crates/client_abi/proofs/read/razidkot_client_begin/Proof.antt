@@ -17,6 +17,9 @@ enum-told-2 c = search needs
 enum-told-3 : tie.Need-enum-told-3
 enum-told-3 c = search needs
 
+enum-told-4 : tie.Need-enum-told-4
+enum-told-4 c = search needs
+
 same-length : tie.Need-same-length
 same-length c = search needs
 
@@ -38,6 +41,13 @@ returns-3 : tie.Need-returns-3
 unfolding begunNumber
 returns-3 c = rw (← ap beganWith (c .before .before .before .before .begin .ensures), c .enum-told3 .given .1)
 
+same-length-4 : tie.Need-same-length-4
+same-length-4 c = search needs
+
+returns-4 : tie.Need-returns-4
+unfolding begunNumber
+returns-4 c = rw (← ap beganWith (c .before .before .before .before .begin .ensures), c .enum-told4 .given .1)
+
 pub razidkot-client-begin-spec : {M : Type 1} → statement M
 razidkot-client-begin-spec =
     tie.close
@@ -46,9 +56,12 @@ razidkot-client-begin-spec =
     enum-told
     enum-told-2
     enum-told-3
+    enum-told-4
     same-length
     returns
     same-length-2
     returns-2
     same-length-3
-    returns-3)
+    returns-3
+    same-length-4
+    returns-4)
