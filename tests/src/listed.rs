@@ -10,6 +10,10 @@ const VERIFY: u16 = 5;
 const IMPORT: u16 = 6;
 const EXPORT: u16 = 7;
 
+const CONTENT_TYPE_AT: usize = 17;
+/// Document 02, "A second body format".
+const TAGGED: u8 = 2;
+
 /// "staying at 4,294,967,295 once there"
 pub const MOST_USES: u32 = 4_294_967_295;
 
@@ -31,7 +35,11 @@ impl Asked<'_> {
         let payload = request.get(6 + number(4)..)?;
         let (body, application) = payload.split_at_checked(number(20))?;
         let is_keystore = [DESTROY, VERIFY, IMPORT, EXPORT].contains(&opcode);
-        let name = plain_name(body).filter(|_| is_keystore)?;
+        let name = match request[CONTENT_TYPE_AT] {
+            TAGGED => tagged_name(body),
+            _ => plain_name(body),
+        };
+        let name = name.filter(|_| is_keystore)?;
         Some(Asked {
             opcode,
             application,
@@ -171,6 +179,13 @@ fn plain_name(body: &[u8]) -> Option<&[u8]> {
         rest = behind;
     }
     name
+}
+
+/// Field 1 of a body of the second format, which comes first.
+fn tagged_name(body: &[u8]) -> Option<&[u8]> {
+    let (&[tag, low, high], rest) = body.split_first_chunk()?;
+    let length = u16::from_le_bytes([low, high]);
+    rest.get(..length.into()).filter(|_| tag == 1)
 }
 
 /// Of up to eight bytes.
