@@ -61,7 +61,9 @@ fn every_class_of_damage_at_every_place_has_its_fields_offset() {
                 false => random.pick(&[Vec::new(), vec![0x30, 1], vec![0x00], vec![0x0E]]),
             };
             let body = [&before[..], &sample.bytes, &behind].concat();
-            if let Some(at) = sample.unreadable_at {
+            // Longer ones are oversized.
+            let is_read = body.len() <= 4_096;
+            if let Some(at) = sample.unreadable_at.filter(|_| is_read) {
                 expect_offset(&body, before.len() + at);
                 outcomes.count(class.to_string());
             }
