@@ -7,7 +7,8 @@ use mathlib.Core.List.{List, [], _∷_}
 use lib.ListN.{drop}
 use Rattle.wire.specs.Lists.{all}
 use Rattle.reading.specs.Reader.{Reader}
-use Rattle.reading.specs.Calls.{Call, Layout, CallOutcome, CallsOutcome, callOn, callsOn, leaving, handOver}
+use Rattle.reading.specs.Calls.{Call, Layout, CallOutcome, CallsOutcome, callOn, leaving}
+use Rattle.reading.specs.code.Calls.{callsOn, handOver}
 use Rattle.reading.specs.Claims.{ranOutcome, Runs, handedOver}
 
 -- on memory of which `Held` holds, which calls leave so

@@ -3,13 +3,14 @@
 use Prim.Native.Nat.{ℕ}
 use mathlib.Core.Path.{_≡_, sym, subst}
 use mathlib.Core.List.{List}
-use Rattle.reading.specs.Calls.{handOver}
+use Rattle.reading.specs.code.Calls.{handOver}
 use Rattle.reading.proofs.RunsLaws as reading
 use Rattle.stream.specs.Call.{reader}
 use Rattle.stream.specs.Handed.{Lent}
 use Rattle.stream.specs.Claims.{TakenWhole}
 use Rattle.journal.specs.Journalling.{journalling}
-use Rattle.service.specs.Call.{Memory, layout, Call, fresh, refusalOf, callOutcome, callsOutcome}
+use Rattle.service.specs.Call.{Memory, layout, Call, fresh, refusalOf, callOutcome}
+use Rattle.service.specs.code.Calls.{callsOutcome}
 use Rattle.service.specs.Contract.{Ran, outcomeIn, CallContract}
 use Rattle.service.specs.Claims.{Runs, ranOutcome, handedOver, FollowsRules, CodeDemand3}
 use Rattle.service.proofs.Demand3.{demand3}

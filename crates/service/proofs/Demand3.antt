@@ -11,7 +11,8 @@ use lib.ListN.{length, take}
 use Rattle.wire.specs.Choice.{firstOf}
 use Rattle.wire.proofs.TestLaws.{either}
 use Rattle.reading.specs.Call.{Effect, callRule}
-use Rattle.reading.specs.Calls.{took, callOn, takenStream, handOver}
+use Rattle.reading.specs.Calls.{took, callOn, takenStream}
+use Rattle.reading.specs.code.Calls.{handOver}
 use Rattle.stream.specs.Frame.{oversized}
 use Rattle.stream.specs.Rules.{State, Outcome, judge, rules}
 use Rattle.stream.specs.Call as stream
@@ -33,7 +34,8 @@ use Rattle.judgement.proofs.ResponseLaws.{response-some}
 use Rattle.journal.specs.Journalling.{recordedFor, recordsIn, journalling, journalOf}
 use Rattle.counters.specs.Counters.{totalsOf, countersOf, zeroCounters, counterMost, largestCount, largestCounter}
 use Rattle.counters.proofs.RequestLaws.{rules-requests}
-use Rattle.service.specs.Call.{Memory, stateIn, memoryOf, layout, Call, CallOutcome, CallsOutcome, fresh, bufferLeast, journalLeast, chunkMost, refusalTests, refusalOf, callOutcome, callsOutcome}
+use Rattle.service.specs.Call.{Memory, stateIn, memoryOf, layout, Call, CallOutcome, CallsOutcome, fresh, bufferLeast, journalLeast, chunkMost, refusalTests, refusalOf, callOutcome}
+use Rattle.service.specs.code.Calls.{callsOutcome}
 use Rattle.service.specs.Claims.{FollowsRules}
 use Rattle.service.proofs.KeptLaws.{keeps}
 

@@ -8,7 +8,7 @@ use lib.ListN.{length}
 use lib.Dec.{ltb}
 use Rattle.wire.specs.Choice.{firstOf}
 pub use Rattle.wire.specs.Response.{bufferLeast}
-use Rattle.reading.specs.Calls.{Call as CallWith, Answer as AnswerWith, Layout, CallOutcome as CallOutcomeWith, CallsOutcome as CallsOutcomeWith, callOn, callsOn}
+use Rattle.reading.specs.Calls.{Call as CallWith, Answer as AnswerWith, Layout, CallOutcome as CallOutcomeWith, CallsOutcome as CallsOutcomeWith, callOn}
 use Rattle.stream.specs.Rules.{State, opened}
 use Rattle.stream.specs.Call.{reader}
 use Rattle.stream.specs.Handed.{Handed, Lent, Given, give}
@@ -82,10 +82,7 @@ refusalTests list m call =
 unfoldable pub refusalOf : (list : List ℕ) → Memory → Call → Option ℕ
 refusalOf list m call = Option·map refusalNumber (firstOf (refusalTests list m call))
 
--- ---- the call, by the judgement with its records, and a list of calls; all are lent the same list of keys that we ship, read-only
+-- ---- the call, by the judgement with its records; all calls are lent the same list of keys that we ship, read-only
 
 unfoldable pub callOutcome : (list : List ℕ) → Memory → Call → CallOutcome
 callOutcome list m call = callOn (reader (journalling list)) layout (refusalOf list) m call
-
-unfoldable pub callsOutcome : (list : List ℕ) → Memory → List Call → CallsOutcome
-callsOutcome list m calls = callsOn (reader (journalling list)) layout (refusalOf list) m calls

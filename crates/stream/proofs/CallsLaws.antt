@@ -8,7 +8,8 @@ use mathlib.Core.List.{List, [], _++_, flatten}
 use lib.ListN.{length, take}
 use Rattle.reading.specs.Reader.{Reading, read}
 use Rattle.reading.specs.Call.{callRule}
-use Rattle.reading.specs.Calls.{Call, took, Layout, CallsOutcome, callOn, callsOn, joinedOut, takenStream, answersBy}
+use Rattle.reading.specs.Calls.{Call, took, Layout, CallsOutcome, callOn, joinedOut, takenStream, answersBy}
+use Rattle.reading.specs.code.Calls.{callsOn}
 use Rattle.reading.specs.Claims.{saidBy, Finds, FollowsReader}
 use Rattle.reading.proofs.CallsLaws.{Lawful as LoadsBack, follows-reader, call-took}
 use Rattle.stream.specs.Rules.{Judgement, heldBytes, State, Outcome, rules}

@@ -11,7 +11,8 @@ use lib.Seq.{take-length}
 use lib.Dec.{leb}
 use Rattle.wire.proofs.TestLaws.{and-left, and-right}
 use Rattle.reading.specs.Reader.{Reading, read}
-use Rattle.reading.specs.Calls.{Call, Layout, callsOn, leaving, handOver}
+use Rattle.reading.specs.Calls.{Call, Layout, leaving}
+use Rattle.reading.specs.code.Calls.{callsOn, handOver}
 use Rattle.reading.specs.Claims.{enough}
 use Rattle.reading.proofs.DeliveryLaws.{flatten-leaving, unrefused, delivered as delivered-reading}
 use Rattle.stream.specs.Rules.{Judgement, State, rules}

@@ -10,7 +10,8 @@ use lib.Dec.{leb}
 use Rattle.wire.specs.Request.{requestLength}
 use Rattle.reading.specs.Reader.{Step, Reading, withEvent, read}
 use Rattle.reading.specs.Call.{Effect, callRule}
-use Rattle.reading.specs.Calls.{Call, Layout, CallsOutcome, callsOn, handOver, takenStream, answersBy}
+use Rattle.reading.specs.Calls.{Call, Layout, CallsOutcome, takenStream, answersBy}
+use Rattle.reading.specs.code.Calls.{callsOn, handOver}
 use Rattle.reading.specs.Buffer.{bytesOf, asOne}
 use Rattle.reading.proofs.CallLaws.{oneMore}
 use Rattle.reading.specs.Claims.{Finds, enough}
@@ -20,7 +21,7 @@ use Rattle.stream.specs.Frame.{oversized, Next, unfinished, badStart, sk
 use Rattle.stream.specs.Rules.{Verdict, Judgement, Connection, opened, skipping, closed, State, Outcome, judge, rules}
 use Rattle.stream.specs.Call.{keep, respond, dropByte, openRule, skipRule, byteRule, reader, fresh, byRules}
 use Rattle.stream.specs.Parts.{partsOf, responsesTo}
-use Rattle.stream.specs.Handed.{Handed, handing, recording, Lent, Given, give, joinedResponses, responsesIn, joinedRecords}
+use Rattle.stream.specs.Handed.{Handed, recording, Lent, Given, give, joinedResponses, responsesIn, joinedRecords}
 use Rattle.stream.proofs.CallLaws.{rules-read, call-responds, call-goes-on}
 use Rattle.stream.proofs.ResponseLaws.{Every, Anything, NotEmpty, every-event}
 use Rattle.stream.proofs.PartsLaws.{rules-from-stream}

@@ -2,9 +2,9 @@
 use Prim.Native.Nat.{ℕ}
 use mathlib.Core.Option.{Option, none, some}
 use mathlib.Core.List.{List, []}
-use Rattle.reading.specs.Calls.{Answer, Layout, joinedOut}
+use Rattle.reading.specs.Calls.{Answer, joinedOut}
 use Rattle.reading.specs.Buffer.{Written, written, bytesOf, asOne}
-use Rattle.stream.specs.Rules.{Verdict, Judgement, State}
+use Rattle.stream.specs.Rules.{Verdict, Judgement}
 
 -- what a request brings
 pub record Handed : Type 0 where
