@@ -1,2 +1,7 @@
 pub mod AlikeLaws
+pub mod VerdictLaws
 pub mod StepLaws
+pub mod CalledLaws
+pub mod PlaceLaws
+pub mod StepsLaws
+pub mod ClaimLaws

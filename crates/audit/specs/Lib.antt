@@ -1,3 +1,4 @@
 pub mod Audit
 pub mod Step
+pub mod Claims
 pub mod code

@@ -20,11 +20,13 @@ fn judge_rest(p: Progress, pending: &[u8], rest: &[u8]) -> Verdict
     let place = p.place;
     let left = &pending[place..size];
     let n = count_alike(left, rest);
+    let byte = place + n;
+    let next = p.number + 1;
     if n < left.len() {
-        return Verdict::Wrong(p.number, place + n);
+        return Verdict::Wrong(p.number, byte);
     }
     if n < rest.len() {
-        return Verdict::Wrong(p.number + 1, 0);
+        return Verdict::Wrong(next, 0);
     }
     Verdict::Accepted
 }

@@ -25,39 +25,37 @@ part-left-end c = fine c .held
 count-alike-requires : tie.Need-count-alike-requires
 count-alike-requires c κs = search needs
 
-add-t12 : tie.Need-add-t12
-add-t12 c =
-    let counted = c .before in
-    let else = counted .before .before in
+add-byte : tie.Need-add-byte
+add-byte c =
+    let else = c .before .before in
     let a = else .before .before .before .args in
-    omega (arith, within (a .p) (a .pending .now) (fine else) (a .rest .now) (counted .count-alike .result) (counted .count-alike .ensures))
+    omega (arith, within (a .p) (a .pending .now) (fine else) (a .rest .now) (c .count-alike .result) (c .count-alike .ensures))
+
+add-next : tie.Need-add-next
+add-next c = omega (arith, fine (c .before .before .before) .numbered)
 
 returns-2 : tie.Need-returns-2
 returns-2 c =
-    let counted = c .before in
+    let counted = c .before .before in
     let else = counted .before .before in
     let a = else .before .before .before .args in
     verdict-inside (a .p) (a .pending .now) (a .rest .now) (counted .count-alike .result) (else .if1 .left) (counted .count-alike .ensures) (c .if2 .taken)
 
-add-t13 : tie.Need-add-t13
-add-t13 c = omega (arith, fine (c .before .before .before .before .before) .numbered)
-
 returns-3 : tie.Need-returns-3
 returns-3 c =
-    let then = c .before in
-    let full = then .before in
-    let counted = full .before in
+    let full = c .before in
+    let counted = full .before .before in
     let else = counted .before .before in
     let a = else .before .before .before .args in
-    verdict-behind (a .p) (a .pending .now) (a .rest .now) (counted .count-alike .result) (else .if1 .left) (counted .count-alike .ensures) (full .if2 .left) (then .if3 .taken)
+    verdict-behind (a .p) (a .pending .now) (a .rest .now) (counted .count-alike .result) (else .if1 .left) (counted .count-alike .ensures) (full .if2 .left) (c .if3 .taken)
 
 returns-4 : tie.Need-returns-4
 returns-4 c =
     let full = c .before in
-    let counted = full .before in
+    let counted = full .before .before in
     let else = counted .before .before in
     let a = else .before .before .before .args in
     verdict-accepted (a .p) (a .pending .now) (a .rest .now) (counted .count-alike .result) (else .if1 .left) (counted .count-alike .ensures) (full .if2 .left) (c .if3 .left)
 
 pub judge-rest-spec : {M : Type 1} → statement M
-judge-rest-spec = tie.close (tie.spec returns sub-left part-left-start part-left-end count-alike-requires add-t12 returns-2 add-t13 returns-3 returns-4)
+judge-rest-spec = tie.close (tie.spec returns sub-left part-left-start part-left-end count-alike-requires add-byte add-next returns-2 returns-3 returns-4)
