@@ -15,7 +15,8 @@ use Rattle.service.specs.Contract.{lentMemory, callWith, codeNumber, refusalIn,
 use Rattle.service.specs.declared.Outcome.{Outcome}
 use Rattle.audit.specs.Audit.{alike}
 use Rattle.audit.specs.Step.{Memory, Chunks, auditMemory, chunksWith, StepOutcome, numberMost, wellFormedProgress, isPending, leftOf, isFound, compareOn, afterCall, callOn, refuseOn, stepOutcome, verdictAt}
-use Rattle.audit.specs.code.Compared.{comparedAt, comparedWith, stillAt, comparedStep, calledStep, refusalOf, ranStep}
+use Rattle.audit.specs.code.Compared.{comparedAt, comparedWith, stillAt, comparedStep, calledStep}
+use Rattle.audit.specs.Contract.{refusalOf, ranStep}
 use Rattle.audit.specs.declared.Progress.{Progress}
 use Rattle.audit.specs.declared.Stepped.{Stepped}
 use Rattle.audit.specs.declared.Verdict.{Verdict}

@@ -12,7 +12,8 @@ use Rattle.service.specs.Call.{Call, fresh, memoryOf}
 use Rattle.service.specs.Contract.{Ran}
 use Rattle.service.specs.Claims.{Runs, answersIn}
 use Rattle.audit.specs.Audit.{audit}
-use Rattle.audit.specs.Step.{Memory, Chunks, auditMemory, StepOutcome, begun, stepOutcome, endOutcome}
+use Rattle.audit.specs.Step.{Memory, Chunks, auditMemory, StepOutcome, begun, endOutcome}
+use Rattle.audit.specs.Contract.{StepContract}
 use Rattle.audit.specs.declared.Verdict.the-variants.{Accepted}
 use Rattle.audit.specs.declared.Ending.the-variants.{Reached}
 
@@ -48,7 +49,7 @@ abbrev pub StepRuns : (list : List ℕ) → Memory → List Chunks → List Step
 StepRuns list m [] [] = Unit {0}
 StepRuns list m [] (o ∷ runs) = ⊥
 StepRuns list m (c ∷ chunks) [] = ⊥
-StepRuns list m (c ∷ chunks) (o ∷ runs) = (o ≡ stepOutcome list m c) × StepRuns list (o .memory) chunks runs
+StepRuns list m (c ∷ chunks) (o ∷ runs) = StepContract list m c o × StepRuns list (o .memory) chunks runs
 
 abbrev pub leftAfter : Memory → List StepOutcome → Memory
 leftAfter m [] = m

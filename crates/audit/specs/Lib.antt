@@ -1,4 +1,5 @@
 pub mod Audit
 pub mod Step
+pub mod Contract
 pub mod Claims
 pub mod code

@@ -13,8 +13,9 @@ use service::call::call_by_value;
 ghost use mathlib.Core.Path.{_≡_};
 ghost use Prim.Native.Nat.{_≤_};
 ghost use Rattle.service.specs.Contract.{lentMemory};
-ghost use Rattle.audit.specs.Step.{auditMemory, chunksWith, numberMost, afterCall, stepOutcome};
-ghost use Rattle.audit.specs.code.Compared.{stillAt, comparedStep, calledStep, ranStep};
+ghost use Rattle.audit.specs.Step.{auditMemory, chunksWith, numberMost, afterCall};
+ghost use Rattle.audit.specs.code.Compared.{stillAt, comparedStep, calledStep};
+ghost use Rattle.audit.specs.Contract.{ranStep, StepContract};
 
 // An ill-formed state: nothing is taken or altered.
 fn refuse(progress: Progress, counters: Counters) -> Stepped
@@ -90,7 +91,7 @@ pub fn step(
     pending: &mut [u8],
     journal: &mut [u8],
 ) -> Stepped
-    ensures { λ r. ⌜ ranStep r (now (connection .exit)) (now (registry .exit)) (now (pending .exit)) (now (journal .exit)) ≡ stepOutcome (now (list .entry)) (auditMemory (lentMemory (now (connection .entry)) (now (registry .entry)) counters) progress (now (pending .entry))) (chunksWith (now (requests .entry)) (now (responses .entry)) «is_last» (now (journal .entry))) ⌝ }
+    ensures { λ r. ⌜ StepContract (now (list .entry)) (auditMemory (lentMemory (now (connection .entry)) (now (registry .entry)) counters) progress (now (pending .entry))) (chunksWith (now (requests .entry)) (now (responses .entry)) «is_last» (now (journal .entry))) (ranStep r (now (connection .exit)) (now (registry .exit)) (now (pending .exit)) (now (journal .exit))) ⌝ }
 {
     if !is_well_formed(progress, pending) {
         return refuse(progress, counters);

@@ -1,18 +1,15 @@
 -- What the functions below the step say of it, in the reading copy's terms.
 use Prim.Native.Nat.{ℕ}
 use mathlib.Core.Bool.{Bool}
-use mathlib.Core.Option.{Option, some}
 use mathlib.Core.List.{List}
 use lib.ListN.{length}
 use Rattle.counters.specs.declared.Counters.{Counters}
-use Rattle.service.specs.Contract.{codeNumber, refusalIn, lentMemory}
 use Rattle.service.specs.declared.Outcome.{Outcome}
 use Rattle.service.specs.declared.Code.the-variants.{Taken}
 use Rattle.audit.specs.Audit.{alike}
-use Rattle.audit.specs.Step.{auditMemory, StepOutcome, leftOf, isFound, advanced, afterCall, illFormed}
+use Rattle.audit.specs.Step.{leftOf, isFound, advanced, afterCall}
 use Rattle.audit.specs.declared.Progress.{Progress}
 use Rattle.audit.specs.declared.Stepped.{Stepped}
-use Rattle.audit.specs.declared.StepCode.{StepCode}
 use Rattle.audit.specs.declared.StepCode.the-variants.{IllFormed, Called}
 use Rattle.audit.specs.declared.compare.Compared.{Compared}
 
@@ -36,18 +33,3 @@ calledTo p o = record { code = Called (o .code); requests = o .taken; responses 
 
 abbrev pub calledStep : Progress → Outcome → Stepped
 calledStep p o = calledTo (afterCall p (o .written)) o
-
--- the refusal that a code says, if it does
-unfoldable pub refusalOf : StepCode → Option ℕ
-refusalOf IllFormed = some illFormed
-refusalOf (Called code) = refusalIn (codeNumber code)
-
--- what a step said and left, as its equation has it
-abbrev pub ranStep : Stepped → (connection registry pending journal : List ℕ) → StepOutcome
-ranStep s connection registry pending journal = record {
-  refusal = refusalOf (s .code);
-  requests = s .requests;
-  responses = s .responses;
-  memory = auditMemory (lentMemory connection registry (s .counters)) (s .progress) pending;
-  journal = journal;
-}
