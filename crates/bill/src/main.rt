@@ -6,7 +6,6 @@ use starting::memory::bill_buffer;
 use text::write_text;
 
 mod feed;
-mod files;
 mod text;
 
 fn main() {

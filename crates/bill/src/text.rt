@@ -1,7 +1,8 @@
 // What is printed: the bill, or the one line that stands for it.
 use crate::feed::take_stream;
-use crate::files::read_front;
-use crate::files::read_rest;
+use files::read_list;
+use files::read_rest;
+use files::read_roster;
 use starting::feed::Taken;
 use starting::feed::uncounted;
 use starting::files::File;
@@ -9,10 +10,8 @@ use starting::files::Front;
 use starting::memory::connection_memory;
 use starting::memory::list_front;
 use starting::memory::registry_memory;
-use starting::memory::roster_front;
 use starting::start::Source;
 use starting::start::is_good;
-use starting::start::load_front;
 use starting::start::with_file;
 use starting::start::with_list;
 use starting::text::write_line;
@@ -23,11 +22,10 @@ ghost use Prim.Native.Nat.{_≤_};
 ghost use lib.ListN.{length};
 ghost use Rattle.wire.specs.code.Wrote.{Wrote};
 ghost use Rattle.connection.specs.Connection.{connectionSize};
-ghost use Rattle.registry.specs.Registry.{registrySize};
 ghost use Rattle.service.specs.Contract.{lentMemory};
 ghost use Rattle.billing.specs.Outcome.{billMost};
 ghost use Rattle.starting.specs.Start.{withFile};
-ghost use Rattle.starting.specs.code.Sources.{RosterRead, ListRead, Ready, StreamRead, Billable};
+ghost use Rattle.starting.specs.code.Sources.{Ready, StreamRead, Billable};
 ghost use Rattle.bill.specs.Prints.{printed, Prints};
 
 // The text for what became of the files.
@@ -46,29 +44,6 @@ fn write_outcome(
         return write_line(out, outcome);
     }
     write_memory(out, taken.counters, registry, connection)
-}
-
-// Reads a roster file into memory lent for the registry.
-fn read_roster(roster: File, registry: &mut [u8]) -> Source
-    requires { ⌜ length (now registry) ≡ registrySize ⌝ }
-    ensures { λ r. ⌜ RosterRead roster (now (registry .exit)) r ⌝ }
-{
-    let File::Open(fd) = roster else {
-        return Source::Unreadable;
-    };
-    let mut front = roster_front();
-    let read = read_front(fd, &mut front);
-    load_front(&front, read, registry)
-}
-
-// Reads a list of keys: so many of its bytes are kept as decide whether it is good.
-fn read_list(list: File, front: &mut [u8]) -> Front
-    ensures { λ r. ⌜ ListRead list (length (now (front .entry))) r ⌝ }
-{
-    let File::Open(fd) = list else {
-        return Front::Unreadable;
-    };
-    read_front(fd, front)
 }
 
 // Reads a stream: through the call where roster and list are good; else only to its end, for an unreadable stream comes before a

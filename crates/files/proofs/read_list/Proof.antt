@@ -1,8 +1,8 @@
--- `bill::text::read_list` meets its contract.
+-- `files::read_list` meets its contract.
 use Rattle.starting.proofs.SourceLaws.{list-missing, list-open}
 use borrow.Author.Needs.{needs}
-use Rattle.bill.proofs.text.read_list.Statement.{statement}
-use Rattle.bill.proofs.text.read_list.Tie as tie
+use Rattle.files.proofs.read_list.Statement.{statement}
+use Rattle.files.proofs.read_list.Tie as tie
 
 enum-known-list : tie.Need-enum-known-list
 enum-known-list c = search needs

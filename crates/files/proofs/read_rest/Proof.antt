@@ -1,10 +1,10 @@
--- `bill::files::read_rest` is safe and ends. The measure is the number of turns that are left.
+-- `files::read_rest` is safe and ends. The measure is the number of turns that are left.
 use mathlib.Core.Path.{_≡_}
 use native.Mathlib.Omega.{arith}
 use borrow.Author.Needs.{needs}
 use lib.ListN.{length}
-use Rattle.bill.proofs.files.read_rest.Statement.{statement}
-use Rattle.bill.proofs.files.read_rest.Tie as tie
+use Rattle.files.proofs.read_rest.Statement.{statement}
+use Rattle.files.proofs.read_rest.Tie as tie
 
 abbrev Inv-loop : tie.InvT-loop
 Inv-loop fd buffer₀ turns₀ buffer turns = length buffer ≡ 65536

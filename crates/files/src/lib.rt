@@ -1,4 +1,5 @@
-// Files opened, and read in constant memory.
+// Files opened, and read in constant memory, for programs. The one library over the kit's `io` and `os`: its contracts of files and
+// arguments rest on theirs, which nothing proves.
 use starting::files::File;
 use starting::files::Front;
 use starting::files::Input;
@@ -7,7 +8,13 @@ use starting::files::file_of;
 use starting::files::front_of;
 use starting::files::input_of;
 use starting::files::is_end;
+use starting::memory::roster_front;
+use starting::start::Source;
+use starting::start::load_front;
+ghost use mathlib.Core.Path.{_≡_};
 ghost use lib.ListN.{length};
+ghost use Rattle.registry.specs.Registry.{registrySize};
+ghost use Rattle.starting.specs.code.Sources.{RosterRead, ListRead};
 ghost use Rattle.starting.specs.code.Stream.{ReadWithin, KeptWithin};
 
 pub fn open_argument(number: usize) -> File {
@@ -54,4 +61,27 @@ pub fn read_front(fd: i32, front: &mut [u8]) -> Front
         size += more;
     }
     front_of(size, read_rest(fd))
+}
+
+// Reads a roster file into memory lent for the registry.
+pub fn read_roster(roster: File, registry: &mut [u8]) -> Source
+    requires { ⌜ length (now registry) ≡ registrySize ⌝ }
+    ensures { λ r. ⌜ RosterRead roster (now (registry .exit)) r ⌝ }
+{
+    let File::Open(fd) = roster else {
+        return Source::Unreadable;
+    };
+    let mut front = roster_front();
+    let read = read_front(fd, &mut front);
+    load_front(&front, read, registry)
+}
+
+// Reads a list of keys: so many of its bytes are kept as decide whether it is good.
+pub fn read_list(list: File, front: &mut [u8]) -> Front
+    ensures { λ r. ⌜ ListRead list (length (now (front .entry))) r ⌝ }
+{
+    let File::Open(fd) = list else {
+        return Front::Unreadable;
+    };
+    read_front(fd, front)
 }
