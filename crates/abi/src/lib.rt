@@ -21,6 +21,7 @@ ghost use Rattle.service.specs.Contract.{lentMemory, callWith, codeNumber, ranW
 ghost use Rattle.billing.specs.Outcome.{billOutcome};
 ghost use Rattle.abi.specs.Numbers.{loadedWith, openedWith, numbered, billNumbered, billedWith};
 
+pub mod auditing;
 pub mod restoring;
 
 // What a call says: 0 if it was taken, else the C number; how many bytes of the chunk it took, and how many it wrote.
@@ -82,7 +83,7 @@ fn refusal_number(refusal: Refusal) -> u32
     }
 }
 
-fn code_number(code: Code) -> u32
+pub fn code_number(code: Code) -> u32
     ensures { λ r. ⌜ r ≡ codeNumber code ⌝ }
 {
     match code {
