@@ -15,6 +15,7 @@
  *   - Ill-formed memory of the right size, and an ill-formed list, are answered: RAZIDKOT_CALL_CONNECTION_ILL_FORMED,
  *     RAZIDKOT_CALL_REGISTRY_ILL_FORMED, RAZIDKOT_CALL_LIST_ILL_FORMED, RAZIDKOT_JOURNAL_REGISTRY_ILL_FORMED,
  *     RAZIDKOT_JOURNAL_STATE_ILL_FORMED, RAZIDKOT_BILL_CONNECTION_ILL_FORMED, RAZIDKOT_BILL_REGISTRY_ILL_FORMED.
+ *   - An audit of any numbers is answered, an ill-formed one by RAZIDKOT_AUDIT_ILL_FORMED.
  *
  * What it can't tell, and what is undefined:
  *
@@ -34,6 +35,7 @@
 
 #include "razidkot_status.h"
 
+#include <stdbool.h>
 #include <stddef.h>
 #include <stdint.h>
 
@@ -279,6 +281,84 @@ razidkot_bill_answer razidkot_bill(uint8_t *out, size_t out_length,
                                    const razidkot_counters *counters,
                                    const uint8_t *registry, size_t registry_length,
                                    const uint8_t *connection, size_t connection_length);
+
+/*
+ * How far an audit is: a value that razidkot_audit_begin makes, that each step is handed, and that it hands back. The
+ * last response that the service would have written has this number, from 1, and so many bytes; so many of them were
+ * compared. Well formed where place <= size <= the length of `pending`, size <= RAZIDKOT_LONGEST_RESPONSE and
+ * number <= 2^63.
+ */
+typedef struct {
+    uint64_t number;
+    size_t size;
+    size_t place;
+    /* Not 0 once a byte is wrong: then number and place stay at it. */
+    uint32_t wrong;
+    /* Those of the requests that the steps took. */
+    razidkot_counters counters;
+} razidkot_audit;
+
+/* What a step says besides the codes of razidkot_call, and razidkot_audit_end too: how far the audit is, is ill formed. */
+#define RAZIDKOT_AUDIT_ILL_FORMED 8
+
+/* What a step says. A step that is refused (code 1 to 8) says 0 and 0, and the audit as it was. */
+typedef struct {
+    /* RAZIDKOT_CALL_TAKEN, another razidkot_call_code of requests or memory, or RAZIDKOT_AUDIT_ILL_FORMED. */
+    uint32_t code;
+    /* How many bytes were taken, of one of the two chunks; the rest is for the caller to hand over again. */
+    size_t requests;
+    size_t responses;
+    /* For the next step. */
+    razidkot_audit audit;
+} razidkot_audited;
+
+/* What razidkot_audit_end says, or RAZIDKOT_AUDIT_ILL_FORMED. */
+enum razidkot_verdict_code {
+    /* Every response is the one that the rules give. */
+    RAZIDKOT_VERDICT_ACCEPTED = 0,
+    /* One is not. */
+    RAZIDKOT_VERDICT_WRONG = 1
+};
+
+typedef struct {
+    /* A razidkot_verdict_code, or RAZIDKOT_AUDIT_ILL_FORMED. */
+    uint32_t code;
+    /* The first wrong response's number, from 1; 0 where none is wrong. */
+    uint64_t response;
+    /* Its first wrong or missing byte, from 0. */
+    size_t byte;
+} razidkot_verdict;
+
+/* An audit that has taken nothing, with all counters 0. */
+razidkot_audit razidkot_audit_begin(void);
+
+/*
+ * A step of an audit: captured responses are compared with those that the rules give for captured requests. It takes
+ * bytes of the responses while a response is pending, and else bytes of the requests, as razidkot_call does; a wrong byte
+ * is not taken. Each chunk may end anywhere. `is_last` says that no response byte comes behind this chunk.
+ *
+ * Connection, registry and list are as the service had them when the capture began. `pending` is a buffer of at least
+ * RAZIDKOT_LEAST_RESPONSE_BUFFER bytes, the same in all steps, for the response that is compared; nobody keeps what is
+ * written to `journal`. Hand over all requests, and the responses until the requests are taken and none of them is:
+ * then both streams have ended.
+ */
+razidkot_audited razidkot_audit_step(razidkot_audit audit,
+                                     const uint8_t *requests, size_t requests_length,
+                                     const uint8_t *responses, size_t responses_length,
+                                     bool is_last,
+                                     uint8_t *connection, size_t connection_length,
+                                     uint8_t *registry, size_t registry_length,
+                                     const uint8_t *list, size_t list_length,
+                                     uint8_t *pending, size_t pending_length,
+                                     uint8_t *journal, size_t journal_length);
+
+/*
+ * The verdict, once all requests are taken: `rest` is what is left of the responses, some or none. razidkot_bill has
+ * the bill, of the audit's counters, the registry and the connection.
+ */
+razidkot_verdict razidkot_audit_end(razidkot_audit audit,
+                                    const uint8_t *pending, size_t pending_length,
+                                    const uint8_t *rest, size_t rest_length);
 
 #ifdef __cplusplus
 }

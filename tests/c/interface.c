@@ -39,6 +39,10 @@ static void expect_layouts(void)
     expect("recorded", offsetof(razidkot_answer, recorded), 24);
     expect("size of a journal's answer", sizeof(razidkot_journal_answer), 24);
     expect("kept", offsetof(razidkot_journal_answer, kept), 16);
+    expect("size of an audit", sizeof(razidkot_audit), 32 + sizeof(razidkot_counters));
+    expect("wrong", offsetof(razidkot_audit, wrong), 24);
+    expect("size of what a step says", sizeof(razidkot_audited), 24 + sizeof(razidkot_audit));
+    expect("size of a verdict", sizeof(razidkot_verdict), 24);
     memset(&counters, 0xEE, sizeof counters);
     razidkot_clear_counters(&counters);
     for (size_t at = 0; at < sizeof counters; at++)
@@ -143,12 +147,75 @@ static void expect_bills(void)
     expect("its text", memcmp(out, "taken 0\nopen 0\ndropped 0\nheld 0\n", 32) != 0, 0);
 }
 
+/* A step on connection, registry and response buffer, with a pending buffer and a journal buffer of these lengths. */
+static razidkot_audited step(razidkot_audit audit, size_t requests, const uint8_t *responses, size_t length, bool is_last,
+                             size_t p, size_t j)
+{
+    return razidkot_audit_step(audit, requests ? chunk : NULL, requests, responses, length, is_last, connection,
+                               sizeof connection, registry, sizeof registry, list, sizeof list, p ? response : NULL, p,
+                               j ? journal : NULL, j);
+}
+
+static void expect_step(const char *what, razidkot_audited said, uint32_t code, size_t requests, size_t responses)
+{
+    expect(what, said.code, code);
+    expect(what, said.requests, requests);
+    expect(what, said.responses, responses);
+}
+
+static void expect_verdict(const char *what, razidkot_verdict verdict, uint32_t code, uint64_t number, size_t byte)
+{
+    expect(what, verdict.code, code);
+    expect(what, verdict.response, number);
+    expect(what, verdict.byte, byte);
+}
+
+/* Nine zeros, and the response to them that was captured in `captured`: status 17. */
+static void expect_audits(void)
+{
+    static uint8_t captured[26];
+    const size_t r = sizeof response, j = sizeof journal;
+    memcpy(captured, response, sizeof captured);
+    expect("fresh", razidkot_open_connection(connection, sizeof connection), RAZIDKOT_OPEN_FRESH);
+    const razidkot_audit begun = razidkot_audit_begin();
+    expect("number", begun.number, 0);
+    expect("refused", begun.counters.refused[18], 0);
+    expect_verdict("nothing", razidkot_audit_end(begun, NULL, 0, NULL, 0), RAZIDKOT_VERDICT_ACCEPTED, 0, 0);
+    expect_verdict("runs on", razidkot_audit_end(begun, NULL, 0, captured, 1), RAZIDKOT_VERDICT_WRONG, 1, 0);
+    expect_step("C1", step(begun, 9, captured, 26, true, 0, j), RAZIDKOT_CALL_RESPONSE_BUFFER_TOO_SMALL, 0, 0);
+    expect_step("C7", step(begun, 9, captured, 26, true, r, 0), RAZIDKOT_CALL_JOURNAL_BUFFER_TOO_SMALL, 0, 0);
+    razidkot_audit bad = begun;
+    bad.place = 1;
+    expect_step("ill formed", step(bad, 9, captured, 26, true, r, j), RAZIDKOT_AUDIT_ILL_FORMED, 0, 0);
+    expect_verdict("ill formed", razidkot_audit_end(bad, response, r, NULL, 0), RAZIDKOT_AUDIT_ILL_FORMED, 0, 0);
+    const razidkot_audited called = step(begun, 9, captured, 26, false, r, j);
+    expect_step("a call", called, 0, 6, 0);
+    expect("number", called.audit.number, 1);
+    expect("taken", called.audit.counters.taken, 6);
+    expect_verdict("none captured", razidkot_audit_end(called.audit, response, r, NULL, 0), RAZIDKOT_VERDICT_WRONG, 1, 0);
+    const razidkot_audited half = step(called.audit, 9, captured, 13, false, r, j);
+    expect_step("half", half, 0, 0, 13);
+    const razidkot_audited whole = step(half.audit, 9, captured + 13, 13, true, r, j);
+    expect_step("whole", whole, 0, 0, 13);
+    expect("not wrong", whole.audit.wrong, 0);
+    const razidkot_audited dropped = step(whole.audit, 3, NULL, 0, true, r, j);
+    expect_step("dropped", dropped, 0, 3, 0);
+    expect("dropped", dropped.audit.counters.dropped, 3);
+    expect_verdict("accepted", razidkot_audit_end(dropped.audit, response, r, NULL, 0), RAZIDKOT_VERDICT_ACCEPTED, 0, 0);
+    captured[24] ^= 1;
+    const razidkot_audited wrong = step(called.audit, 9, captured, 26, false, r, j);
+    expect_step("wrong", wrong, 0, 0, 24);
+    expect("wrong", wrong.audit.wrong, 1);
+    expect_verdict("wrong", razidkot_audit_end(wrong.audit, response, r, NULL, 0), RAZIDKOT_VERDICT_WRONG, 1, 24);
+}
+
 int main(void)
 {
     expect_layouts();
     expect_rosters();
     expect_connections();
     expect_calls();
+    expect_audits();
     expect_journals();
     expect_bills();
     return failed;

@@ -4,10 +4,12 @@
 //! are proved to read and write nothing but what they are lent, and none has a precondition. What
 //! the header leaves undefined can't come from references: they are valid for their length and
 //! aligned, and what is lent `&mut` overlaps nothing else. A slice of length 0 is not read, so that
-//! its pointer may dangle. `Counters`, `Answer`, `BillAnswer` and `JournalAnswer` are `repr(C)`,
-//! field by field those of the header.
+//! its pointer may dangle. `Counters`, `Answer`, `BillAnswer`, `JournalAnswer`, `AuditPlace`,
+//! `AuditStep` and `AuditEnd` are `repr(C)`, field by field those of the header.
 
-use crate::raw::{Answer, BillAnswer, JournalAnswer};
+use crate::raw::{
+    Answer, AuditChunks, AuditEnd, AuditLent, AuditPlace, AuditStep, BillAnswer, JournalAnswer,
+};
 use crate::Counters;
 
 unsafe extern "C" {
@@ -52,6 +54,32 @@ unsafe extern "C" {
         connection: *const u8,
         connection_length: usize,
     ) -> BillAnswer;
+    fn razidkot_audit_begin() -> AuditPlace;
+    fn razidkot_audit_step(
+        audit: AuditPlace,
+        requests: *const u8,
+        requests_length: usize,
+        responses: *const u8,
+        responses_length: usize,
+        is_last: bool,
+        connection: *mut u8,
+        connection_length: usize,
+        registry: *mut u8,
+        registry_length: usize,
+        list: *const u8,
+        list_length: usize,
+        pending: *mut u8,
+        pending_length: usize,
+        journal: *mut u8,
+        journal_length: usize,
+    ) -> AuditStep;
+    fn razidkot_audit_end(
+        audit: AuditPlace,
+        pending: *const u8,
+        pending_length: usize,
+        rest: *const u8,
+        rest_length: usize,
+    ) -> AuditEnd;
 }
 
 pub fn load_roster(file: &[u8], registry: &mut [u8]) -> u32 {
@@ -128,6 +156,45 @@ pub fn bill(out: &mut [u8], counters: &Counters, registry: &[u8], connection: &[
             registry.len(),
             connection.as_ptr(),
             connection.len(),
+        )
+    }
+}
+
+pub fn audit_begin() -> AuditPlace {
+    unsafe { razidkot_audit_begin() }
+}
+
+pub fn audit_step(audit: AuditPlace, chunks: &AuditChunks, lent: &mut AuditLent) -> AuditStep {
+    unsafe {
+        razidkot_audit_step(
+            audit,
+            chunks.requests.as_ptr(),
+            chunks.requests.len(),
+            chunks.responses.as_ptr(),
+            chunks.responses.len(),
+            chunks.is_last,
+            lent.connection.as_mut_ptr(),
+            lent.connection.len(),
+            lent.registry.as_mut_ptr(),
+            lent.registry.len(),
+            lent.list.as_ptr(),
+            lent.list.len(),
+            lent.pending.as_mut_ptr(),
+            lent.pending.len(),
+            lent.journal.as_mut_ptr(),
+            lent.journal.len(),
+        )
+    }
+}
+
+pub fn audit_end(audit: AuditPlace, pending: &[u8], rest: &[u8]) -> AuditEnd {
+    unsafe {
+        razidkot_audit_end(
+            audit,
+            pending.as_ptr(),
+            pending.len(),
+            rest.as_ptr(),
+            rest.len(),
         )
     }
 }

@@ -5,7 +5,8 @@
 //! that are every application's, and of a [`Journal`] that keeps the keys over a restart. Open a
 //! [`Connection`] for each client, and hand its bytes over with [`Service::call`]. Each call writes one
 //! response at most. Any number of connections share a service. At the next start, a
-//! [`JournalReader`] gives the registry back.
+//! [`JournalReader`] gives the registry back. An [`Audit`] compares captured responses with those that
+//! the rules give.
 //!
 //! ```
 //! use razidkot::{Buffers, CallError, Connection, Journal, List, NoJournal, Registry, Service};
@@ -46,6 +47,7 @@
 //! ```
 
 mod application;
+mod audit;
 mod connection;
 mod counters;
 #[allow(unsafe_code)]
@@ -60,6 +62,7 @@ mod restore;
 mod service;
 
 pub use application::{Application, Key, SLOTS};
+pub use audit::{Audit, Audited, Taken, Verdict};
 pub use connection::Connection;
 pub use counters::Counters;
 pub use held::Held;

@@ -239,3 +239,118 @@ pub fn bill(
         code => Err(NoBill::ALL[code as usize - 1]),
     }
 }
+
+/// How far an audit is, and the counters of the requests that it took: the header's `razidkot_audit`.
+#[derive(Clone, Debug, PartialEq, Eq)]
+#[repr(C)]
+pub struct AuditPlace {
+    /// The number, from 1, of the last response that the rules gave; 0 before the first.
+    pub number: u64,
+    /// Its bytes.
+    pub size: usize,
+    /// How many of them were compared.
+    pub place: usize,
+    /// Not 0 once a byte is wrong: then number and place stay at it.
+    pub wrong: u32,
+    /// Those of the requests that the steps took.
+    pub counters: Counters,
+}
+
+/// A chunk of each stream.
+#[derive(Clone, Copy, Debug, PartialEq, Eq)]
+pub struct AuditChunks<'a> {
+    /// Captured requests, that follow those taken before.
+    pub requests: &'a [u8],
+    /// Captured responses, that follow those taken before.
+    pub responses: &'a [u8],
+    /// Whether no response byte comes behind this chunk.
+    pub is_last: bool,
+}
+
+/// The memory that a step of an audit is lent.
+#[derive(Debug)]
+pub struct AuditLent<'a> {
+    /// The connection that the requests came on.
+    pub connection: &'a mut [u8],
+    /// The registry.
+    pub registry: &'a mut [u8],
+    /// The list of shipped keys.
+    pub list: &'a [u8],
+    /// A buffer for the response that is compared, the same in all steps.
+    pub pending: &'a mut [u8],
+    /// A buffer for records of the journal, which nobody keeps.
+    pub journal: &'a mut [u8],
+}
+
+/// What a step says, as it comes from the archive: the header's `razidkot_audited`.
+#[derive(Clone, Debug, PartialEq, Eq)]
+#[repr(C)]
+pub struct AuditStep {
+    /// 0, or 1 to 7 for C1 to C7, or [`AUDIT_ILL_FORMED`].
+    pub code: u32,
+    /// Bytes of the requests; 0 where bytes of the responses were compared.
+    pub requests: usize,
+    /// Bytes of the responses.
+    pub responses: usize,
+    /// For the next step.
+    pub audit: AuditPlace,
+}
+
+/// What is said of a place that is ill formed.
+pub const AUDIT_ILL_FORMED: u32 = 8;
+
+/// The verdict, as it comes from the archive: the header's `razidkot_verdict`.
+#[derive(Clone, Copy, Debug, PartialEq, Eq)]
+#[repr(C)]
+pub struct AuditEnd {
+    /// 0 if every response is right, 1 if one is wrong, or [`AUDIT_ILL_FORMED`].
+    pub code: u32,
+    /// The first wrong response's number, from 1.
+    pub response: u64,
+    /// Its first wrong byte, from 0.
+    pub byte: usize,
+}
+
+/// An audit that has taken nothing.
+///
+/// ```
+/// use razidkot::{raw, Counters};
+///
+/// let audit = raw::audit_begin();
+/// assert_eq!((audit.number, audit.size, audit.place, audit.wrong), (0, 0, 0, 0));
+/// assert_eq!(audit.counters, Counters::default());
+/// ```
+pub fn audit_begin() -> AuditPlace {
+    foreign::audit_begin()
+}
+
+/// [`Audit::step`](crate::Audit::step) on any memory: compares bytes of the responses while a response
+/// is pending, else takes bytes of the requests.
+///
+/// ```
+/// use razidkot::{raw, CONNECTION_SIZE, LEAST_JOURNAL_BUFFER, LEAST_RESPONSE_BUFFER, REGISTRY_SIZE};
+///
+/// let (mut connection, mut registry) = ([0; CONNECTION_SIZE], [0; REGISTRY_SIZE]);
+/// let (mut pending, mut journal) = ([0; LEAST_RESPONSE_BUFFER], [0; LEAST_JOURNAL_BUFFER]);
+/// let chunks = raw::AuditChunks { requests: b"GET / HTTP/1.0", responses: b"", is_last: true };
+/// let mut lent = raw::AuditLent {
+///     connection: &mut connection,
+///     registry: &mut registry,
+///     list: b"",
+///     pending: &mut pending,
+///     journal: &mut journal,
+/// };
+/// let stepped = raw::audit_step(raw::audit_begin(), &chunks, &mut lent);
+/// assert_eq!((stepped.code, stepped.requests, stepped.responses), (0, 6, 0));
+/// // A response is due, and none was captured.
+/// let end = raw::audit_end(stepped.audit, &pending, b"");
+/// assert_eq!((end.code, end.response, end.byte), (1, 1, 0));
+/// ```
+pub fn audit_step(audit: AuditPlace, chunks: &AuditChunks, lent: &mut AuditLent) -> AuditStep {
+    foreign::audit_step(audit, chunks, lent)
+}
+
+/// The verdict once all requests are taken; `rest` is what no step took of the responses.
+pub fn audit_end(audit: AuditPlace, pending: &[u8], rest: &[u8]) -> AuditEnd {
+    foreign::audit_end(audit, pending, rest)
+}
