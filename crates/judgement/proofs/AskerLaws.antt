@@ -15,7 +15,7 @@ use Rattle.wire.proofs.TestLaws.{some≢none, none-at, AllHave, first-has, eith
 use Rattle.messages.specs.Format.{Format, Reading, read, broken, readMessage}
 use Rattle.messages.specs.Formats.{formatOf, formatFor}
 use Rattle.messages.specs.Opcodes.{coreOpcodes, opcodesOf}
-use Rattle.messages.specs.Operations.{Operation, ping, listProviders, listOpcodes, importKey, destroyKey, exportPublicKey, verifySignature, inputFields, Asking, asks, garbled, askingOf, askingBy, asked}
+use Rattle.messages.specs.Operations.{ping, listProviders, listOpcodes, importKey, destroyKey, exportPublicKey, verifySignature, inputFields, Asking, asks, garbled, askingOf, askingBy, asked}
 use Rattle.registry.specs.Slots.{Entry}
 use Rattle.registry.specs.Registry.{applicationNamed, slotsOf}
 use Rattle.registry.specs.declared.Line.{Line}

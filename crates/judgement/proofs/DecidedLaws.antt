@@ -36,7 +36,7 @@ use Rattle.judgement.specs.Status.{statusNumber}
 use Rattle.judgement.specs.Operations.{Result, success, refuse, refuseAt, destroyOf, performDestroy, counted, exportOf, performExport, hashSize, checked, verifyWith, performVerify, performListOpcodes, perform, operated}
 use Rattle.judgement.specs.code.Decided.{outputIn, changeOf, resultIn, refusedWith, brokenAt, countedAt, verifier, KeyWithin, KeyParts, SafeOutput, Decided}
 use Rattle.judgement.specs.declared.Status.{Status}
-use Rattle.judgement.specs.declared.Status.the-variants.{Success, ProviderDoesNotExist, DeserializingBodyFailed, PsaErrorNotPermitted, PsaErrorInvalidArgument, PsaErrorNotSupported, PsaErrorDoesNotExist}
+use Rattle.judgement.specs.declared.Status.the-variants.{Success, ProviderDoesNotExist, PsaErrorNotPermitted, PsaErrorInvalidArgument, PsaErrorNotSupported, PsaErrorDoesNotExist}
 use Rattle.judgement.specs.declared.Output.{Output}
 use Rattle.judgement.specs.declared.Output.the-variants.{Nothing, Opcodes, Data}
 use Rattle.judgement.specs.declared.Edit.the-variants.{Stays, Fills, Clears}

@@ -12,7 +12,7 @@ use Rattle.keys.specs.Names.{keyNameMost, legalName}
 use Rattle.keys.specs.Key.{Key, legalData, importBits}
 use Rattle.messages.specs.Format.{Format}
 use Rattle.messages.specs.Opcodes.{opcodesOf}
-use Rattle.messages.specs.Operations.{Operation, ping, listProviders, listOpcodes, importKey, destroyKey, exportPublicKey, verifySignature, Asking, asks, garbled, asked, Output, nothing, version, providers, opcodes, exported, offset}
+use Rattle.messages.specs.Operations.{Operation, ping, listProviders, listOpcodes, importKey, destroyKey, exportPublicKey, verifySignature, asks, garbled, asked, Output, nothing, version, providers, opcodes, exported, offset}
 pub use Rattle.messages.specs.Operations.{hashSize}
 use Rattle.registry.specs.Slots.{Entry}
 use Rattle.registry.specs.Registry.{slotNamed, Change, unchanged, fill, clear, addUse}
