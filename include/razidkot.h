@@ -292,7 +292,7 @@ typedef struct {
     uint64_t number;
     size_t size;
     size_t place;
-    /* Not 0 once a byte is wrong: then number and place stay at it. */
+    /* 1 once a byte is wrong, else 0: then number and place stay at it. Any other number is taken for 1. */
     uint32_t wrong;
     /* Those of the requests that the steps took. */
     razidkot_counters counters;

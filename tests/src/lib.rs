@@ -4,6 +4,7 @@
 #![doc(test(attr(deny(warnings), allow(dead_code))))]
 
 pub mod ask;
+pub mod audits;
 pub mod bill;
 pub mod bodies;
 pub mod case;

@@ -250,7 +250,7 @@ pub struct AuditPlace {
     pub size: usize,
     /// How many of them were compared.
     pub place: usize,
-    /// Not 0 once a byte is wrong: then number and place stay at it.
+    /// 1 once a byte is wrong, else 0: then number and place stay at it. Any other number is taken for 1.
     pub wrong: u32,
     /// Those of the requests that the steps took.
     pub counters: Counters,
