@@ -1,14 +1,16 @@
 -- Request by request: what the service answers is what the client hears.
 use mathlib.Core.Path.{_≡_, refl, sym, ap, ap₂, _∙_}
 use Prim.Native.Nat.{ℕ}
-use mathlib.Core.Bool.{true}
+use mathlib.Core.Bool.{true, true≢false}
 use mathlib.Core.List.{List, [], _∷_, _++_, map, flatten, append-nil}
 use native.Mathlib.Omega.{arith}
 use lib.ListN.{length, take, drop, length-append}
 use lib.Seq.{take-append-seam, drop-append-seam}
 use Rattle.wire.specs.Lists.{oneOf}
 use Rattle.wire.specs.Request.{requestLength, Request, requestOf}
+use Rattle.wire.proofs.TestLaws.{and-right}
 use Rattle.messages.specs.Opcodes.{coreOpcodes, keystoreOpcodes}
+use Rattle.messages.specs.Formats.{contentTypes}
 use Rattle.messages.specs.Operations.{Operation, ping, listProviders, listOpcodes, importKey, destroyKey, exportPublicKey, verifySignature, opcodeOf, providerOf}
 use Rattle.stream.specs.Frame.{legalStart, whole, next}
 use Rattle.stream.specs.Rules.{Verdict, judge}
@@ -87,12 +89,12 @@ listed-opcode (destroyKey name) = refl
 listed-opcode (exportPublicKey name) = refl
 listed-opcode (verifySignature name hash signature) = refl
 
-module _ (ask : Ask) (w : Writable (ask .sender) (ask .operation)) where
+module _ (ask : Ask) (w : Writable (ask .types) (ask .sender) (ask .operation)) where
   abbrev q : Request
-  q = requestFor (ask .session) (ask .sender) (ask .operation)
+  q = requestFor (ask .session) (ask .types) (ask .sender) (ask .operation)
 
-  read : ReadAsWritten (ask .session) (ask .sender) (ask .operation)
-  read = read-as-written (ask .session) (ask .sender) (ask .operation) w
+  read : ReadAsWritten (ask .session) (ask .types) (ask .sender) (ask .operation)
+  read = read-as-written (ask .session) (ask .types) (ask .sender) (ask .operation) w
 
   is-read : requestOf (written ask) ≡ q
   unfolding written
@@ -103,16 +105,18 @@ module _ (ask : Ask) (w : Writable (ask .sender) (ask .operation)) where
   is-whole = ap next (sym (append-nil (written ask))) ∙ read .framed []
 
   sent : Sent (written ask)
-  unfolding requestFor
+  unfolding requestFor written
   sent = record {
     framed = is-whole;
     listed = ap (λ (r : Request). oneOf (coreOpcodes ++ keystoreOpcodes) (r .opcode)) is-read ∙ listed-opcode (ask .operation);
     provider = ap (λ (r : Request). r .provider) is-read ∙ provider-known (ask .operation) ∙ sym (ap (λ (r : Request). providerFor (r .opcode)) is-read);
+    accepts = ap (λ (r : Request). oneOf contentTypes (r .acceptType)) is-read ∙ and-right (oneOf contentTypes (ask .types .content)) (oneOf contentTypes (ask .types .accept)) (w .types-legal);
+    oversized-accepts = λ e. absurd (true≢false (sym e ∙ read .within));
   }
 
   asked-is : askedBy (written ask) ≡ askedFor ask
   unfolding askedBy askedFor requestFor
-  asked-is = ap (λ (r : Request). (let x : Asked = record { opcode = r .opcode; session = r .session } in x)) is-read
+  asked-is = ap (λ (r : Request). (let x : Asked = record { opcode = r .opcode; session = r .session; acceptType = r .acceptType } in x)) is-read
 
   result-is : (list registry : List ℕ) → resultFor list registry (written ask) ≡ resultOf list registry q
   unfolding resultFor written

@@ -22,10 +22,10 @@ use Rattle.conversation.proofs.Answered.{headerOf, Its, passes}
 
 -- ---- a response's proper beginnings say nothing yet
 
-module _ (asked : Asked) (provider session opcode status : ℕ) (body : List ℕ)
-    (its : Its asked (headerOf provider session opcode status body)) (small : length body ≤ responseContentMost) where
+module _ (asked : Asked) (provider session contentType opcode status : ℕ) (body : List ℕ)
+    (its : Its asked (headerOf provider session contentType opcode status body)) (small : length body ≤ responseContentMost) where
   abbrev response : List ℕ
-  response = responseBytes provider session opcode status body
+  response = responseBytes provider session contentType opcode status body
 
   module _ (s x : List ℕ) (whole : s ++ x ≡ response) where
     same-field : (at width : ℕ) → at + width ≤ length s → field at width s ≡ field at width (response ++ [])
@@ -33,12 +33,12 @@ module _ (asked : Asked) (provider session opcode status : ℕ) (body : List ℕ
         sym (field-append at width s x h) ∙ ap (field at width) (whole ∙ sym (append-nil response))
 
     is-magic : 6 ≤ length s → magic s ≡ magicNumber
-    is-magic h = same-field 0 4 (omega arith) ∙ response-magic provider session opcode status body []
+    is-magic h = same-field 0 4 (omega arith) ∙ response-magic provider session contentType opcode status body []
 
     is-size : 6 ≤ length s → headerSize s ≡ responseHeaderSize
-    is-size h = same-field 4 2 (omega arith) ∙ response-size provider session opcode status body []
+    is-size h = same-field 4 2 (omega arith) ∙ response-size provider session contentType opcode status body []
 
-    same-header : responseLeast ≤ length s → responseOf s ≡ headerOf provider session opcode status body
+    same-header : responseLeast ≤ length s → responseOf s ≡ headerOf provider session contentType opcode status body
     unfolding responseOf
     same-header h =
         (λ i. record {
@@ -51,7 +51,7 @@ module _ (asked : Asked) (provider session opcode status : ℕ) (body : List ℕ
           opcode = same-field 22 2 (omega arith) i;
           status = same-field 24 2 (omega arith) i;
         })
-        ∙ response-back provider session opcode status body []
+        ∙ response-back provider session contentType opcode status body []
 
     behind-none : (h : ResponseHeader) → firstOf (headerTests asked h) ≡ none → length s < responseLeast + h .«content_length» → foundBehind asked h s ≡ none
     unfolding foundBehind
@@ -61,13 +61,13 @@ module _ (asked : Asked) (provider session opcode status : ℕ) (body : List ℕ
     in-body h short =
         found-whole asked s (omega arith) (is-magic (omega arith)) (is-size (omega arith)) h
         ∙ ap (λ (r : ResponseHeader). foundBehind asked r s) (same-header h)
-        ∙ behind-none (headerOf provider session opcode status body) (passes asked _ refl refl refl its small) short
+        ∙ behind-none (headerOf provider session contentType opcode status body) (passes asked _ refl refl its small) short
 
     begun : length s < length response → found asked s ≡ none
     begun h = size (ltb (length s) 6) refl (ltb (length s) responseLeast) refl
       where
         short : length s < responseLeast + length body
-        short = omega (arith, h, response-long provider session opcode status body [])
+        short = omega (arith, h, response-long provider session contentType opcode status body [])
 
         size : (a : Bool) → ltb (length s) 6 ≡ a → (b : Bool) → ltb (length s) responseLeast ≡ b → found asked s ≡ none
         size true e b f = found-short asked s (ltb-true _ _ e)
@@ -117,15 +117,15 @@ module _ (asked : Asked) where
       quiet-byte s b ((c ∷ t) ++ rest) z n ∙ ap oneMore ih ∙ (λ i. record { taken = suc (length (c ∷ t)); events = y ∷ []; kept = same i })
 
 -- A RESPONSE AND WHATEVER FOLLOWS IT: the response is taken and kept, and what it is read as is the one event
-pub response-read : (asked : Asked) (provider session opcode status : ℕ) (body : List ℕ) → Its asked (headerOf provider session opcode status body)
-    → length body ≤ responseContentMost → (y : Reply) → found asked (responseBytes provider session opcode status body) ≡ some y → (rest : List ℕ)
-    → read (responseReader asked) [] (responseBytes provider session opcode status body ++ rest)
+pub response-read : (asked : Asked) (provider session contentType opcode status : ℕ) (body : List ℕ) → Its asked (headerOf provider session contentType opcode status body)
+    → length body ≤ responseContentMost → (y : Reply) → found asked (responseBytes provider session contentType opcode status body) ≡ some y → (rest : List ℕ)
+    → read (responseReader asked) [] (responseBytes provider session contentType opcode status body ++ rest)
     ≡ record {
-      taken = length (responseBytes provider session opcode status body);
+      taken = length (responseBytes provider session contentType opcode status body);
       events = y ∷ [];
-      kept = responseBytes provider session opcode status body;
+      kept = responseBytes provider session contentType opcode status body;
     }
 unfolding responseReader
-response-read asked provider session opcode status body its small y e rest =
-    reads-up asked (responseBytes provider session opcode status body) [] y rest (omega (arith, response-long provider session opcode status body []))
-    (λ u v p k. begun asked provider session opcode status body its small u v p k) e
+response-read asked provider session contentType opcode status body its small y e rest =
+    reads-up asked (responseBytes provider session contentType opcode status body) [] y rest (omega (arith, response-long provider session contentType opcode status body []))
+    (λ u v p k. begun asked provider session contentType opcode status body its small u v p k) e

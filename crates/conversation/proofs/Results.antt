@@ -1,10 +1,10 @@
 -- Every result of a request can be read by the client that sent it: 0 and an output of the opcode's kind, 7 and where the body
 -- broke, or another status and no output.
-use mathlib.Core.Path.{_≡_, refl, sym, subst}
+use mathlib.Core.Path.{_≡_, refl, sym, ap, subst}
 use Prim.Native.Nat.{ℕ, zero, suc, _-_, _*_, _^_, _≤_, _<_}
 use mathlib.Core.Bool.{Bool, true, false, not}
 use mathlib.Core.Option.{Option, none, some}
-use mathlib.Core.List.{List, map}
+use mathlib.Core.List.{List, [], map}
 use native.Mathlib.Omega.{arith}
 use borrow.Author.Tests.{eqb-true, eqb-false, ltb-true}
 use lib.ListN.{length, getD, set}
@@ -16,8 +16,8 @@ use Rattle.wire.specs.Scan.{on, out, follow, scanFrom, scanAt}
 use Rattle.wire.proofs.TestLaws.{either, first-has}
 use Rattle.keys.specs.Names.{keyNameMost, legalName}
 use Rattle.keys.specs.Key.{Key, dataMost, importBits}
-use Rattle.messages.specs.Protobuf.{protobuf}
-use Rattle.messages.specs.Message.{Schema, Message, absent, AllFit}
+use Rattle.messages.specs.Formats.{formatOf, formatFor}
+use Rattle.messages.specs.Message.{Schema, Message, absent}
 use Rattle.messages.specs.Format.{Field, field, skipped, unreadable, Format, Reading, read, broken, SoFar, turnOf, turnAt, readMessage}
 use Rattle.messages.specs.Opcodes.{opcodesOf}
 use Rattle.messages.specs.Operations.{Operation, ping, listProviders, listOpcodes, importKey, destroyKey, exportPublicKey, verifySignature, opcodeOf, inputFields, Asking, asks, garbled, askingOf, askingBy, asked, Answers, ofPing, ofListProviders, ofListOpcodes, ofImport, ofDestroy, ofExport, ofVerify, Carries, notRead, messageOf}
@@ -26,36 +26,42 @@ use Rattle.rsa.specs.Signature.{verification}
 use Rattle.rsa.specs.declared.verify.Outcome.{Outcome}
 use Rattle.rsa.specs.declared.verify.Outcome.the-variants.{ValidSignature, InvalidSignature, InvalidKey}
 use Rattle.registry.specs.Slots.{Entry, free}
-use Rattle.registry.specs.Registry.{addUse}
+use Rattle.registry.specs.Registry.{slotNamed, addUse}
 use Rattle.registry.specs.WellFormed.{wellFormedRegistry}
 use Rattle.registry.specs.declared.Line.{Line}
+use Rattle.registry.specs.declared.Found.{Found}
+use Rattle.registry.specs.declared.Found.the-variants.{At, Nothing}
 use Rattle.registry.proofs.SlotLaws.{ShortEntry}
 use Rattle.registry.proofs.WellFormedLaws.{slots-short}
 use Rattle.shipped.specs.Shipped.{ListedKey, keysIn}
 use Rattle.lookup.specs.Lookup.{Source, own, listed, keyOf, keyNamed}
 use Rattle.judgement.specs.Status.{statusNumber}
-use Rattle.judgement.specs.Operations.{Result, success, refuse, refuseAt, performImport, destroyOf, performDestroy, counted, exportOf, performExport, hashSize, checked, verifyWith, performVerify, performListOpcodes, perform, operated}
+use Rattle.judgement.specs.Operations.{Result, success, refuse, refuseAt, withinBounds, importBy, performImport, destroyOf, performDestroy, counted, exportOf, performExport, hashSize, checked, verifyWith, performVerify, performListOpcodes, perform, operated}
 use Rattle.judgement.specs.Judgement.{applicationOf, refusals, askersSlots, resultOf}
 use Rattle.judgement.specs.declared.Status.{Status}
 use Rattle.judgement.proofs.SourceLaws.{source-short}
-use Rattle.judgement.proofs.ImportLaws.{import-ends}
+use Rattle.judgement.proofs.ImportLaws.{Taken, out-of-bounds, other-bits, name-taken, no-slot, imported}
 use Rattle.judgement.proofs.JudgementLaws.{asks as asks-line}
-use Rattle.conversation.proofs.Answered.{Sound}
+use Rattle.conversation.proofs.Answered.{Brief, Sound}
 
 -- a result of the operation's kind
 abbrev SoundFor : Operation → Result → Type 0
 SoundFor operation r = Sound (opcodeOf operation) r
 
--- a status that has no output
+-- a status that has no output, and is not that of a bad start
 abbrev pub Bare : Status → Type 0
-Bare status = (eqb (statusNumber status) 0 ≡ false) × (eqb (statusNumber status) 7 ≡ false)
+Bare status = (eqb (statusNumber status) 0 ≡ false) × (eqb (statusNumber status) 7 ≡ false) × (eqb (statusNumber status) 17 ≡ false)
 
 pub refused : (opcode : ℕ) (status : Status) → Bare status → Sound opcode (refuse status)
 unfolding refuse
-refused opcode status h = record { carries = bare (eqb-false _ _ (h .0)) (eqb-false _ _ (h .1)); fits = tt }
+refused opcode status h = record { carries = bare (eqb-false _ _ (h .0)) (eqb-false _ _ (h .1)); brief = tt; whole = h .2 }
 
-served : {opcode : ℕ} {r : Result} → statusNumber (r .status) ≡ 0 → Answers opcode (r .output) → AllFit (protobuf .lengthMost) (messageOf (r .output)) → Sound opcode r
-served {opcode} {r} z answers fits = record { carries = subst (λ (n : ℕ). Carries opcode n (r .output)) (sym z) (answered answers); fits = fits }
+served : {opcode : ℕ} {r : Result} → statusNumber (r .status) ≡ 0 → Answers opcode (r .output) → Brief (messageOf (r .output)) → Sound opcode r
+served {opcode} {r} z answers b = record {
+  carries = subst (λ (n : ℕ). Carries opcode n (r .output)) (sym z) (answered answers);
+  brief = b;
+  whole = ap (λ (n : ℕ). eqb n 17) z;
+}
 
 -- counting a use changes neither the status nor the output
 sound-counted : (opcode : ℕ) (source : Source) (r : Result) → Sound opcode r → Sound opcode (counted source r)
@@ -64,12 +70,12 @@ sound-counted opcode (listed key) r sound = sound
 sound-counted opcode (own slot key) r sound = either (Sound opcode) (eqb (statusNumber (r .status)) 0) (λ _. again sound) (λ _. sound)
   where
     again : Sound opcode r → Sound opcode (record { status = r .status; output = r .output; change = addUse slot })
-    again s = record { carries = s .carries; fits = s .fits }
+    again s = record { carries = s .carries; brief = s .brief; whole = s .whole }
 
-opcodes-fit : (provider : ℕ) → (all (λ n. ltb n (2 ^ 32)) (opcodesOf provider) ≡ true) × (10 * length (opcodesOf provider) ≤ protobuf .lengthMost)
+opcodes-fit : (provider : ℕ) → (all (λ n. ltb n (2 ^ 32)) (opcodesOf provider) ≡ true) × (10 * length (opcodesOf provider) < 2 ^ 16)
 unfolding opcodesOf
 opcodes-fit provider =
-    either (λ (l : List ℕ). (all (λ n. ltb n (2 ^ 32)) l ≡ true) × (10 * length l ≤ protobuf .lengthMost)) (eqb provider 0)
+    either (λ (l : List ℕ). (all (λ n. ltb n (2 ^ 32)) l ≡ true) × (10 * length l < 2 ^ 16)) (eqb provider 0)
     (λ _. (refl, omega arith)) (λ _. (refl, omega arith))
 
 -- the slots of the asker hold short data
@@ -82,23 +88,39 @@ module _ (slots : List Entry) (list : List ℕ) where
 
   sound-import : (key : Key) → SoundFor (importKey key) (performImport key slots keys)
   unfolding performImport success statusNumber
-  sound-import key = import-ends importBits slots keys key (SoundFor (importKey key)) (λ status z w. refused _ status (z, w)) (λ slot t n e. served refl ofImport tt)
+  sound-import key = first (withinBounds key) refl
+    where
+      fourth : Taken importBits key → keyNamed (key .name) slots keys ≡ none → (f : Found) → slotNamed [] slots ≡ f → SoundFor (importKey key) (importBy importBits key slots keys)
+      fourth t n Nothing e = subst (SoundFor (importKey key)) (sym (no-slot importBits slots keys key t n e)) (refused _ _ (refl, refl, refl))
+      fourth t n (At slot) e = subst (SoundFor (importKey key)) (sym (imported importBits slots keys key t n slot e)) (served refl ofImport tt)
+
+      third : Taken importBits key → (o : Option Source) → keyNamed (key .name) slots keys ≡ o → SoundFor (importKey key) (importBy importBits key slots keys)
+      third t (some source) e = subst (SoundFor (importKey key)) (sym (name-taken importBits slots keys key t source e)) (refused _ _ (refl, refl, refl))
+      third t none e = fourth t e (slotNamed [] slots) refl
+
+      second : withinBounds key ≡ true → (t : Bool) → importBits (key .bits) ≡ t → SoundFor (importKey key) (importBy importBits key slots keys)
+      second e false b = subst (SoundFor (importKey key)) (sym (other-bits importBits slots keys key e b)) (refused _ _ (refl, refl, refl))
+      second e true b = third (record { bounds = e; bits = b }) (keyNamed (key .name) slots keys) refl
+
+      first : (t : Bool) → withinBounds key ≡ t → SoundFor (importKey key) (importBy importBits key slots keys)
+      first false e = subst (SoundFor (importKey key)) (sym (out-of-bounds importBits slots keys key e)) (refused _ _ (refl, refl, refl))
+      first true e = second e (importBits (key .bits)) refl
 
   sound-destroying : (name : List ℕ) (source : Source) → SoundFor (destroyKey name) (destroyOf source)
   unfolding destroyOf success statusNumber
   sound-destroying name (own slot key) = served refl ofDestroy tt
-  sound-destroying name (listed key) = refused _ _ (refl, refl)
+  sound-destroying name (listed key) = refused _ _ (refl, refl, refl)
 
   sound-destroy : (name : List ℕ) → SoundFor (destroyKey name) (performDestroy name slots keys)
   unfolding performDestroy success statusNumber
   sound-destroy name = go (legalName keyNameMost name) refl
     where
       second : legalName keyNameMost name ≡ true → (o : Option Source) → keyNamed name slots keys ≡ o → SoundFor (destroyKey name) (performDestroy name slots keys)
-      second v none e = rw (v, e, performDestroy) (refused _ _ (refl, refl))
+      second v none e = rw (v, e, performDestroy) (refused _ _ (refl, refl, refl))
       second v (some source) e = rw (v, e, performDestroy) (sound-destroying name source)
 
       go : (t : Bool) → legalName keyNameMost name ≡ t → SoundFor (destroyKey name) (performDestroy name slots keys)
-      go false e = rw (e, performDestroy) (refused _ _ (refl, refl))
+      go false e = rw (e, performDestroy) (refused _ _ (refl, refl, refl))
       go true e = second e (keyNamed name slots keys) refl
 
   sound-exporting : (name : List ℕ) (key : Key) → length (key .bytes) ≤ dataMost → SoundFor (exportPublicKey name) (exportOf key)
@@ -106,18 +128,18 @@ module _ (slots : List Entry) (list : List ℕ) where
   sound-exporting name key s =
       either (SoundFor (exportPublicKey name)) (key .exportAllowed)
       (λ _. served refl ofExport (omega (arith, s), tt))
-      (λ _. refused _ _ (refl, refl))
+      (λ _. refused _ _ (refl, refl, refl))
 
   sound-export : ShortSlots slots → (name : List ℕ) → SoundFor (exportPublicKey name) (performExport name slots keys)
   unfolding performExport statusNumber
   sound-export short name = go (legalName keyNameMost name) refl
     where
       second : legalName keyNameMost name ≡ true → (o : Option Source) → keyNamed name slots keys ≡ o → SoundFor (exportPublicKey name) (performExport name slots keys)
-      second v none e = rw (v, e, performExport) (refused _ _ (refl, refl))
+      second v none e = rw (v, e, performExport) (refused _ _ (refl, refl, refl))
       second v (some source) e = rw (v, e, performExport) (sound-counted _ source _ (sound-exporting name (keyOf source) (source-short name slots list short source e)))
 
       go : (t : Bool) → legalName keyNameMost name ≡ t → SoundFor (exportPublicKey name) (performExport name slots keys)
-      go false e = rw (e, performExport) (refused _ _ (refl, refl))
+      go false e = rw (e, performExport) (refused _ _ (refl, refl, refl))
       go true e = second e (keyNamed name slots keys) refl
 
   module _ (name hash signature : List ℕ) where
@@ -127,18 +149,18 @@ module _ (slots : List Entry) (list : List ℕ) where
     sound-checked : (outcome : Outcome) → SoundVerify (checked outcome)
     unfolding checked success statusNumber
     sound-checked ValidSignature = served refl ofVerify tt
-    sound-checked InvalidKey = refused _ _ (refl, refl)
-    sound-checked InvalidSignature = refused _ _ (refl, refl)
+    sound-checked InvalidKey = refused _ _ (refl, refl, refl)
+    sound-checked InvalidSignature = refused _ _ (refl, refl, refl)
 
     sound-verifying : (key : Key) → SoundVerify (verifyWith hash signature key)
     unfolding verifyWith statusNumber
     sound-verifying key =
         either SoundVerify (not (key .verifyAllowed))
-        (λ _. refused _ _ (refl, refl))
+        (λ _. refused _ _ (refl, refl, refl))
         (λ _. either SoundVerify (not (eqb (length hash) hashSize))
-        (λ _. refused _ _ (refl, refl))
+        (λ _. refused _ _ (refl, refl, refl))
         (λ _. either SoundVerify (not (importBits (key .bits)))
-        (λ _. refused _ _ (refl, refl))
+        (λ _. refused _ _ (refl, refl, refl))
         (λ _. sound-checked (verification (key .bytes) (key .bits) hash signature .outcome))))
 
     sound-verify : SoundVerify (performVerify name hash signature slots keys)
@@ -146,18 +168,18 @@ module _ (slots : List Entry) (list : List ℕ) where
     sound-verify = go (legalName keyNameMost name) refl
       where
         second : legalName keyNameMost name ≡ true → (o : Option Source) → keyNamed name slots keys ≡ o → SoundVerify (performVerify name hash signature slots keys)
-        second v none e = rw (v, e, performVerify) (refused _ _ (refl, refl))
+        second v none e = rw (v, e, performVerify) (refused _ _ (refl, refl, refl))
         second v (some source) e = rw (v, e, performVerify) (sound-counted _ source _ (sound-verifying (keyOf source)))
 
         go : (t : Bool) → legalName keyNameMost name ≡ t → SoundVerify (performVerify name hash signature slots keys)
-        go false e = rw (e, performVerify) (refused _ _ (refl, refl))
+        go false e = rw (e, performVerify) (refused _ _ (refl, refl, refl))
         go true e = second e (keyNamed name slots keys) refl
 
   sound-opcodes : (provider : ℕ) → SoundFor (listOpcodes provider) (performListOpcodes provider)
   unfolding performListOpcodes success statusNumber
   sound-opcodes provider =
       either (SoundFor (listOpcodes provider)) (ltb 1 provider)
-      (λ _. refused _ _ (refl, refl))
+      (λ _. refused _ _ (refl, refl, refl))
       (λ _. served refl ofListOpcodes (opcodes-fit provider, tt))
 
   sound-perform : ShortSlots slots → (operation : Operation) → SoundFor operation (perform operation slots keys)
@@ -184,8 +206,8 @@ short-slots registry w q i = go (applicationOf registry q) refl
 status-bare : (registry : List ℕ) (q : Request) (status : Status) → firstOf (refusals registry q) ≡ some status → Bare status
 unfolding refusals statusNumber
 status-bare registry q status e =
-    let no : Type 0 = (false ≡ false) × (false ≡ false) in
-    let b : no = (refl, refl) in
+    let no : Type 0 = (false ≡ false) × (false ≡ false) × (false ≡ false) in
+    let b : no = (refl, refl, refl) in
     first-has Bare (refusals registry q) (b, (b, (b, (b, (b, (b, (b, (b, (b, (b, tt)))))))))) status e
 
 -- an opcode and a body ask for an operation of that opcode
@@ -204,9 +226,9 @@ asking-of opcode m =
     (λ _. either (Of opcode) (eqb opcode 7) (λ e. sym (eqb-true opcode 7 e))
     (λ _. either (Of opcode) (eqb opcode 5) (λ e. sym (eqb-true opcode 5 e)) (λ _. tt)))))))
 
-asked-of : (opcode : ℕ) (body : List ℕ) → Of opcode (asked protobuf opcode body)
+asked-of : (format : Format) (opcode : ℕ) (body : List ℕ) → Of opcode (asked format opcode body)
 unfolding asked
-asked-of opcode body = go (readMessage protobuf (inputFields opcode) body)
+asked-of format opcode body = go (readMessage format (inputFields opcode) body)
   where
     go : (r : Reading) → Of opcode (askingBy opcode r)
     go (read m) = asking-of opcode m
@@ -268,8 +290,11 @@ result-sound list registry w q short = go (firstOf (refusals registry q)) refl
     slots : List Entry
     slots = askersSlots registry (applicationOf registry q)
 
+    format : Format
+    format = formatOf (formatFor (q .contentType))
+
     broke : (at : ℕ) → at ≤ length (q .body) → Sound (q .opcode) (refuseAt at)
-    broke at h = record { carries = notRead; fits = (omega arith, tt) }
+    broke at h = record { carries = notRead; brief = (omega arith, tt); whole = refl }
 
     performed : (a : Asking) → Of (q .opcode) a → GarbledIn (length (q .body)) a → Sound (q .opcode) (elim a [
       | garbled at ↦ refuseAt at
@@ -280,4 +305,4 @@ result-sound list registry w q short = go (firstOf (refusals registry q)) refl
 
     go : (o : Option Status) → firstOf (refusals registry q) ≡ o → Sound (q .opcode) (resultOf list registry q)
     go (some status) e = rw (e, resultOf) (refused (q .opcode) status (status-bare registry q status e))
-    go none e = rw (e, resultOf) (performed (asked protobuf (q .opcode) (q .body)) (asked-of (q .opcode) (q .body)) (asked-within protobuf (q .opcode) (q .body)))
+    go none e = rw (e, resultOf) (performed (asked format (q .opcode) (q .body)) (asked-of format (q .opcode) (q .body)) (asked-within format (q .opcode) (q .body)))

@@ -21,7 +21,7 @@ use Rattle.service.specs.Claims.{Runs, answersIn}
 use Rattle.client_responses.specs.Reading.{Asked, Reply, found, responseReader}
 use Rattle.client_responses.specs.State.{stateBytes, saidOf}
 use Rattle.client_responses.specs.Claims.{ReadRun, ranAs}
-use Rattle.client_responses.proofs.StateLaws.{isListed}
+use Rattle.client_responses.proofs.StateLaws.{Listed}
 use Rattle.client_responses.proofs.PiecesLaws.{pieces}
 use Rattle.conversation.specs.Conversation.{askedBy, repliesInTurn, written, askedFor, repliesTo}
 use Rattle.conversation.specs.Claims.{Hears, callsFor, Listens, Hearing, Listening, AllSent, BothEnds}
@@ -30,7 +30,7 @@ use Rattle.conversation.proofs.ServiceLaws.{service-heard}
 
 -- ---- one response, and whatever follows it, in any cut
 
-hearing : (asked : Asked) → isListed (asked .opcode) ≡ true → (response rest : List ℕ) (reply : Reply) → Hears asked response reply
+hearing : (asked : Asked) → Listed asked → (response rest : List ℕ) (reply : Reply) → Hears asked response reply
     → (chunks : List (List ℕ)) (runs : List ReadRun) → flatten chunks ≡ response ++ rest → Listens asked chunks runs
     → Hearing asked response reply runs
 hearing asked listed response rest reply h chunks runs e p =
@@ -59,7 +59,7 @@ listening [] s (r ∷ rs) ys h = absurd h
 listening (request ∷ requests) s [] ys h = absurd h
 listening (request ∷ requests) s (r ∷ rs) [] h = absurd h
 listening (request ∷ requests) (s, ss) (r ∷ rs) (y ∷ ys) (h, hs) = (
-  λ chunks runs e p. hearing (askedBy request) (s .listed) r (flatten rs) y h chunks runs e p,
+  λ chunks runs e p. hearing (askedBy request) (s .listed, s .accepts) r (flatten rs) y h chunks runs e p,
   listening requests ss rs ys hs,
 )
 

@@ -19,13 +19,13 @@ use Rattle.conversation.specs.Claims.{Small, Writable, WroteRequest, Req
 
 module _ (ask : Ask) (small : Small (ask .operation)) (before : List ℕ) where
   abbrev tests : List (Bool × WriteRefusal)
-  tests = writeTests before (ask .sender) (ask .operation)
+  tests = writeTests before (ask .types) (ask .sender) (ask .operation)
 
-  writable : firstOf tests ≡ none → Writable (ask .sender) (ask .operation)
+  writable : firstOf tests ≡ none → Writable (ask .types) (ask .sender) (ask .operation)
   unfolding judgedAs
-  writable e = let p = passed before (ask .sender) (ask .operation) (ap judgedAs e) in record { sender-legal = p .legal; fields-legal = p .fields; small = small }
+  writable e = let p = passed before (ask .types) (ask .sender) (ask .operation) (ap judgedAs e) in record { types-legal = p .listed; sender-legal = p .legal; fields-legal = p .fields; small = small }
 
-  wrote : (n : ℕ) (out : List ℕ) → record { answer = Bytes n; out = out } ≡ writeOutcome before (ask .session) (ask .sender) (ask .operation) → WroteRequest ask n out
+  wrote : (n : ℕ) (out : List ℕ) → record { answer = Bytes n; out = out } ≡ writeOutcome before (ask .session) (ask .types) (ask .sender) (ask .operation) → WroteRequest ask n out
   unfolding writeOutcome written
   wrote n out e = go (firstOf tests) refl
     where

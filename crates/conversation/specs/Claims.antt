@@ -12,7 +12,7 @@ use Rattle.reading.specs.Reader.{read}
 use Rattle.reading.specs.Calls.{takenStream, Call as ReadCall}
 use Rattle.reading.specs.Claims.{answersIn as answersBy, leftAfter, handedOver, enough, takenIn}
 use Rattle.messages.specs.Opcodes.{coreOpcodes, keystoreOpcodes}
-use Rattle.messages.specs.Protobuf.{protobuf}
+use Rattle.messages.specs.Formats.{formatOf, contentTypes}
 use Rattle.messages.specs.Operations.{Operation, ping, listProviders, listOpcodes, importKey, destroyKey, exportPublicKey, verifySignature, operationOf}
 use Rattle.stream.specs.Frame.{legalStart, oversized, whole, next}
 use Rattle.stream.specs.Parts.{verdictOn}
@@ -27,7 +27,8 @@ use Rattle.stream.specs.Handed.{responsesIn}
 use Rattle.service.specs.Call.{Call, fresh}
 use Rattle.service.specs.Contract.{Ran}
 use Rattle.service.specs.Claims.{Runs, answersIn}
-use Rattle.client_requests.specs.Writing.{Sender, requestFor, legalSender, fieldTests, writeOutcome}
+use Rattle.client_requests.specs.Writing.{Sender, bodyFormat, requestFor, legalTypes, legalSender, fieldTests, writeOutcome}
+use Rattle.client_requests.specs.declared.Types.{Types}
 use Rattle.client_requests.specs.declared.Written.the-variants.{Bytes}
 use Rattle.client_responses.specs.Reading.{Asked, providerFor, Reply, found, responseReader}
 use Rattle.client_responses.specs.State.{stateBytes, waiting, said}
@@ -47,9 +48,10 @@ Small (exportPublicKey name) = Unit {0}
 Small (verifySignature name hash signature) = Unit {0}
 
 -- a request that is not refused
-pub record Writable (sender : Sender) (operation : Operation) : Type 0 where
+pub record Writable (types : Types) (sender : Sender) (operation : Operation) : Type 0 where
+  pub types-legal : legalTypes types ≡ true
   pub sender-legal : legalSender sender ≡ true
-  pub fields-legal : firstOf (fieldTests operation) ≡ none
+  pub fields-legal : firstOf (fieldTests (bodyFormat types) operation) ≡ none
   pub small : Small operation
 
 -- the application that the service finds for a sender
@@ -58,32 +60,36 @@ applicationFor registry none = none
 applicationFor registry (some name) = applicationNamed registry name
 
 -- framed as one whole request whatever follows it; the header's fields, the operation and the application
-pub record ReadAsWritten (session : ℕ) (sender : Sender) (operation : Operation) : Type 0 where
-  pub framed : (rest : List ℕ) → next (requestBytes (requestFor session sender operation) ++ rest) ≡ whole (length (requestBytes (requestFor session sender operation)))
-  pub within : oversized (requestBytes (requestFor session sender operation)) ≡ false
-  pub fields : requestOf (requestBytes (requestFor session sender operation)) ≡ requestFor session sender operation
-  pub operation-read : operationOf protobuf (requestFor session sender operation .opcode) (requestFor session sender operation .body) ≡ some operation
-  pub application : (registry : List ℕ) → applicationOf registry (requestFor session sender operation) ≡ applicationFor registry sender
+pub record ReadAsWritten (session : ℕ) (types : Types) (sender : Sender) (operation : Operation) : Type 0 where
+  pub framed : (rest : List ℕ) → next (requestBytes (requestFor session types sender operation) ++ rest) ≡ whole (length (requestBytes (requestFor session types sender operation)))
+  pub within : oversized (requestBytes (requestFor session types sender operation)) ≡ false
+  pub fields : requestOf (requestBytes (requestFor session types sender operation)) ≡ requestFor session types sender operation
+  pub operation-read : operationOf (formatOf (bodyFormat types)) (requestFor session types sender operation .opcode) (requestFor session types sender operation .body) ≡ some operation
+  pub application : (registry : List ℕ) → applicationOf registry (requestFor session types sender operation) ≡ applicationFor registry sender
 
+-- for any pair of formats
 abbrev pub RequestsRead : Type 0
-RequestsRead = (session : ℕ) (sender : Sender) (operation : Operation) → Writable sender operation → ReadAsWritten session sender operation
+RequestsRead = (session : ℕ) (types : Types) (sender : Sender) (operation : Operation) → Writable types sender operation → ReadAsWritten session types sender operation
 
 -- the code that writes requests: the n bytes that it says it wrote are the request's, and it is one that is not refused
 pub record WroteRequest (ask : Ask) (n : ℕ) (out : List ℕ) : Type 0 where
   pub bytes : take n out ≡ written ask
-  pub writable : Writable (ask .sender) (ask .operation)
+  pub writable : Writable (ask .types) (ask .sender) (ask .operation)
 
 abbrev pub RequestsWritten : Type 0
 RequestsWritten = (ask : Ask) → Small (ask .operation) → (before : List ℕ) (n : ℕ) (out : List ℕ)
-    → record { answer = Bytes n; out = out } ≡ writeOutcome before (ask .session) (ask .sender) (ask .operation) → WroteRequest ask n out
+    → record { answer = Bytes n; out = out } ≡ writeOutcome before (ask .session) (ask .types) (ask .sender) (ask .operation) → WroteRequest ask n out
 
 -- ---- "what the service writes to it, the client reads as the same response"
 
--- a request that a client may have sent: whole, with a listed opcode and that opcode's provider, whatever else is in it
+-- a request that a client may have sent: whole, with a listed opcode, that opcode's provider and a listed accept type, whatever
+-- else is in it. An oversized one asks for format 1, in which it is answered
 pub record Sent (request : List ℕ) : Type 0 where
   pub framed : next request ≡ whole (length request)
   pub listed : oneOf (coreOpcodes ++ keystoreOpcodes) (requestOf request .opcode) ≡ true
   pub provider : requestOf request .provider ≡ providerFor (requestOf request .opcode)
+  pub accepts : oneOf contentTypes (requestOf request .acceptType) ≡ true
+  pub oversized-accepts : oversized request ≡ true → requestOf request .acceptType ≡ 1
 
 -- whatever follows the response, it is found to be this reply, and the reader takes it to its last byte and nothing more
 pub record Hears (asked : Asked) (response : List ℕ) (reply : Reply) : Type 0 where
@@ -132,7 +138,7 @@ AllSent (request ∷ requests) = Sent request × AllSent requests
 
 abbrev pub AllWritable : List Ask → Type 0
 AllWritable [] = Unit {0}
-AllWritable (ask ∷ asks) = Writable (ask .sender) (ask .operation) × AllWritable asks
+AllWritable (ask ∷ asks) = Writable (ask .types) (ask .sender) (ask .operation) × AllWritable asks
 
 -- ONE CLAIM ABOUT BOTH CODES' CONTRACTS: requests, handed to the service's call in any cut from a fresh connection, zero counters
 -- and a well-formed registry, under any list of keys that we ship; and the responses, handed to the client's reader in any cut

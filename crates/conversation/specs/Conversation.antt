@@ -11,6 +11,7 @@ use Rattle.judgement.specs.Operations.{Result, refuse}
 use Rattle.judgement.specs.Counts.{Counts, noCounts}
 use Rattle.judgement.specs.Judgement.{oversizedStatus, resultOf, verdictOf, judgement}
 use Rattle.client_requests.specs.Writing.{Sender, requestFor}
+use Rattle.client_requests.specs.declared.Types.{Types}
 use Rattle.client_responses.specs.Reading.{Asked, Reply, answered}
 
 -- a result as it is heard: a status's number and an output
@@ -21,7 +22,7 @@ replyOf r = answered (statusNumber (r .status)) (r .output)
 
 -- as the reader of its response knows it
 unfoldable pub askedBy : (request : List ℕ) → Asked
-askedBy request = record { opcode = requestOf request .opcode; session = requestOf request .session }
+askedBy request = record { opcode = requestOf request .opcode; session = requestOf request .session; acceptType = requestOf request .acceptType }
 
 -- what the rules give it: an oversized one is refused by its header alone
 unfoldable pub resultFor : (list registry request : List ℕ) → Result
@@ -40,22 +41,23 @@ repliesInTurn list registry counts (request ∷ requests) =
 -- what it is asked to write
 pub record Ask : Type 0 where
   pub session : ℕ
+  pub types : Types
   pub sender : Sender
   pub operation : Operation
 
 -- the request's bytes
 unfoldable pub written : Ask → List ℕ
-written ask = requestBytes (requestFor (ask .session) (ask .sender) (ask .operation))
+written ask = requestBytes (requestFor (ask .session) (ask .types) (ask .sender) (ask .operation))
 
 -- the request as the reader of its response knows it
 unfoldable pub askedFor : Ask → Asked
-askedFor ask = record { opcode = opcodeOf (ask .operation); session = ask .session }
+askedFor ask = record { opcode = opcodeOf (ask .operation); session = ask .session; acceptType = ask .types .accept }
 
 -- the results that the rules give for the operations under one list, one after the other
 unfoldable pub repliesFrom : (list registry : List ℕ) → Counts → List Ask → List Reply
 repliesFrom list registry counts [] = []
 repliesFrom list registry counts (ask ∷ asks) =
-    let q = requestFor (ask .session) (ask .sender) (ask .operation) in
+    let q = requestFor (ask .session) (ask .types) (ask .sender) (ask .operation) in
     let r = resultOf list registry q in
     let v = verdictOf registry counts q r in
     replyOf r ∷ repliesFrom list (v .registry) (v .counts) asks
