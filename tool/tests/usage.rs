@@ -103,7 +103,7 @@ fn the_help_of_all_names_each_command() {
 }
 
 /// A command line, what is said of it, and whose help to read.
-const NOT_UNDERSTOOD: [(&str, &str, &str); 58] = [
+const NOT_UNDERSTOOD: [(&str, &str, &str); 61] = [
     ("", "a command is missing", ""),
     ("keys", "unknown command keys", ""),
     ("keys --help", "unknown command keys", ""),

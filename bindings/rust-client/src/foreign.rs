@@ -167,7 +167,6 @@ pub fn write_list_providers(
 }
 
 /// Writes a ListOpcodes of a provider.
-#[allow(clippy::too_many_arguments)]
 pub fn write_list_opcodes(
     out: &mut [u8],
     session: u64,
@@ -229,7 +228,6 @@ pub fn write_import(
 }
 
 /// Writes a PsaDestroyKey of a key.
-#[allow(clippy::too_many_arguments)]
 pub fn write_destroy(
     out: &mut [u8],
     session: u64,
@@ -256,7 +254,6 @@ pub fn write_destroy(
 }
 
 /// Writes a PsaExportPublicKey of a key.
-#[allow(clippy::too_many_arguments)]
 pub fn write_export(
     out: &mut [u8],
     session: u64,
