@@ -46,6 +46,7 @@ impl Service {
             list,
             journal: None,
             capture: None,
+            capture_responses: None,
             patience: TOO_LONG,
             say: |_| (),
             stop: mpsc::channel().0,

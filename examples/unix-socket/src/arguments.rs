@@ -18,6 +18,9 @@ bill of all connections on standard output. Messages go to standard error.
                   which may get more names at its end, and no other change
   --capture FILE  append every answered request to FILE, for `bill ROSTER FILE
                   LIST`; without --list, LIST is an empty file, as /dev/null is
+  --capture-responses FILE
+                  with --capture, append the responses to those requests to FILE,
+                  for `audit`
   --stdin         stop at the end of standard input too, which is not read else
   --help          print this
 
@@ -39,6 +42,7 @@ pub struct Arguments {
     pub list: Option<PathBuf>,
     pub journal: Option<PathBuf>,
     pub capture: Option<PathBuf>,
+    pub capture_responses: Option<PathBuf>,
     pub stdin: bool,
 }
 
@@ -49,9 +53,12 @@ pub enum Fault {
     /// Behind this option.
     NoFile(&'static str),
     NotTwoFiles(usize),
+    /// Responses alone show nothing.
+    ResponsesAlone,
 }
 
 const CAPTURE: &str = "--capture";
+const CAPTURE_RESPONSES: &str = "--capture-responses";
 const JOURNAL: &str = "--journal";
 const LIST: &str = "--list";
 
@@ -68,6 +75,10 @@ pub fn read(given: impl Iterator<Item = OsString>) -> Result<Asked, Fault> {
             option if is_option(option, CAPTURE) => {
                 arguments.capture = Some(file(CAPTURE, &argument, &mut given)?);
             }
+            option if is_option(option, CAPTURE_RESPONSES) => {
+                let file = file(CAPTURE_RESPONSES, &argument, &mut given)?;
+                arguments.capture_responses = Some(file);
+            }
             option if is_option(option, JOURNAL) => {
                 arguments.journal = Some(file(JOURNAL, &argument, &mut given)?);
             }
@@ -81,6 +92,9 @@ pub fn read(given: impl Iterator<Item = OsString>) -> Result<Asked, Fault> {
     let count = files.len();
     let [socket, roster] =
         <[OsString; 2]>::try_from(files).map_err(|_| Fault::NotTwoFiles(count))?;
+    if arguments.capture_responses.is_some() && arguments.capture.is_none() {
+        return Err(Fault::ResponsesAlone);
+    }
     arguments.socket = socket.into();
     arguments.roster = roster.into();
     Ok(Asked::Serve(arguments))
@@ -114,6 +128,7 @@ impl fmt::Display for Fault {
             Fault::NotTwoFiles(count) => {
                 write!(out, "SOCKET and ROSTER are needed, not {count} files")
             }
+            Fault::ResponsesAlone => write!(out, "{CAPTURE_RESPONSES} needs {CAPTURE}"),
         }
     }
 }

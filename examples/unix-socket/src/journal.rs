@@ -31,10 +31,22 @@ impl Journal for Records {
     }
 }
 
+impl Records {
+    /// How many bytes of the journal were restored, if there is one.
+    pub fn length(&self) -> Option<u64> {
+        match self {
+            Records::Dropped => None,
+            Records::Kept(journal) => Some(journal.restored),
+        }
+    }
+}
+
 /// A locked file, all of it whole records.
 #[derive(Debug)]
 pub struct JournalFile {
     file: File,
+    /// How many bytes it had when it was opened.
+    restored: u64,
 }
 
 /// Why there is no journal.
@@ -79,7 +91,8 @@ impl JournalFile {
         let registry = restore(&mut file, registry, &path.display(), say)?;
         copy.renew(roster)?;
         sync_folder(&real)?;
-        Ok((JournalFile { file }, registry))
+        let restored = file.metadata()?.len();
+        Ok((JournalFile { file, restored }, registry))
     }
 
     /// Comes back when the record is on disk.

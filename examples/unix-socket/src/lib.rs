@@ -19,7 +19,7 @@ mod server;
 mod shared;
 
 pub use address::SocketError;
-pub use capture::{Capture, CaptureError, Captured, Rest};
+pub use capture::{Capture, CaptureError, Captured, CapturedResponses, Rest};
 pub use ended::{Ended, Fault, Undelivered};
 pub use journal::{keys_of, JournalError, JournalFile, Records};
 pub use peer::serve;

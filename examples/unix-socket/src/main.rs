@@ -49,6 +49,7 @@ fn run(arguments: &Arguments) -> Result<(), String> {
         list: &list,
         journal: arguments.journal.as_deref(),
         capture: arguments.capture.as_deref(),
+        capture_responses: arguments.capture_responses.as_deref(),
         patience: PATIENCE,
         say,
         stop: sender,

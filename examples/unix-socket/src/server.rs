@@ -29,6 +29,8 @@ pub struct Settings<'a> {
     pub journal: Option<&'a Path>,
     /// Where it appends the requests it answers.
     pub capture: Option<&'a Path>,
+    /// Where it appends its responses to them, if it captures requests.
+    pub capture_responses: Option<&'a Path>,
     /// A peer that takes nothing of a response for so long gets no more of them, and a stop takes
     /// hardly longer. Above 0.
     pub patience: Duration,
@@ -85,16 +87,15 @@ impl Server {
         let registry = Registry::load(settings.roster).map_err(StartError::Roster)?;
         let list = List::from_bytes(settings.list).map_err(StartError::List)?;
         let (records, registry) = restore(&settings, registry)?;
+        let journal = records.length();
         let restored = keys_of(&registry);
         let service = Service::new(registry, list, records);
-        let shared = Arc::new(Shared::new(service, settings.stop));
+        let shared = Arc::new(Shared::new(service, settings.stop.clone()));
         let no_socket = |error| StartError::Socket(settings.socket.to_path_buf(), error);
         let (listener, address) =
             address::listen(settings.socket, settings.say).map_err(no_socket)?;
         if let Some(path) = settings.capture {
-            let no_capture = |error| StartError::Capture(path.to_path_buf(), error);
-            let capture = Capture::open(path, restored, settings.say);
-            shared.capture(capture.map_err(no_capture)?);
+            shared.capture(open_capture(&settings, path, restored, journal)?);
         }
         let socket = listener.try_clone();
         let socket = socket.map_err(|error| no_socket(SocketError::Failed(error)))?;
@@ -136,6 +137,29 @@ impl Server {
             journal_fault: self.shared.journal_fault(),
         }
     }
+}
+
+/// The capture, which begins with so many keys, and so many bytes of the journal if there is one.
+fn open_capture(
+    settings: &Settings,
+    path: &Path,
+    restored: usize,
+    journal: Option<u64>,
+) -> Result<Capture, StartError> {
+    let failed = |path: &Path, error| StartError::Capture(path.to_path_buf(), error);
+    let capture = Capture::open(path, restored, settings.say);
+    let mut capture = capture.map_err(|error| failed(path, error))?;
+    if let Some(path) = settings.capture_responses {
+        let both = capture.with_responses(path);
+        capture = both.map_err(|error| failed(path, error))?;
+    }
+    if let (Some(bytes), Some(journal)) = (journal, settings.journal) {
+        let (path, journal) = (path.display(), journal.display());
+        (settings.say)(&format_args!(
+            "{path}: begins behind the first {bytes} bytes of the journal {journal}"
+        ));
+    }
+    Ok(capture)
 }
 
 /// The registry with the journal's keys, and where records go from now on.

@@ -41,8 +41,8 @@ impl Shared {
     /// [`Service::call`] on what is shared; `rest` is the connection's own. The lock is free again
     /// before the response is sent, so that a slow peer holds no other one up.
     ///
-    /// A request is captured under the lock of the call that answers it, so that requests are
-    /// captured in the order in which they changed the registry. Its record is on disk by then: all
+    /// A request and its response are captured under the lock of the call that answers it, so that they
+    /// are captured in the order in which requests changed the registry. Its record is on disk by then: all
     /// other connections wait for it, since what they are answered may rest on it.
     pub fn call<'a>(
         &self,
@@ -55,12 +55,16 @@ impl Shared {
         let answer = locked.service.call(connection, chunk, buffers);
         let answer = answer.inspect_err(|error| locked.note(error))?;
         rest.add(&chunk[..answer.taken]);
-        // A bad start is answered too, and would close the captured stream in front of all others.
-        if answer.response.is_some() && !connection.is_closed() {
-            if let Some(capture) = &mut locked.capture {
-                capture.append(rest);
+        match answer.response {
+            // A bad start is answered too, and would close the captured stream in front of all others.
+            Some(response) if connection.is_closed() => rest.answer(response),
+            Some(response) => {
+                if let Some(capture) = &mut locked.capture {
+                    capture.append(rest, response);
+                }
+                rest.clear();
             }
-            rest.clear();
+            None => {}
         }
         Ok(answer)
     }

@@ -33,6 +33,7 @@ fn start_with_list(folder: &Folder, list: &[u8]) -> Server {
         list,
         journal: None,
         capture: Some(&folder.at("capture")),
+        capture_responses: None,
         patience: TOO_LONG,
         say: |_| {},
         stop: mpsc::channel().0,

@@ -47,6 +47,7 @@ pub fn start_with_patience(test: &str, patience: Duration) -> (Server, PathBuf) 
         list: b"",
         journal: None,
         capture: None,
+        capture_responses: None,
         patience,
         say: |_| {},
         stop: mpsc::channel().0,
