@@ -6,7 +6,8 @@ use mathlib.Core.List.{List, [], _∷_, _++_, append-assoc, append-nil}
 use native.Mathlib.Omega.{arith}
 use lib.ListN.{length, take}
 use Rattle.reading.specs.Reader.{Reader}
-use Rattle.reading.specs.Calls.{Call as CallWith, Answer as AnswerWith, Layout, CallsOutcome as CallsOutcomeWith, callOn, callsOn, joinedOut, takenStream}
+use Rattle.reading.specs.Calls.{Call as CallWith, Answer as AnswerWith, Layout, CallsOutcome as CallsOutcomeWith, callOn, joinedOut, takenStream}
+use Rattle.reading.specs.code.Calls.{callsOn}
 use Rattle.reading.specs.Buffer.{written}
 use Rattle.reading.proofs.CallLaws.{call-facts}
 use Rattle.reading.proofs.DeliveryLaws.{call-takes}
@@ -15,7 +16,8 @@ use Rattle.stream.specs.Handed.{give}
 use Rattle.judgement.specs.Judgement.{longestResponse}
 use Rattle.journal.specs.Journalling.{journalling}
 use Rattle.counters.specs.Counters.{counterMost, largestCounter}
-use Rattle.service.specs.Call.{Memory, stateIn, layout, Call, CallOutcome, CallsOutcome, chunkMost, refusalOf, callOutcome, callsOutcome}
+use Rattle.service.specs.Call.{Memory, stateIn, layout, Call, CallOutcome, CallsOutcome, chunkMost, refusalOf, callOutcome}
+use Rattle.service.specs.code.Calls.{callsOutcome}
 use Rattle.service.specs.Contract.{Ran, ranWith, refusalIn, outcomeIn}
 use Rattle.service.proofs.CallLaws.{recordedEffect, passed, refused-outcome, taken-outcome, each-call}
 

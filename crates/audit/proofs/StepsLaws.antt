@@ -7,7 +7,8 @@ use native.Mathlib.Omega.{arith}
 use lib.ListN.{length, take, drop, length-append}
 use lib.Seq.{length-take-le}
 use lib.Dec.{eqb}
-use Rattle.reading.specs.Calls.{callsOn, joinedOut, takenStream}
+use Rattle.reading.specs.Calls.{joinedOut, takenStream}
+use Rattle.reading.specs.code.Calls.{callsOn}
 use Rattle.reading.specs.Buffer.{Written, asOne}
 use Rattle.reading.proofs.ReaderLaws.{decide}
 use Rattle.stream.specs.Rules.{rules}
@@ -15,7 +16,8 @@ use Rattle.stream.specs.Handed.{Given, responsesIn}
 use Rattle.stream.proofs.PartsLaws.{rules-from-stream}
 use Rattle.judgement.specs.Judgement.{judgement}
 use Rattle.service.specs.Call as service
-use Rattle.service.specs.Call.{Call, CallOutcome, CallsOutcome, fresh, memoryOf, callOutcome, callsOutcome}
+use Rattle.service.specs.Call.{Call, CallOutcome, CallsOutcome, fresh, memoryOf, callOutcome}
+use Rattle.service.specs.code.Calls.{callsOutcome}
 use Rattle.service.specs.Contract.{callWith}
 use Rattle.service.proofs.Demand3.{demand3}
 use Rattle.audit.specs.Audit.{alike, compared, audit}
