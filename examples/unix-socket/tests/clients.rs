@@ -44,6 +44,7 @@ fn run_one(path: &Path, Client { stream, manner }: &Client) -> Vec<u8> {
 /// An import and an export of a key, and a Ping.
 fn work(random: &mut Random, name: &[u8]) -> Vec<u8> {
     let key = Key {
+        bits: 2_048,
         export_allowed: true,
         ..key(random, 0)
     };

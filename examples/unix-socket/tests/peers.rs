@@ -108,6 +108,7 @@ fn what_arrived_behind_a_bad_start_is_dropped_and_counted() {
 fn a_key_of_one_connection_is_exported_on_another() {
     let (server, path) = start("shared");
     let key = Key {
+        bits: 2_048,
         export_allowed: true,
         ..key(&mut Random::new(0), 0)
     };
