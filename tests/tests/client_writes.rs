@@ -50,8 +50,12 @@ fn every_bound_with_every_other_is_judged_alike() {
                 ..Asked::good(IMPORT)
             };
             for (opcode, length) in each_with_each(&OPCODES, &BUFFERS) {
+                let types = [(1, 1), (2, 1), (1, 2), (2, 2), (0, 1), (2, 3)];
+                let (content_type, accept_type) = random.pick(&types);
                 let asked = Asked {
                     opcode,
+                    content_type,
+                    accept_type,
                     hash: random.pick(&[vec![1; 31], vec![1; 32], vec![1; 32]]),
                     signature: random.pick(&[vec![2; 256], vec![2; 4_025], vec![2; 4_057]]),
                     ..asked.clone()

@@ -374,7 +374,8 @@ fn on_generated_registries_own_and_listed_keys_are_asked_for_alike() {
                 asked(lent, VERIFY, application.name(), &signed.body(name));
                 let import = import_body(&signed.key(name));
                 let (status, _) = asked(lent, IMPORT, application.name(), &import);
-                assert!([ALREADY_EXISTS, AUTHENTICATION_ERROR].contains(&status));
+                let held = signed.status_or_unsupported(ALREADY_EXISTS);
+                assert!([held, AUTHENTICATION_ERROR].contains(&status));
                 asked(lent, DESTROY, application.name(), &name_body(name));
             }
         }
