@@ -10,7 +10,7 @@ use std::str::FromStr;
 /// Options that stand alone, of all commands.
 const FLAGS: [&str; 4] = ["--help", "-h", "--export", "--verify"];
 /// Options that a value follows.
-const VALUED: [&str; 10] = [
+const VALUED: [&str; 11] = [
     "-o",
     "--app",
     "--session",
@@ -21,6 +21,7 @@ const VALUED: [&str; 10] = [
     "--signature",
     "--roster",
     "--list",
+    "--responses",
 ];
 
 /// What is left of the command line.

@@ -4,10 +4,11 @@ use crate::arguments::Arguments;
 use crate::request::Request;
 use crate::response::{broken_at, byte_of_body};
 use crate::{input, list, roster, Failure};
-use razidkot::{Buffers, Connection, Held, List, NoJournal, Service, Status, LONGEST_CHUNK};
+use razidkot::{Audit, Buffers, Connection, Held, List, NoJournal, Registry, Service, Status};
+use razidkot::{Verdict, LONGEST_CHUNK};
 use std::fs::File;
 use std::io::{self, Write};
-use std::path::PathBuf;
+use std::path::{Path, PathBuf};
 
 const SHOW: &str = "capture show";
 
@@ -24,11 +25,17 @@ pub fn run(mut arguments: Arguments, out: &mut dyn Write) -> Result<(), Failure>
     let roster = arguments.path("--roster");
     let roster = roster.ok_or_else(|| Failure::usage(SHOW, "--roster FILE is missing"))?;
     let list = arguments.path("--list");
+    let responses = arguments.path("--responses");
     arguments.end(SHOW)?;
 
     let registry = roster::load(&roster)?;
     let list = list.map_or(Ok(List::new()), |file| list::load(&file))?;
-    let mut capture = Capture::new(Service::new(registry, list, NoJournal));
+    let verdict = match &responses {
+        Some(responses) => Some(audit(&registry, &list, &file, responses)?),
+        None => None,
+    };
+    let service = Service::new(registry, list, NoJournal);
+    let mut capture = Capture::new(service, verdict);
     let failed = |error| Failure::at(&file, error);
     let mut stream = File::open(&file).map_err(failed)?;
     let mut chunk = vec![0; LONGEST_CHUNK];
@@ -39,7 +46,26 @@ pub fn run(mut arguments: Arguments, out: &mut dyn Write) -> Result<(), Failure>
         shown.map_err(Failure::output)?;
         length = input::read(&mut stream, &mut chunk).map_err(failed)?;
     }
-    capture.end(out).map_err(Failure::output)
+    capture.end(out).map_err(Failure::output)?;
+    match (verdict, responses) {
+        (Some(Verdict::Wrong { .. }), Some(file)) => Err(Failure::at(&file, "a wrong response")),
+        _ => Ok(()),
+    }
+}
+
+/// What the proved auditor says of the responses.
+fn audit(
+    registry: &Registry,
+    list: &List,
+    requests: &Path,
+    responses: &Path,
+) -> Result<Verdict, Failure> {
+    let open = |file: &Path| File::open(file).map_err(|error| Failure::at(file, error));
+    let (mut stream, mut captured) = (open(requests)?, open(responses)?);
+    let audit = Audit::begin(registry.clone(), list.clone());
+    let audited = audit.read(&mut stream, &mut captured);
+    let audited = audited.map_err(|error| Failure::at(requests, error))?;
+    Ok(audited.verdict)
 }
 
 /// The service, and what is needed to show the request that it is at.
@@ -48,14 +74,20 @@ struct Capture {
     connection: Connection,
     /// The first bytes of that request.
     request: Vec<u8>,
+    /// How many were answered before it.
+    answered: u64,
+    /// What is said of the responses, if there are any.
+    verdict: Option<Verdict>,
 }
 
 impl Capture {
-    fn new(service: Service<NoJournal>) -> Capture {
+    fn new(service: Service<NoJournal>, verdict: Option<Verdict>) -> Capture {
         Capture {
             service,
             connection: Connection::open(),
             request: Vec::new(),
+            answered: 0,
+            verdict,
         }
     }
 
@@ -100,10 +132,22 @@ impl Capture {
             [operation, application].map(|field| field.unwrap_or_else(|| "unread".into()));
         let broken = broken.map_or(String::new(), |at| format!(" {}", byte_of_body(at)));
         self.request.clear();
+        self.answered += 1;
+        let mark = self.mark();
         writeln!(
             out,
-            "{offset:>10} {length:>10} {status:>7} {name:<31} {operation:<19} {application}{broken}"
+            "{offset:>10} {length:>10} {status:>7} {name:<31} {operation:<19} {application}{broken}{mark}"
         )
+    }
+
+    /// Of the first wrong response, what is said of it.
+    fn mark(&self) -> String {
+        match self.verdict {
+            Some(Verdict::Wrong { response, byte }) if response == self.answered => {
+                format!("  <- captured response wrong at byte {byte}")
+            }
+            _ => String::new(),
+        }
     }
 
     /// Shows what is behind the last request.
@@ -119,7 +163,10 @@ impl Capture {
         if length > 0 {
             writeln!(out, "{offset:>10} {length:>10} dropped behind a close")?;
         }
-        Ok(())
+        match self.verdict {
+            Some(verdict) => writeln!(out, "{verdict}"),
+            None => Ok(()),
+        }
     }
 }
 

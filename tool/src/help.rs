@@ -172,12 +172,12 @@ that may not verify, one that is no RSA public key of its bits, or not of 2048, 
 ";
 
 const CAPTURE: &str = "\
-razidkot capture show FILE --roster FILE [--list FILE]
+razidkot capture show FILE --roster FILE [--list FILE] [--responses FILE]
                                              print a captured stream request by request
 ";
 
 const CAPTURE_SHOW: &str = "\
-razidkot capture show FILE --roster FILE [--list FILE]
+razidkot capture show FILE --roster FILE [--list FILE] [--responses FILE]
 
 Hands the stream in FILE to the compiled service, which starts with the roster's applications and
 no keys but the list's, and prints a line for each request:
@@ -194,6 +194,9 @@ program's status.
 
   --roster FILE     the roster file
   --list FILE       the list of keys that the service had; none if not said
+  --responses FILE  the captured responses: the first one that the rules do not give is marked, by
+                    the proved auditor, and the last line is its verdict, `accepted` or `wrong
+                    K B`, which fails. The stream is then read twice
 ";
 
 const JOURNAL: &str = "\

@@ -330,3 +330,54 @@ fn a_file_that_cannot_be_read_is_named() {
     show(&stream, folder.path()).assert_failed(&said);
     show(folder.path(), &good).assert_failed(&said);
 }
+
+/// What is shown with captured responses: the marked line's number, from 1, and the last line.
+fn audited(stream: &Path, roster: &Path, responses: &Path) -> (Option<usize>, String, bool) {
+    let words = words![
+        "capture",
+        "show",
+        stream,
+        "--roster",
+        roster,
+        "--responses",
+        responses
+    ];
+    let output = razidkot(words);
+    let text = String::from_utf8(output.out).expect("text");
+    let marked = text.lines().position(|line| line.contains("<- captured"));
+    let last = text.lines().last().unwrap_or_default();
+    (marked, last.into(), output.status == 0)
+}
+
+#[test]
+fn the_first_wrong_response_is_marked_and_the_verdict_is_the_reference_s() {
+    let names = [b"scanner".to_vec(), b"viewer".to_vec()];
+    let folder = folder("audited");
+    let roster = folder.file("roster", &roster_of(&names));
+    for_seeds(20, |random| {
+        let registry = registry_of(&names);
+        let requests = requests(random, &applications(&registry), 12).concat();
+        let expected = rules::run(&registry, &requests).responses;
+        let mut captured = expected.concat();
+        match random.below(3) {
+            0 if !captured.is_empty() => {
+                let at = random.below(captured.len());
+                captured[at] ^= 1;
+            }
+            1 => captured.extend(b"more"),
+            _ => (),
+        }
+        let stream = folder.file("stream", &requests);
+        let responses = folder.file("responses", &captured);
+        let verdict = reference::verdict(&expected, &captured);
+        let (marked, last, is_good) = audited(&stream, &roster, &responses);
+        assert_eq!(last, verdict.to_string());
+        assert_eq!(is_good, verdict == reference::Verdict::Accepted);
+        // The line 0 is the heading. One response more than there are has no line.
+        let wrong = match verdict {
+            reference::Verdict::Wrong { response, .. } => Some(response as usize),
+            reference::Verdict::Accepted => None,
+        };
+        assert_eq!(marked, wrong.filter(|&number| number <= expected.len()));
+    });
+}

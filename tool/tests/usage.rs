@@ -51,7 +51,7 @@ const COMMANDS: [(&[&str], &str); 21] = [
     (&["capture"], "razidkot capture show FILE --roster FILE "),
     (
         &["capture", "show"],
-        "razidkot capture show FILE --roster FILE [--list FILE]\n",
+        "razidkot capture show FILE --roster FILE [--list FILE] [--responses FILE]\n",
     ),
     (&["journal"], "razidkot journal show FILE [--roster FILE] "),
     (
