@@ -1,4 +1,4 @@
-# Builds and installs the compiled service, the compiled client and the program that bills.
+# Builds and installs the compiled service, the compiled client, the program that bills and the auditor.
 #
 #     make                              proves and builds them: minutes the first time
 #     make install PREFIX=/usr/local    .. and installs them; DESTDIR=FOLDER puts the same files below another folder
@@ -29,7 +29,7 @@ to_lib = $(DESTDIR)$(libdir)
 to_pkgconfig = $(DESTDIR)$(pkgconfigdir)
 to_man = $(DESTDIR)$(mandir)
 
-built := target/staticlib/libabi.a target/staticlib/libclient_abi.a target/bin/bill
+built := target/staticlib/libabi.a target/staticlib/libclient_abi.a target/bin/bill target/bin/audit_program
 # A folder is newer when a file of it is gone.
 sources := crates.txt $(shell find crates -name '*.rt' -o -name '*.antt' -o -type d)
 
@@ -58,6 +58,7 @@ absolute:
 install: absolute $(built)
 	install -d '$(to_bin)' '$(to_include)' '$(to_lib)' '$(to_pkgconfig)' '$(to_man)/man1' '$(to_man)/man3'
 	install -m 755 target/bin/bill '$(to_bin)/razidkot-bill'
+	install -m 755 target/bin/audit_program '$(to_bin)/razidkot-audit'
 	install -m 644 $(headers:%=include/%) '$(to_include)'
 	install -m 644 target/staticlib/libabi.a '$(to_lib)/librazidkot.a'
 	install -m 644 target/staticlib/libclient_abi.a '$(to_lib)/librazidkot_client.a'
@@ -65,7 +66,7 @@ install: absolute $(built)
 		$(fill_in) "pkgconfig/$$name.pc.in" >'$(to_pkgconfig)'/"$$name.pc" || exit; \
 		chmod 644 '$(to_pkgconfig)'/"$$name.pc" || exit; \
 	done
-	install -m 644 man/razidkot-bill.1 '$(to_man)/man1'
+	install -m 644 man/razidkot-bill.1 man/razidkot-audit.1 '$(to_man)/man1'
 	install -m 644 man/razidkot.3 man/razidkot_client.3 '$(to_man)/man3'
 	for name in $(service_functions); do \
 		echo '.so man3/razidkot.3' >'$(to_man)/man3'/"$$name.3" && chmod 644 '$(to_man)/man3'/"$$name.3" || exit; \
@@ -76,8 +77,9 @@ install: absolute $(built)
 
 # The folders may be others' too, and stay.
 uninstall: absolute
-	rm -f '$(to_bin)/razidkot-bill' $(headers:%='$(to_include)'/%)
+	rm -f '$(to_bin)/razidkot-bill' '$(to_bin)/razidkot-audit' $(headers:%='$(to_include)'/%)
 	rm -f '$(to_lib)/librazidkot.a' '$(to_lib)/librazidkot_client.a'
 	rm -f '$(to_pkgconfig)/razidkot.pc' '$(to_pkgconfig)/razidkot-client.pc'
-	rm -f '$(to_man)/man1/razidkot-bill.1' '$(to_man)/man3/razidkot.3' '$(to_man)/man3/razidkot_client.3'
+	rm -f '$(to_man)/man1/razidkot-bill.1' '$(to_man)/man1/razidkot-audit.1'
+	rm -f '$(to_man)/man3/razidkot.3' '$(to_man)/man3/razidkot_client.3'
 	rm -f $(service_functions:%='$(to_man)/man3'/%.3) $(client_functions:%='$(to_man)/man3'/%.3)

@@ -11,7 +11,12 @@ from pathlib import Path
 
 REPOSITORY = Path(__file__).resolve().parent.parent
 # What rt has built: make takes it as it is, whatever its age, and proves nothing.
-BUILT = ["target/staticlib/libabi.a", "target/staticlib/libclient_abi.a", "target/bin/bill"]
+BUILT = [
+    "target/staticlib/libabi.a",
+    "target/staticlib/libclient_abi.a",
+    "target/bin/bill",
+    "target/bin/audit_program",
+]
 # What the afternoon has, in this order.
 NEEDED = [
     "make --silent install ",
@@ -39,8 +44,11 @@ NEEDED = [
     "razidkot ask keys.socket export ",
     "razidkot journal show ",
     "kill -TERM $!",
+    "razidkot-audit ",
+    "printf ",
+    "razidkot-audit ",
 ]
-LEAST_STEPS = 48
+LEAST_STEPS = 51
 MARK = "--- the status is"
 # Minutes, for a machine that has other work; the afternoon takes seconds.
 LONGEST = 240

@@ -152,7 +152,7 @@ class Unproved(Commands):
 class Checksums(Commands):
     def setUp(self):
         super().setUp()
-        for name in ["staticlib/libabi.a", "staticlib/libclient_abi.a", "bin/bill"]:
+        for name in ["staticlib/libabi.a", "staticlib/libclient_abi.a", "bin/bill", "bin/audit_program"]:
             file = self.root / "target" / name
             file.parent.mkdir(parents=True, exist_ok=True)
             file.write_text("abc")
@@ -162,8 +162,8 @@ class Checksums(Commands):
         self.on_path("rt", "echo kit 5 logic 09")
         status, out, _ = self.run_script("tests/checksums")
         sum_of_abc = "ba7816bf8f01cfea414140de5dae2223b00361a396177a9cb410ff61f20015ad"
-        files = ["target/staticlib/libabi.a", "target/staticlib/libclient_abi.a", "target/bin/bill"]
-        lines = [f"{sum_of_abc}  {name}" for name in files] + ["checksums: built by kit 5 logic 09"]
+        files = ["staticlib/libabi.a", "staticlib/libclient_abi.a", "bin/bill", "bin/audit_program"]
+        lines = [f"{sum_of_abc}  target/{name}" for name in files] + ["checksums: built by kit 5 logic 09"]
         self.assertEqual((status, out.splitlines()), (0, lines))
 
     def test_another_toolchain_is_said(self):

@@ -40,7 +40,9 @@ fn even(text: &str) -> String {
 }
 
 fn expected_files() -> Vec<String> {
-    let mut files = vec!["share/man/man1/razidkot-bill.1".to_string()];
+    let mut files = ["razidkot-bill", "razidkot-audit"]
+        .map(|name| format!("share/man/man1/{name}.1"))
+        .to_vec();
     files.extend(BUILT.map(|(_, installed)| installed.to_string()));
     files.extend(HEADERS.map(|header| format!("include/{header}")));
     files.extend(["razidkot", "razidkot-client"].map(|name| format!("lib/pkgconfig/{name}.pc")));
@@ -108,6 +110,33 @@ fn the_installed_program_prints_the_samples_bills() {
             .arg(samples.join("servers.list"));
         let expected = read(samples.join(format!("{name}.bill")));
         assert_eq!(printed(&mut bill), expected);
+    }
+}
+
+/// What the rules answer to a sample is accepted, and with a byte changed it is not.
+#[test]
+fn the_installed_auditor_has_the_verdict_and_the_bill() {
+    let scratch = Scratch::new("auditor");
+    install(scratch.path());
+    let samples = repository().join("samples");
+    let file = |name: &str| fs::read(samples.join(name)).expect("a sample");
+    let [roster, list, requests] = ["servers.roster", "servers.list", "day.stream"].map(file);
+    let mut registry = vec![0; reference::REGISTRY_SIZE];
+    reference::load_roster(&roster, &mut registry).expect("a good roster");
+    let outcome = reference::rules::run_with_list(&registry, &list, &requests);
+    let mut responses = outcome.responses.concat();
+    let captured = scratch.path().join("responses");
+    for verdict in ["accepted", "wrong 1 24"] {
+        fs::write(&captured, &responses).expect("a folder");
+        let mut audit = Command::new(scratch.path().join("bin/razidkot-audit"));
+        audit
+            .args(["servers.roster", "servers.list"].map(|name| samples.join(name)))
+            .arg("/dev/null")
+            .arg(samples.join("day.stream"))
+            .arg(&captured);
+        let bill = read(samples.join("day.bill"));
+        assert_eq!(printed(&mut audit), format!("{verdict}\n{bill}"));
+        responses[24] ^= 1;
     }
 }
 
@@ -286,5 +315,5 @@ fn man_shows_every_installed_page_without_a_warning() {
         assert!(printed(&mut man).contains(name), "{file}");
         shown += 1;
     }
-    assert_eq!(shown, 20);
+    assert_eq!(shown, 24);
 }

@@ -7,13 +7,14 @@ use std::path::Path;
 use std::process::Command;
 
 /// Where each file that `rt` writes is installed.
-pub const BUILT: [(&str, &str); 3] = [
+pub const BUILT: [(&str, &str); 4] = [
     ("target/staticlib/libabi.a", "lib/librazidkot.a"),
     (
         "target/staticlib/libclient_abi.a",
         "lib/librazidkot_client.a",
     ),
     ("target/bin/bill", "bin/razidkot-bill"),
+    ("target/bin/audit_program", "bin/razidkot-audit"),
 ];
 
 /// `make` with these words, on what `rt` has built, whatever its age.
