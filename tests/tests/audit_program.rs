@@ -105,11 +105,10 @@ fn a_start_that_is_refused_is_said_in_order() {
     let scratch = Scratch::new("audit-starts");
     for_seeds(60, |random| {
         let mut files = good(random);
-        for file in 0..3 {
+        for file in &mut files[..3] {
             if random.once_in(2) {
                 let length = random.below(9);
-                let bytes = random.bytes(length);
-                files[file].extend(bytes);
+                file.extend(random.bytes(length));
             }
         }
         if random.once_in(3) && !files[2].is_empty() {
