@@ -80,7 +80,7 @@ fn an_export_of_the_reference_has_the_same_field() {
     for_seeds(1_000, |random| {
         let key = Key {
             export_allowed: true,
-            ..generate::key(random, 0)
+            ..generate::importable_key(random, 0)
         };
         let imported = ask(&registry, ask::IMPORT, Some(&name), &import_body(&key));
         assert_eq!(imported.status, ask::SUCCESS);
