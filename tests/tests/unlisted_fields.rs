@@ -137,14 +137,14 @@ fn compare_by_service(random: &mut Random, mixed: &Mixed, schema: Schema) -> boo
     let expected = responses_to(&mixed.plain, schema, &sizes);
     assert_eq!(responses_to(&mixed.undamaged, schema, &sizes), expected);
     let responses = responses_to(&mixed.body, schema, &sizes);
-    if mixed.unreadable_at.is_none() {
+    let Some(at) = mixed.unreadable_at else {
         assert_eq!(responses, expected, "{:02X?}", mixed.body);
         return true;
-    }
+    };
     for (place, _) in opcodes(schema).iter().enumerate() {
         let response = &responses[1 + place];
         assert_eq!(status(response), DESERIALIZING_BODY_FAILED);
-        assert_eq!(response.len(), 26, "no body");
+        assert_eq!(response[26..], number_field(1, at as u64), "the offset");
     }
     false
 }
