@@ -414,13 +414,19 @@ def signing_key():
     return SigningKey("proto", 2_048)
 
 
+@lru_cache(maxsize=None)
+def signature_of(digest):
+    """Made once for each digest, for a signature takes long in Python."""
+    return signing_key().sign(digest)
+
+
 def signature_is_checked(service, chance):
     """Each field is where the service reads it: what is wrong with one of them decides the status."""
     signer = signing_key()
-    digest = chance.randbytes(32)
+    digest = bytes([chance.randrange(64)]) * 32
     key = some_key(chance)
     key.data, key.bits, key.verify_allowed = signer.data(), signer.bits, True
-    asked = VERIFY_REQUEST(name=key.name, hash=digest, signature=signer.sign(digest))
+    asked = VERIFY_REQUEST(name=key.name, hash=digest, signature=signature_of(digest))
     expected = chance.choice(
         [SUCCESS, NOT_PERMITTED, INVALID_ARGUMENT, NOT_SUPPORTED, INVALID_SIGNATURE]
     )
