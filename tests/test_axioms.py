@@ -54,11 +54,11 @@ class Axioms(unittest.TestCase):
 
     def test_the_one_library_that_reads_files_for_programs(self):
         self.crate("wire:", "lib.rt", below("std") + PROVED)
-        self.crate("files: io os wire", "lib.rt", below("io", "libc", "os", "wire") + PROVED)
-        self.crate("bill: io files", "main.rt", below("files", "io", "libc", "wire") + ASSUMING)
+        self.crate("file_input: io os wire", "lib.rt", below("io", "libc", "os", "wire") + PROVED)
+        self.crate("bill: io file_input", "main.rt", below("file_input", "io", "libc", "wire") + ASSUMING)
         self.assertEqual(self.said(), (0, "axioms: none below the 1 library crates\n"))
-        self.crate("abi: files", "lib.rt", below("files", "wire") + PROVED)
-        self.assertIn("abi is over the kit's library files", self.said()[1])
+        self.crate("abi: file_input", "lib.rt", below("file_input", "wire") + PROVED)
+        self.assertIn("abi is over the kit's library file_input", self.said()[1])
 
     def test_an_archive_that_counts_axioms(self):
         self.crate("abi:", "lib.rt", below("std") + ASSUMING)

@@ -1,6 +1,6 @@
 // A journal file read, and its records carried out on the roster's registry.
-use files::read_rest;
-use files::read_some;
+use file_input::read_rest;
+use file_input::read_some;
 use journal::Fault;
 use journal::read::Said;
 use journal::read::read_journal;

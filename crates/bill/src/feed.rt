@@ -1,7 +1,7 @@
 // A captured stream read, and run through the call in chunks.
 use connection::change::open_connection;
 use counters::counting::zero_counters;
-use files::read_some;
+use file_input::read_some;
 use starting::feed::Taken;
 use starting::feed::feed;
 use starting::files::Input;

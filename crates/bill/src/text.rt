@@ -1,8 +1,8 @@
 // What is printed: the bill, or the one line that stands for it.
 use crate::feed::take_stream;
-use files::read_list;
-use files::read_rest;
-use files::read_roster;
+use file_input::read_list;
+use file_input::read_rest;
+use file_input::read_roster;
 use starting::feed::Taken;
 use starting::feed::uncounted;
 use starting::files::File;

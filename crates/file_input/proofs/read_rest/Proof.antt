@@ -1,10 +1,10 @@
--- `files::read_rest` is safe and ends. The measure is the number of turns that are left.
+-- `file_input::read_rest` is safe and ends. The measure is the number of turns that are left.
 use mathlib.Core.Path.{_≡_}
 use native.Mathlib.Omega.{arith}
 use borrow.Author.Needs.{needs}
 use lib.ListN.{length}
-use Rattle.files.proofs.read_rest.Statement.{statement}
-use Rattle.files.proofs.read_rest.Tie as tie
+use Rattle.file_input.proofs.read_rest.Statement.{statement}
+use Rattle.file_input.proofs.read_rest.Tie as tie
 
 abbrev Inv-loop : tie.InvT-loop
 Inv-loop fd buffer₀ turns₀ buffer turns = length buffer ≡ 65536

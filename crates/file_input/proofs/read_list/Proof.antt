@@ -1,8 +1,8 @@
--- `files::read_list` meets its contract.
+-- `file_input::read_list` meets its contract.
 use Rattle.starting.proofs.SourceLaws.{list-missing, list-open}
 use borrow.Author.Needs.{needs}
-use Rattle.files.proofs.read_list.Statement.{statement}
-use Rattle.files.proofs.read_list.Tie as tie
+use Rattle.file_input.proofs.read_list.Statement.{statement}
+use Rattle.file_input.proofs.read_list.Tie as tie
 
 enum-known-list : tie.Need-enum-known-list
 enum-known-list c = search needs

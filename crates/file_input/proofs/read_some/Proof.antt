@@ -1,11 +1,11 @@
--- `files::read_some` meets its contract.
+-- `file_input::read_some` meets its contract.
 use Prim.Native.Nat.{ℕ}
 use mathlib.Core.Path.{subst}
 use Rattle.starting.specs.code.Stream.{ReadWithin}
 use Rattle.starting.proofs.ReadLaws.{input-within}
 use borrow.Author.Needs.{needs}
-use Rattle.files.proofs.read_some.Statement.{statement}
-use Rattle.files.proofs.read_some.Tie as tie
+use Rattle.file_input.proofs.read_some.Statement.{statement}
+use Rattle.file_input.proofs.read_some.Tie as tie
 
 read-requires : tie.Need-read-requires
 read-requires c κs = search needs

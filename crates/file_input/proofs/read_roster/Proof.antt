@@ -1,11 +1,11 @@
--- `files::read_roster` meets its contract.
+-- `file_input::read_roster` meets its contract.
 use Prim.Native.Nat.{ℕ}
 use mathlib.Core.Path.{sym, subst}
 use Rattle.starting.specs.code.Stream.{KeptWithin}
 use Rattle.starting.proofs.SourceLaws.{roster-missing, roster-open}
 use borrow.Author.Needs.{needs}
-use Rattle.files.proofs.read_roster.Statement.{statement}
-use Rattle.files.proofs.read_roster.Tie as tie
+use Rattle.file_input.proofs.read_roster.Statement.{statement}
+use Rattle.file_input.proofs.read_roster.Tie as tie
 
 enum-known-roster : tie.Need-enum-known-roster
 enum-known-roster c = search needs

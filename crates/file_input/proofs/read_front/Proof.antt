@@ -1,4 +1,4 @@
--- `files::read_front` meets its contract.
+-- `file_input::read_front` meets its contract.
 use Prim.Native.Nat.{_+_, _-_, _≤_}
 use mathlib.Core.Path.{_≡_, refl, ap, _∙_}
 use native.Mathlib.Omega.{arith}
@@ -8,8 +8,8 @@ use borrow.Rule.Slice.PartMut.{putMid, same-len-mid}
 use Rattle.wire.proofs.BufferLaws.{lent}
 use Rattle.starting.proofs.ReadLaws.{front-within}
 use Rattle.starting.proofs.FeedLaws.{read-bytes}
-use Rattle.files.proofs.read_front.Statement.{statement}
-use Rattle.files.proofs.read_front.Tie as tie
+use Rattle.file_input.proofs.read_front.Statement.{statement}
+use Rattle.file_input.proofs.read_front.Tie as tie
 
 abbrev Inv-loop : tie.InvT-loop
 Inv-loop fd front₀ size₀ front size = (size ≤ length front) × (length front ≡ length front₀)
