@@ -26,7 +26,9 @@ const KEYS: [(&str, usize); 8] = [
 pub fn rows() -> Vec<Row> {
     let signed = KEYS.map(|(title, each_turn)| (signed(title), each_turn));
     let bare = signed.iter().map(|&(signed, each)| bare(signed, each));
-    let requests = signed.iter().map(|&(signed, each)| requests(signed, each));
+    // Import takes no key of 1,024 bits, and Verify answers 1134 for one from before.
+    let served = signed.iter().filter(|(signed, _)| signed.bits >= 2_048);
+    let requests = served.map(|&(signed, each)| requests(signed, each));
     bare.chain(requests).collect()
 }
 
