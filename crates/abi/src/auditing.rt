@@ -16,7 +16,7 @@ use counters::counting::zero_counters;
 
 // How far an audit is, and the counters of the requests that it took. `wrong` is 0 while no byte is wrong.
 #[repr(C)]
-#[derive(Drop)]
+#[derive(Clone, Copy)]
 pub struct Audit {
     pub number: u64,
     pub size: usize,
@@ -28,7 +28,7 @@ pub struct Audit {
 // What a step says: 0, or the C number of a call that was not taken, or 8 for an ill-formed state; how many bytes of the requests
 // and of the responses it took; and the audit after it.
 #[repr(C)]
-#[derive(Drop)]
+#[derive(Clone, Copy)]
 pub struct Audited {
     pub code: u32,
     pub requests: usize,
@@ -38,7 +38,7 @@ pub struct Audited {
 
 // The verdict: 0 if every response is right, 1 with the first wrong one's number and byte, 8 for an ill-formed state.
 #[repr(C)]
-#[derive(Drop)]
+#[derive(Clone, Copy)]
 pub struct VerdictNumbers {
     pub code: u32,
     pub response: u64,

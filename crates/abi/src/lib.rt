@@ -1,4 +1,6 @@
 // The functions exported to C: an enum comes back as a number, and a slice crosses as pointer and length.
+#![tactic(auto)]
+
 ghost use Rattle.std.specs.Prelude.{◌≡◌};
 ghost use Rattle.roster.specs.Roster.{load_roster};
 ghost use Rattle.connection.specs.Connection.{open_connection};
@@ -23,7 +25,7 @@ pub mod restoring;
 
 // What a call says: 0 if it was taken, else the C number; how many bytes of the chunk it took, and how many it wrote.
 #[repr(C)]
-#[derive(Drop)]
+#[derive(Clone, Copy)]
 pub struct Answer {
     pub code: u32,
     pub taken: usize,
@@ -33,7 +35,7 @@ pub struct Answer {
 
 // What writing a bill says: 0 if it was written, else why not; and how many bytes it has, 0 where there is none.
 #[repr(C)]
-#[derive(Drop)]
+#[derive(Clone, Copy)]
 pub struct Bill {
     pub code: u32,
     pub written: usize,

@@ -11,7 +11,7 @@ use journal::state::begin_journal;
 // What reading says: 0 where the bytes end with a record, 1 to 3 for J1 to J3, 4 within a record, 5 for an ill-formed registry, 6
 // for an ill-formed state; how many bytes of the chunk it took, and how many bytes the kept records take.
 #[repr(C)]
-#[derive(Drop)]
+#[derive(Clone, Copy)]
 pub struct Restored {
     pub code: u32,
     pub taken: usize,

@@ -1,5 +1,7 @@
 // A request answered ("Order of judgement on one request"): `request` answers it by the order's three steps, `response` writes a
 // response.
+#![tactic(auto)]
+
 use judgement::{Asker, Status};
 
 pub mod request;
@@ -7,7 +9,7 @@ mod response;
 
 // A request that was answered: with which status, for whom it counts, and how many bytes were written of the response and of the
 // record.
-#[derive(Drop)]
+#[derive(Clone, Copy)]
 pub struct Answered {
     pub status: Status,
     pub asker: Asker,

@@ -7,7 +7,7 @@ ghost use Rattle.audit.specs.code.Compared.{compared_with};
 use crate::Progress;
 
 // What comparing comes to: how many captured bytes are right, and how far the auditor is now.
-#[derive(Drop)]
+#[derive(Clone, Copy)]
 pub struct Compared {
     pub taken: usize,
     pub progress: Progress,

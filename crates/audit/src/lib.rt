@@ -1,4 +1,6 @@
 // The auditor (document 02, "The auditor"): captured responses compared with those that the call writes for the captured requests.
+#![tactic(auto)]
+
 use counters::Counters;
 use service::Code;
 
@@ -8,7 +10,7 @@ pub mod state;
 pub mod step;
 
 // What is found: every response is the one that the rules give, or the first wrong one's number, from 1, and its byte, from 0.
-#[derive(Drop)]
+#[derive(Clone, Copy)]
 pub enum Verdict {
     Accepted,
     Wrong(u64, usize),
@@ -16,7 +18,7 @@ pub enum Verdict {
 
 // How far the auditor is. The last response that the call wrote has this number and so many bytes; so many of them were compared.
 // Once a byte is wrong, number and place stay at it.
-#[derive(Drop)]
+#[derive(Clone, Copy)]
 pub struct Progress {
     pub number: u64,
     pub size: usize,
@@ -25,14 +27,14 @@ pub struct Progress {
 }
 
 // What a step says: that its state is ill-formed, or what the call says.
-#[derive(Drop)]
+#[derive(Clone, Copy)]
 pub enum StepCode {
     IllFormed,
     Called(Code),
 }
 
 // What a step says, how many bytes of the requests and of the responses it took, and what it leaves.
-#[derive(Drop)]
+#[derive(Clone, Copy)]
 pub struct Stepped {
     pub code: StepCode,
     pub requests: usize,
@@ -42,7 +44,7 @@ pub struct Stepped {
 }
 
 // What is said at the end of both streams: that the state is ill-formed, or the verdict.
-#[derive(Drop)]
+#[derive(Clone, Copy)]
 pub enum Ending {
     Refused,
     Reached(Verdict),

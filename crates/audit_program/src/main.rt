@@ -1,5 +1,7 @@
 // `audit_program ROSTER LIST JOURNAL REQUESTS RESPONSES`: says whether captured responses are those that the rules give to captured
 // requests, and prints the bill of the requests (document 02, "The auditor").
+#![tactic(auto)]
+
 use file_input::open_argument;
 use libc::STDOUT_FILENO;
 use text::{text_buffer, write_text};

@@ -6,7 +6,7 @@ use journal::state::{STATE_SIZE, begin_journal};
 use starting::files::{File, Input, TURNS, is_end};
 
 // What a journal file comes to. A cut end is no fault.
-#[derive(Drop)]
+#[derive(Clone, Copy)]
 pub enum Restored {
     Whole,
     Faulty(Fault),

@@ -17,7 +17,7 @@ const STEPS: u64 = 9223372036854775808;
 
 // What became of the two streams: the verdict, and the counters after the requests. Where one can't be read to its end it is not
 // whole, and there is no verdict.
-#[derive(Drop)]
+#[derive(Clone, Copy)]
 pub struct Audited {
     pub ending: Ending,
     pub counters: Counters,
@@ -25,7 +25,7 @@ pub struct Audited {
 }
 
 // How much of a chunk was read and taken, whether its file may have more, and whether reading it failed.
-#[derive(Drop)]
+#[derive(Clone, Copy)]
 struct Reached {
     at: usize,
     size: usize,

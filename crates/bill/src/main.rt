@@ -1,5 +1,7 @@
 // `bill ROSTER STREAM LIST`: prints the bill of a roster file, a captured stream and the list of keys that we ship (document 01,
 // "The bill"; document 02, "Keys we ship").
+#![tactic(auto)]
+
 use file_input::open_argument;
 use libc::STDOUT_FILENO;
 use starting::memory::bill_buffer;

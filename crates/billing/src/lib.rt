@@ -1,4 +1,6 @@
 // The bill: what counters, registry and connection come to, as text ("The bill").
+#![tactic(auto)]
+
 use crate::text::DIGITS_MOST;
 use judgement::REFUSED_STATUSES;
 use keys::APPLICATION_NAME_MOST;
@@ -37,7 +39,7 @@ pub const BILL_MOST: usize = BILL_SPARE
     + LINES * (APPLICATION_LINE_MOST + SLOTS * KEY_LINE_MOST);
 
 // What writing a bill answers: how many bytes it has, or why there is none.
-#[derive(Drop)]
+#[derive(Clone, Copy)]
 pub enum Billed {
     Written(usize),
     BufferTooSmall,

@@ -15,7 +15,7 @@ use messages::read::{Output, Span, read_list};
 // An output: its number; a version's two; where a body broke; the place, in the state's memory, of data or of a list's
 // entries. What an output doesn't have is 0.
 #[repr(C)]
-#[derive(Drop)]
+#[derive(Clone, Copy)]
 pub struct OutputNumbers {
     pub kind: u32,
     pub major: u32,
@@ -27,7 +27,7 @@ pub struct OutputNumbers {
 
 // What a call says: a number; how many bytes of the chunk it took; a response's status and output, 0 where there is none.
 #[repr(C)]
-#[derive(Drop)]
+#[derive(Clone, Copy)]
 pub struct Answer {
     pub code: u32,
     pub status: u32,

@@ -13,7 +13,7 @@ use client_requests::{Types, WriteRefusal, Written};
 
 // What writing a request says: 0 if it was written, else why not; and how many bytes it has, 0 where there is none.
 #[repr(C)]
-#[derive(Drop)]
+#[derive(Clone, Copy)]
 pub struct Request {
     pub code: u32,
     pub written: usize,

@@ -22,7 +22,7 @@ pub const REQUEST_BUFFER_LEAST: usize = 5120;
 // The longest body of a request, as a size.
 const BODY_MOST: usize = CONTENT_MOST as usize;
 
-#[derive(Drop)]
+#[derive(Clone, Copy)]
 pub enum Judged {
     Legal,
     Refused(WriteRefusal),

@@ -20,14 +20,14 @@ use wire::number::{read_u16, read_u32, read_u64};
 use wire::response::{RESPONSE_HEADER_SIZE, RESPONSE_LEAST, ResponseHeader, read_response};
 
 // The status's number, and the output, whose places are places in the state's memory.
-#[derive(Drop)]
+#[derive(Clone, Copy)]
 pub struct Response {
     pub status: u16,
     pub output: Output,
 }
 
 // What a call says.
-#[derive(Drop)]
+#[derive(Clone, Copy)]
 pub enum Said {
     IllFormed,
     Waiting,
@@ -36,7 +36,7 @@ pub enum Said {
 }
 
 // What a header alone decides.
-#[derive(Drop)]
+#[derive(Clone, Copy)]
 enum HeaderCheck {
     Passed,
     Refused(ReadRefusal),

@@ -10,7 +10,7 @@ use crate::state::{COUNT_AT, append, is_well_formed};
 use wire::number::{least, read_u16};
 
 // What a call says, and how many bytes of the chunk it took.
-#[derive(Drop)]
+#[derive(Clone, Copy)]
 pub struct ReadAnswer {
     pub said: Said,
     pub taken: usize,

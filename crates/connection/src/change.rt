@@ -9,7 +9,7 @@ use wire::bytes::{clear, copy_into};
 use wire::number::bytes_of_u64;
 
 // What opening a connection answers.
-#[derive(Drop)]
+#[derive(Clone, Copy)]
 pub enum Opened {
     Fresh,
     WrongSize,

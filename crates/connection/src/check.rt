@@ -14,7 +14,7 @@ use wire::header::header_length;
 use wire::number::{read_u16, read_u32, read_u64};
 
 // A connection without its bytes: how many it holds, or how many are to go.
-#[derive(Drop)]
+#[derive(Clone, Copy)]
 pub enum State {
     Open(usize),
     Skipping(u64),

@@ -12,7 +12,7 @@ use wire::header::header_length;
 use wire::number::least;
 
 // What is gathered: how many bytes of the chunk, and what those held then begin with.
-#[derive(Drop)]
+#[derive(Clone, Copy)]
 pub struct Gathered {
     pub used: usize,
     pub frame: Frame,

@@ -1,6 +1,8 @@
 // A connection in memory that the caller lends ("Roster, registry, connection, tally"): `check` says whether memory is one
 // and what it is, `change` writes it, `gather` takes on a request's bytes. docs/LAYOUT.md has its bytes, and specs/ defines
 // them.
+#![tactic(auto)]
+
 use stream::frame::{AUTH_MOST, HEADER_MOST};
 use wire::header::CONTENT_MOST;
 

@@ -1,5 +1,7 @@
 // Document 01's tally: counters that the caller keeps and lends, and what a call adds to them ("Roster, registry, connection,
 // tally").
+#![tactic(auto)]
+
 use judgement::{REFUSED_STATUSES, Status};
 use registry::{LINES, Line};
 
@@ -11,7 +13,7 @@ pub mod limit;
 // Bytes taken, bytes of answered requests, bytes dropped; requests served for each application, requests served with auth
 // type 0, requests refused for each status but Success.
 #[repr(C)]
-#[derive(Drop)]
+#[derive(Clone, Copy)]
 pub struct Counters {
     pub taken: u64,
     pub answered: u64,
@@ -22,7 +24,7 @@ pub struct Counters {
 }
 
 // What the request that a call answered counts as, if it answered one: each kind of request has a counter of its own.
-#[derive(Drop)]
+#[derive(Clone, Copy)]
 pub enum Event {
     NoRequest,
     Served(Line),
@@ -31,7 +33,7 @@ pub enum Event {
 }
 
 // What a call adds: the bytes that it took, those of the request that it answered, those that it dropped, and that request.
-#[derive(Drop)]
+#[derive(Clone, Copy)]
 pub struct Increments {
     pub taken: usize,
     pub answered: u64,

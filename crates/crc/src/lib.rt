@@ -1,4 +1,6 @@
 // CRC-32, a byte at a time by a table (document 02, "Surviving a power cut").
+#![tactic(auto)]
+
 ghost use Rattle.std.specs.Prelude.{◌≡◌};
 ghost use Rattle.crc.specs.Crc.{shift_byte, register_after, crc32, table_entries};
 

@@ -1,10 +1,12 @@
 // The fields of a body as up to five values, whatever format it is in: which field numbers are listed, and what was read
 // ("Operations and their fields").
+#![tactic(auto)]
+
 ghost use Rattle.std.specs.Prelude.{◌≡◌};
 ghost use Rattle.fields.specs.code.Fields.{kind_of, with_value, all_absent};
 
 // What a field number stands for in a message.
-#[derive(Drop)]
+#[derive(Clone, Copy)]
 pub enum Kind {
     Bytes,
     Uint32,
@@ -13,7 +15,7 @@ pub enum Kind {
 }
 
 // The kinds of a message's field numbers 1 to 5; no other is listed.
-#[derive(Drop)]
+#[derive(Clone, Copy)]
 pub struct Schema {
     pub k1: Kind,
     pub k2: Kind,
@@ -23,14 +25,14 @@ pub struct Schema {
 }
 
 // A value: of bytes the start and the count in the body, of the other kinds the number.
-#[derive(Drop)]
+#[derive(Clone, Copy)]
 pub struct Value {
     pub start: usize,
     pub len: usize,
     pub number: u32,
 }
 
-#[derive(Drop)]
+#[derive(Clone, Copy)]
 pub struct Values {
     pub f1: Value,
     pub f2: Value,
@@ -40,7 +42,7 @@ pub struct Values {
 }
 
 // A body that was read: its message, or where its first unreadable field's tag starts.
-#[derive(Drop)]
+#[derive(Clone, Copy)]
 pub enum Body {
     Message(Values),
     Unreadable(usize),

@@ -1,5 +1,7 @@
 // Files opened, and read in constant memory, for programs. The one library over the kit's `io` and `os`: its contracts of files and
 // arguments rest on theirs, which nothing proves.
+#![tactic(auto)]
+
 ghost use Rattle.std.specs.Prelude.{◌≡◌, length};
 ghost use Rattle.registry.specs.Registry.{registry_size};
 ghost use Rattle.starting.specs.code.Sources.{RosterRead, ListRead};

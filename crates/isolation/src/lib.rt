@@ -1,1 +1,2 @@
 // No code: `specs/` and `proofs/` say that what an application gets is its own doing.
+#![tactic(auto)]

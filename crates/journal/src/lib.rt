@@ -1,4 +1,6 @@
 // The journal: records of served imports and destroys (document 02, "Surviving a power cut"), written, and read back.
+#![tactic(auto)]
+
 pub mod read;
 pub mod record;
 mod replay;
@@ -6,7 +8,7 @@ pub mod state;
 pub mod write;
 
 // What is wrong with a whole record: J1 to J3, first that applies.
-#[derive(Drop)]
+#[derive(Clone, Copy)]
 pub enum Fault {
     WrongCrc,
     WrongLayout,
@@ -15,7 +17,7 @@ pub enum Fault {
 
 // What is known of a file that is read: the fault's number, 0 for none, the bytes of the whole records, and of the record begun
 // how many bytes there are and the CRC's register after them.
-#[derive(Drop)]
+#[derive(Clone, Copy)]
 pub struct Progress {
     pub fault: u8,
     pub kept: u64,

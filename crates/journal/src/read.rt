@@ -25,7 +25,7 @@ const WRONG_CRC: u8 = 1;
 const WRONG_LAYOUT: u8 = 2;
 
 // What a call says. A border is where a record ends and no other is begun.
-#[derive(Drop)]
+#[derive(Clone, Copy)]
 pub enum Said {
     RegistryIllFormed,
     StateIllFormed,
@@ -35,14 +35,14 @@ pub enum Said {
 }
 
 // What a call says, how many bytes of the chunk it took, and how many bytes the records take that are carried out.
-#[derive(Drop)]
+#[derive(Clone, Copy)]
 pub struct ReadAnswer {
     pub said: Said,
     pub taken: usize,
     pub kept: u64,
 }
 
-#[derive(Drop)]
+#[derive(Clone, Copy)]
 struct Reached {
     progress: Progress,
     taken: usize,

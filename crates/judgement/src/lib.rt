@@ -1,5 +1,7 @@
 // How one request is judged: the order of tests, and what the seven operations come to ("Order of judgement on one request",
 // "Operations and their fields").
+#![tactic(auto)]
+
 use lookup::Place;
 use messages::ask::KeyPlaces;
 use registry::{Line, Slot};
@@ -10,7 +12,7 @@ pub mod signature;
 pub mod statuses;
 
 // A response's status: document 01's table, ascending by number.
-#[derive(Drop)]
+#[derive(Clone, Copy)]
 pub enum Status {
     Success,
     WrongProviderId,
@@ -38,28 +40,28 @@ pub enum Status {
 pub const REFUSED_STATUSES: usize = 19;
 
 // What the tests of a header find.
-#[derive(Drop)]
+#[derive(Clone, Copy)]
 pub enum Checked {
     Passed,
     Refused(Status),
 }
 
 // Who sent a request: nobody that is named (auth type 0), or an application.
-#[derive(Drop)]
+#[derive(Clone, Copy)]
 pub enum Asker {
     Nobody,
     Named(Line),
 }
 
 // What the tests of the auth bytes find.
-#[derive(Drop)]
+#[derive(Clone, Copy)]
 pub enum Auth {
     Refused,
     Accepted(Asker),
 }
 
 // What a response's body is.
-#[derive(Drop)]
+#[derive(Clone, Copy)]
 pub enum Output {
     Nothing,
     Version,
@@ -71,7 +73,7 @@ pub enum Output {
 }
 
 // What becomes of the asker's slots: the definitions' `Change`, the key itself left in the body.
-#[derive(Drop)]
+#[derive(Clone, Copy)]
 pub enum Edit {
     Stays,
     Fills(Slot, KeyPlaces),
@@ -80,7 +82,7 @@ pub enum Edit {
 }
 
 // What an operation comes to.
-#[derive(Drop)]
+#[derive(Clone, Copy)]
 pub struct Decision {
     pub status: Status,
     pub output: Output,

@@ -1,4 +1,6 @@
 // What a name and a key may be ("Operations and their fields"; "Roster, registry, connection, tally").
+#![tactic(auto)]
+
 pub mod bits;
 pub mod data;
 pub mod marks;

@@ -16,7 +16,7 @@ use crate::read::Span;
 use fields::{Body, Kind, Schema, Value, Values};
 
 // A key's parts in the bytes that were read.
-#[derive(Drop)]
+#[derive(Clone, Copy)]
 pub struct KeyPlaces {
     pub name: Span,
     pub bytes: Span,
@@ -26,7 +26,7 @@ pub struct KeyPlaces {
 }
 
 // What a request asks for; or where the first field of its body that can't be read starts.
-#[derive(Drop)]
+#[derive(Clone, Copy)]
 pub enum Asked {
     Ping,
     ListProviders,

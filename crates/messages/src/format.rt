@@ -19,7 +19,7 @@ use protobuf::body::read_body;
 use protobuf::write::{bytes_field_size, write_bytes_field, write_number_field};
 
 // Content types 1 and 2.
-#[derive(Drop)]
+#[derive(Clone, Copy)]
 pub enum BodyFormat {
     Protobuf,
     Tagged,

@@ -1,5 +1,7 @@
 // What each operation asks and answers, as data and as bytes ("Operations and their fields"), for the service and for a
 // client. specs/ defines it, and proofs/ has that what is written is read as itself.
+#![tactic(auto)]
+
 pub mod ask;
 pub mod format;
 pub mod opcodes;

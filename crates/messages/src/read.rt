@@ -23,14 +23,14 @@ use protobuf::varint::{Varint, read_varint};
 use wire::number::read_u32;
 
 // A part of the bytes that were read.
-#[derive(Drop)]
+#[derive(Clone, Copy)]
 pub struct Span {
     pub start: usize,
     pub len: usize,
 }
 
 // A list is a span of packed varints, or of four bytes an entry; `read_list` takes it apart.
-#[derive(Drop)]
+#[derive(Clone, Copy)]
 pub enum Output {
     Nothing,
     Version(u32, u32),
@@ -40,21 +40,21 @@ pub enum Output {
     Offset(u32),
 }
 
-#[derive(Drop)]
+#[derive(Clone, Copy)]
 pub enum OutputRead {
     Read(Output),
     Unreadable,
 }
 
 // A field that is a packed list, or another, and the position behind it.
-#[derive(Drop)]
+#[derive(Clone, Copy)]
 enum ListField {
     At(Span, usize),
     Skipped(usize),
     Unreadable,
 }
 
-#[derive(Drop)]
+#[derive(Clone, Copy)]
 enum ListRead {
     List(Span),
     Unreadable,

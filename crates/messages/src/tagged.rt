@@ -18,14 +18,14 @@ use wire::bytes::copy_into;
 use wire::number::{bytes_of_u32, read_u32};
 
 // The value that bytes stand for.
-#[derive(Drop)]
+#[derive(Clone, Copy)]
 enum Found {
     At(Value),
     Nothing,
 }
 
 // A field, and the position behind it.
-#[derive(Drop)]
+#[derive(Clone, Copy)]
 enum TaggedField {
     At(u64, Value, usize),
     Unreadable,

@@ -5,7 +5,7 @@ ghost use Rattle.protobuf.specs.Field.{number_at, fixed_at, span_at, content_at,
 use crate::varint::{Varint, read_varint};
 
 // One field, with the position behind it. A span is its bytes' start and count.
-#[derive(Drop)]
+#[derive(Clone, Copy)]
 pub enum Field {
     Number {
         number: u64,

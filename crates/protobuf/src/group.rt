@@ -9,7 +9,7 @@ use crate::field::{Field, read_field};
 const DEPTH_MOST: u64 = 16;
 
 // A group that was skipped: the position behind its end tag.
-#[derive(Drop)]
+#[derive(Clone, Copy)]
 pub enum Group {
     Skipped(usize),
     Unreadable,

@@ -8,7 +8,7 @@ use crate::group::{Group, skip_group};
 use fields::{Kind, Schema, Value, Values, kind_of, with_value};
 
 // What a reader does with a field: keep a value under a number and go on, skip it, or refuse the body.
-#[derive(Drop)]
+#[derive(Clone, Copy)]
 pub enum Item {
     Keep(u64, Value, usize),
     Skip(usize),
@@ -16,7 +16,7 @@ pub enum Item {
 }
 
 // Where a reader is after one field: the message so far and the next field's place, or at a field that it refuses.
-#[derive(Drop)]
+#[derive(Clone, Copy)]
 pub enum Step {
     Next(Values, usize),
     Refuse,

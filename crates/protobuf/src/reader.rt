@@ -6,7 +6,7 @@ ghost use Rattle.protobuf.specs.code.Body.{body_at};
 use crate::body::read_fields;
 use fields::{Body, Schema};
 
-#[derive(Drop)]
+#[derive(Clone, Copy)]
 pub struct Reader<'a> {
     pub body: &'a [u8],
     pub at: usize,

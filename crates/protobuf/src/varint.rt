@@ -3,7 +3,7 @@ ghost use Rattle.std.specs.Prelude.{◌≡◌};
 ghost use Rattle.protobuf.specs.Varint.{varint_at};
 
 // A varint that was read, with the position behind it.
-#[derive(Drop)]
+#[derive(Clone, Copy)]
 pub enum Varint {
     Read(u64, usize),
     Unreadable,

@@ -1,4 +1,6 @@
 // The registry of applications and their keys, in lent memory ("Roster, registry, connection, tally").
+#![tactic(auto)]
+
 use keys::{APPLICATION_NAME_MOST, DATA_MOST, KEY_NAME_MOST};
 
 pub mod change;
@@ -40,22 +42,22 @@ pub const LINES: usize = 8;
 pub const REGISTRY_SIZE: usize = LINES * LINE_SIZE;
 
 // The number of an application in the roster: document 01's roster line.
-#[derive(Drop)]
+#[derive(Clone, Copy)]
 pub struct Line(pub usize);
 
 // The number of one of an application's slots.
-#[derive(Drop)]
+#[derive(Clone, Copy)]
 pub struct Slot(pub usize);
 
 // What a search among an application's slots finds.
-#[derive(Drop)]
+#[derive(Clone, Copy)]
 pub enum Found {
     At(Slot),
     Nothing,
 }
 
 // What a search for an application finds.
-#[derive(Drop)]
+#[derive(Clone, Copy)]
 pub enum Application {
     Named(Line),
     Unknown,

@@ -12,7 +12,7 @@ use registry::LINES;
 use wire::bytes::equal;
 
 // Where the names' records begin in a roster file: the first `count` of `starts`.
-#[derive(Drop)]
+#[derive(Clone, Copy)]
 pub struct Names {
     pub count: usize,
     pub starts: [usize; LINES],

@@ -27,7 +27,7 @@ pub fn fault_number(fault: RosterFault) -> u32
 }
 
 // A roster file that was checked: whether it is good, and the names before its first fault.
-#[derive(Drop)]
+#[derive(Clone, Copy)]
 struct Checked {
     loaded: Loaded,
     names: Names,

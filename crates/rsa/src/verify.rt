@@ -10,7 +10,7 @@ use bignum::bytes::read_big_endian;
 use bignum::compare::{equal, is_at_least};
 use rsa_key::key::{PublicKey, are_supported_bits, has_bits, read_key};
 
-#[derive(Drop)]
+#[derive(Clone, Copy)]
 pub enum Outcome {
     ValidSignature,
     InvalidSignature,
@@ -18,7 +18,7 @@ pub enum Outcome {
 }
 
 // The outcome, and how many modular multiplications the power took: 0 where there was none.
-#[derive(Drop)]
+#[derive(Clone, Copy)]
 pub struct Verification {
     pub outcome: Outcome,
     pub multiplications: u32,

@@ -9,7 +9,7 @@ pub const INTEGER: usize = 2;
 pub const SEQUENCE: usize = 0x30;
 
 // Where an element's contents start, and their length.
-#[derive(Drop)]
+#[derive(Clone, Copy)]
 pub enum Element {
     Contents { start: usize, len: usize },
     Unreadable,

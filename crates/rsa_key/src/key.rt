@@ -10,7 +10,7 @@ pub const BITS_LEAST: usize = 1024;
 pub const BITS_MOST: usize = 4096;
 
 // Where the modulus's contents stand, and the exponent.
-#[derive(Drop)]
+#[derive(Clone, Copy)]
 pub enum PublicKey {
     Valid {
         modulus: usize,

@@ -1,4 +1,6 @@
 // The call: refused by C1 to C7 ("When a call is not taken"; document 02, 5 and 8), or served and counted.
+#![tactic(auto)]
+
 use counters::{Counters, Increments};
 
 pub mod call;
@@ -6,7 +8,7 @@ pub mod refusals;
 pub mod serve;
 
 // Why a call is not taken: C1 to C7.
-#[derive(Drop)]
+#[derive(Clone, Copy)]
 pub enum Refusal {
     ResponseBufferTooSmall,
     ChunkTooLong,
@@ -18,14 +20,14 @@ pub enum Refusal {
 }
 
 // What a call says of itself: that it is taken, or why it is not.
-#[derive(Drop)]
+#[derive(Clone, Copy)]
 pub enum Code {
     Taken,
     Refused(Refusal),
 }
 
 // What a call comes to, before it is counted: what it says, how many bytes it wrote, and what it adds to the counters.
-#[derive(Drop)]
+#[derive(Clone, Copy)]
 pub struct Handled {
     pub code: Code,
     pub written: usize,
@@ -34,7 +36,7 @@ pub struct Handled {
 }
 
 // What a call says, and the counters after it.
-#[derive(Drop)]
+#[derive(Clone, Copy)]
 pub struct Outcome {
     pub code: Code,
     pub taken: usize,
@@ -44,7 +46,7 @@ pub struct Outcome {
 }
 
 // What a call says: whether it was taken, how many bytes of the chunk it took, and how many it wrote.
-#[derive(Drop)]
+#[derive(Clone, Copy)]
 pub struct CallAnswer {
     pub code: Code,
     pub taken: usize,

@@ -1,4 +1,6 @@
 // The list of keys that the group hands every site (document 02, "Keys we ship"): `check` is C6, `find` the search by name.
+#![tactic(auto)]
+
 pub mod check;
 pub mod find;
 mod marks;
@@ -8,14 +10,14 @@ mod pairs;
 pub const LISTED_MOST: usize = 64;
 
 // A part of the list: the bytes from `start` on.
-#[derive(Drop)]
+#[derive(Clone, Copy)]
 pub struct Span {
     pub start: usize,
     pub len: usize,
 }
 
 // What a search in the list finds: where the key's data lies.
-#[derive(Drop)]
+#[derive(Clone, Copy)]
 pub enum Listed {
     At(Span),
     Nothing,

@@ -10,7 +10,7 @@ use counters::counting::zero_counters;
 use service::call::{call_by_value, counters_of};
 
 // A stream that was read: the counters after it, and whether it could be read to its end.
-#[derive(Drop)]
+#[derive(Clone, Copy)]
 pub struct Taken {
     pub counters: Counters,
     pub is_whole: bool,

@@ -3,14 +3,14 @@ ghost use Rattle.std.specs.Prelude.{◌≡◌, length};
 ghost use Rattle.starting.specs.code.Reads.{file_of, size_input, input_of, is_end, front_of};
 
 // The file that an argument names, or that it can't be opened.
-#[derive(Drop)]
+#[derive(Clone, Copy)]
 pub enum File {
     Open(i32),
     Missing,
 }
 
 // What reading once gives.
-#[derive(Drop)]
+#[derive(Clone, Copy)]
 pub enum Input {
     Bytes(usize),
     End,
@@ -18,7 +18,7 @@ pub enum Input {
 }
 
 // How many of a file's first bytes were kept; a file that can't be read to its end is unreadable.
-#[derive(Drop)]
+#[derive(Clone, Copy)]
 pub enum Front {
     Kept(usize),
     Unreadable,

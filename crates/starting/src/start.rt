@@ -11,7 +11,7 @@ use roster::{Loaded, RosterFault};
 use shipped::check::is_well_formed;
 
 // What becomes of a roster file, and then of a list of keys.
-#[derive(Drop)]
+#[derive(Clone, Copy)]
 pub enum Source {
     Good,
     Faulty(RosterFault),

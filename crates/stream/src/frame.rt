@@ -13,7 +13,7 @@ pub const HEADER_MOST: u16 = 64;
 pub const AUTH_MOST: u16 = 256;
 
 // What bytes begin with; a skipped request has its header's length and how many bytes are missing.
-#[derive(Drop)]
+#[derive(Clone, Copy)]
 pub enum Frame {
     Unfinished,
     BadStart,
