@@ -1,0 +1,28 @@
+use Prim.Native.Nat.{ℕ, ◌≤◌}
+use native.Mathlib.Omega.{arith}
+use mathlib.Core.Path.{◌≡◌, ap}
+use Rattle.roster.specs.Roster.{fault_number}
+use Rattle.roster.specs.declared.RosterFault.{RosterFault}
+use Rattle.roster.proofs.RosterLaws.{fault_small}
+use Rattle.abi.specs.Numbers.{loaded_number, loaded_with}
+use borrow.Author.Rules.{rules}
+use Rattle.abi.proofs.razidkot_load_roster.Goals as goal
+
+small : (n : ℕ) (fault : RosterFault) → n ≡ fault_number fault → n ≤ 5
+small n fault e = rw e (fault_small fault)
+
+pub overflow_add-result : goal.overflow_add-result
+overflow_add-result c = omega (arith, small _ _ c.fault_number.ensures)
+
+pub returns-in-Good : goal.returns-in-Good
+unfolding loaded_number
+returns-in-Good c =
+    let loaded = c in
+    rw (← ap loaded_with loaded.load_roster.ensures, c.enum_told-1.given.1)
+
+pub returns-in-Faulty : goal.returns-in-Faulty
+unfolding loaded_number
+returns-in-Faulty c =
+    let known = c in
+    let loaded = known in
+    rw (← ap loaded_with loaded.load_roster.ensures, known.fault-1.given.1, c.fault_number.ensures)

@@ -1,0 +1,6 @@
+use mathlib.Core.Path.{refl}
+use borrow.Author.Rules.{rules}
+use Rattle.answer.proofs.request.refuse_as.Goals as goal
+
+pub returns : goal.returns
+returns c = rw (← c.content_type_of.ensures) (refl, refl, c.write_refused-written.ensures, refl)

@@ -1,0 +1,27 @@
+use Rattle.client_abi.specs.Numbers.{output_numbers}
+use borrow.Author.Rules.{rules}
+use Rattle.client_abi.proofs.read.number_output.Goals as goal
+
+pub returns-in-Nothing : goal.returns-in-Nothing
+unfolding output_numbers
+returns-in-Nothing c = rw c.enum_told-1.given.1
+
+pub returns-in-Version : goal.returns-in-Version
+unfolding output_numbers
+returns-in-Version c = rw c.output-1.given.1
+
+pub returns-in-Providers : goal.returns-in-Providers
+unfolding output_numbers
+returns-in-Providers c = rw c.output-in-Providers-1.given.1 c.placed.ensures
+
+pub returns-in-Opcodes : goal.returns-in-Opcodes
+unfolding output_numbers
+returns-in-Opcodes c = rw c.output-in-Opcodes-1.given.1 c.placed-in-Opcodes.ensures
+
+pub returns-in-Data : goal.returns-in-Data
+unfolding output_numbers
+returns-in-Data c = rw c.output-in-Data-1.given.1 c.placed-in-Data.ensures
+
+pub returns-in-Offset : goal.returns-in-Offset
+unfolding output_numbers
+returns-in-Offset c = rw c.output-in-Offset-1.given.1

@@ -1,0 +1,41 @@
+use mathlib.Core.Path.{◌≡◌, sym, ◌∙◌}
+use native.Mathlib.Omega.{arith}
+use borrow.Author.Rules.{rules}
+use Rattle.wire.specs.Choice.{first_of}
+use Rattle.messages.specs.Format.{message_bytes}
+use Rattle.messages.specs.Operations.{Operation, list_providers, operation_body}
+use Rattle.client_requests.specs.Writing.{Sender, sender_of, write_tests}
+use Rattle.client_requests.specs.code.Judged.{judged_as}
+use Rattle.client_requests.specs.declared.judge.Judged.TheVariants.{Legal}
+use Rattle.client_requests.proofs.JudgeLaws.{Passed, passed}
+use Rattle.client_requests.proofs.WritingLaws.{refused_outcome, written_outcome}
+use Rattle.client_requests.proofs.write.write_list_providers.Goals as goal
+
+abbrev start : goal.In-Legal → goal.Start
+start c = c
+
+abbrev operation : goal.Start → Operation
+operation s = list_providers
+
+abbrev sender : goal.Start → Sender
+sender s = sender_of s.args.named s.args.application.now
+
+legal : (c : goal.In-Legal) → judged_as (first_of (write_tests (start c).args.out.now (start c).args.types (sender (start c)) (operation (start c)))) ≡ Legal
+unfolding write_tests
+legal c = sym c.judge_sender.ensures ∙ c.enum_told-1.given.1
+
+passes : (c : goal.In-Legal) → Passed (start c).args.out.now (start c).args.types (sender (start c)) (operation (start c))
+passes c = passed _ _ _ _ (legal c)
+
+pub write_around-length-requires : goal.write_around-length-requires
+write_around-length-requires c = let p = passes c in (omega (arith, p.room), p.legal, omega arith)
+
+pub returns-in-Refused : goal.returns-in-Refused
+unfolding write_tests
+returns-in-Refused c = refused_outcome _ _ _ _ _ _ (sym c.judge_sender.ensures ∙ c.refusal-1.given.1)
+
+pub returns-in-Legal : goal.returns-in-Legal
+unfolding operation_body message_bytes
+returns-in-Legal c =
+    let around = c in
+    written_outcome _ _ _ _ _ (legal around) around.write_around-length.ensures

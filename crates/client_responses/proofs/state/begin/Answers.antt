@@ -1,0 +1,40 @@
+use mathlib.Core.Path.{sym, ap, ◌∙◌}
+use Prim.Native.Nat.{ℕ}
+use borrow.Author.Tests.{eq-eqb, ne_eqb, not-true, not-false}
+use mathlib.Core.List.{[]}
+use native.Mathlib.Omega.{arith}
+use lib.ListN.{length, replicate}
+use Rattle.client_responses.specs.Reading.{Asked}
+use Rattle.client_responses.specs.State.{begin_state}
+use Rattle.client_responses.proofs.StateLaws.{size_there, begun_put}
+use borrow.Author.Rules.{rules}
+use Rattle.client_responses.proofs.state.begin.Goals as goal
+
+pub returns-then-memory-ne-STATE_SIZE : goal.returns-then-memory-ne-STATE_SIZE
+unfolding begin_state
+returns-then-memory-ne-STATE_SIZE c = rw (ne_eqb _ _ c.if-memory-ne-STATE_SIZE.true, begin_state)
+
+pub returns-then-not-is_listed : goal.returns-then-not-is_listed
+unfolding begin_state
+returns-then-not-is_listed c = rw (eq-eqb _ _ c.if-memory-ne-STATE_SIZE.false, sym c.is_listed.ensures ∙ not-true _ c.if-not-is_listed.true, begin_state)
+
+pub returns-then-not-is_content_type : goal.returns-then-not-is_content_type
+unfolding begin_state
+returns-then-not-is_content_type c =
+    let l = c in
+    rw (eq-eqb _ _ l.if-memory-ne-STATE_SIZE.false, sym l.is_listed.ensures ∙ not-false _ l.if-not-is_listed.false, sym c.is_content_type.ensures ∙ not-true _ c.if-not-is_content_type.true, begin_state)
+
+pub returns : goal.returns
+unfolding begin_state
+returns c =
+    let d = c in
+    let h = d in
+    let k = h in
+    let z = k in
+    let t = z in
+    let l = t in
+    let a = l.args in
+    let asked : Asked = record { opcode = a.opcode; session = a.session; accept_type = a.accept-type } in
+    let size = l.if-memory-ne-STATE_SIZE.false in
+    let put = begun_put asked _ _ _ _ _ k.bytes_of_u16-first.ensures h.bytes_of_u64-second.ensures (z.clear.ensures ∙ ap (λ (n : ℕ). replicate n 0) size) k.copy_into.ensures.bytes d.copy_into-2.ensures.bytes in
+    rw (eq-eqb _ _ size, sym l.is_listed.ensures ∙ not-false _ l.if-not-is_listed.false, sym t.is_content_type.ensures ∙ not-false _ t.if-not-is_content_type.false, begin_state, put)

@@ -1,0 +1,14 @@
+use mathlib.Core.Path.{sym, ap, ◌∙◌}
+use mathlib.Core.List.{List}
+use Prim.Native.Nat.{ℕ}
+use lib.ListN.{replicate, set}
+use Rattle.connection.specs.Connection.{connection_bytes}
+use Rattle.connection.proofs.ConnectionLaws.{blank}
+use borrow.Author.Rules.{rules}
+use Rattle.connection.proofs.change.close.Goals as goal
+
+pub returns : goal.returns
+unfolding connection_bytes
+returns c =
+    let k = c in
+    ap (λ (l : List ℕ). set l 0 2) (k.clear.ensures ∙ ap (λ (n : ℕ). replicate n 0) k.requires) ∙ sym (blank 2)

@@ -1,0 +1,13 @@
+use mathlib.Core.Path.{sym, ap, ◌∙◌}
+use Prim.Native.Nat.{ℕ}
+use lib.ListN.{replicate}
+use Rattle.connection.specs.Connection.{connection_bytes}
+use Rattle.connection.proofs.ConnectionLaws.{blank}
+use borrow.Author.Rules.{rules}
+use Rattle.connection.proofs.change.reset.Goals as goal
+
+pub returns : goal.returns
+unfolding connection_bytes
+returns c =
+    let k = c in
+    k.clear.ensures ∙ ap (λ (n : ℕ). replicate n 0) k.requires ∙ sym (blank 0)

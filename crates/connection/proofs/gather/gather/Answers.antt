@@ -1,0 +1,138 @@
+use Prim.Native.Nat.{ℕ, ◌+◌, ◌-◌, ◌<◌}
+use mathlib.Core.Logic.{inl, inr}
+use mathlib.Core.Path.{◌≡◌, sym, ap, subst, ◌∙◌}
+use mathlib.Core.List.{List, [], ◌∷◌}
+use denote.Enum.Declared.{tag_of}
+use types.Run.{OneOf}
+use Rattle.stream.specs.contracts.frame.Frame.{the_type}
+use native.Mathlib.Omega.{arith}
+use lib.ListN.{length}
+use borrow.Author.Rules.{rules}
+use Rattle.stream.specs.Frame.{unfinished, next}
+use Rattle.stream.specs.declared.frame.Frame.{Frame}
+use Rattle.stream.specs.declared.frame.Frame.TheVariants.{Unfinished}
+use Rattle.stream.specs.code.Framed.{frame_of}
+use Rattle.stream.proofs.FramedLaws.{frame_unfinished}
+use Rattle.connection.specs.code.Gather.{held_in}
+use Rattle.connection.proofs.GatherLaws.{Part, part_none, part_holds, part_again, holding_few, holding_size, after_few, after_size, after_in, after_some, gathers}
+use Rattle.connection.proofs.gather.gather.Goals as goal
+
+-- a frame said to be unfinished is one
+told : (s t : List ℕ) (f : Frame) → s ≡ t → f ≡ frame_of (next s) → f ≡ Unfinished → next t ≡ unfinished
+told s t f same e u = ap next (sym same) ∙ frame_unfinished (next s) (sym e ∙ u)
+
+-- one said to be another is not
+not_told : (t : List ℕ) (f : Frame) → f ≡ frame_of (next t) → OneOf (1 ∷ (2 ∷ (3 ∷ []))) (tag_of the_type f) → next t ≡ unfinished → ⊥
+not_told t f e w u = go (subst (OneOf (1 ∷ (2 ∷ (3 ∷ [])))) (ap (tag_of the_type) (e ∙ ap frame_of u)) w)
+  where
+    go : OneOf (1 ∷ (2 ∷ (3 ∷ []))) 0 → ⊥
+    go (inl p) = omega arith
+    go (inr (inl p)) = omega arith
+    go (inr (inr p)) = omega arith
+
+pub loop-used-init : goal.loop-used-init
+loop-used-init c = part_none _ _ _ c.requires
+
+pub overflow_add-before : goal.overflow_add-before
+overflow_add-before c =
+    let s = c in
+    let l = c.loop-used in
+    let m : List ℕ = s.args.memory.now in
+    let chunk : List ℕ = s.args.chunk.now in
+    let h : ℕ = s.args.held in
+    let long = s.requires.long in
+    let few = holding_few l.memory (h + l.used) (part_holds (held_in h m) chunk l.memory h l.used long l.invariant) in
+    search rules
+
+pub fill-used-requires : goal.fill-used-requires
+fill-used-requires c =
+    let s = c in
+    let l = c.loop-used in
+    let m : List ℕ = s.args.memory.now in
+    let chunk : List ℕ = s.args.chunk.now in
+    let h : ℕ = s.args.held in
+    let long = s.requires.long in
+    (part_holds (held_in h m) chunk l.memory h l.used long l.invariant, l.invariant.left)
+
+pub overflow_add-end : goal.overflow_add-end
+overflow_add-end c =
+    let s = c in
+    let l = c.loop-used in
+    let m : List ℕ = s.args.memory.now in
+    let chunk : List ℕ = s.args.chunk.now in
+    let h : ℕ = s.args.held in
+    let long = s.requires.long in
+    let f = c.fill-used in
+    let few = after_few (held_in h m) chunk l.memory h l.used long l.invariant f.new.0 f.result f.ensures in
+    search rules
+
+pub overflow_add-end-in-loop-used : goal.overflow_add-end-in-loop-used
+overflow_add-end-in-loop-used c =
+    let s = c in
+    let l = c.loop-used in
+    let m : List ℕ = s.args.memory.now in
+    let chunk : List ℕ = s.args.chunk.now in
+    let h : ℕ = s.args.held in
+    let long = s.requires.long in
+    let f = c.fill-used in
+    let few = after_few (held_in h m) chunk l.memory h l.used long l.invariant f.new.0 f.result f.ensures in
+    search rules
+
+pub slice_bounds-read_frame-end : goal.slice_bounds-read_frame-end
+slice_bounds-read_frame-end c =
+    let s = c in
+    let l = c.loop-used in
+    let m : List ℕ = s.args.memory.now in
+    let chunk : List ℕ = s.args.chunk.now in
+    let h : ℕ = s.args.held in
+    let long = s.requires.long in
+    let f = c.fill-used in
+    let few = after_few (held_in h m) chunk l.memory h l.used long l.invariant f.new.0 f.result f.ensures in
+    let size = after_size (held_in h m) chunk l.memory h l.used long l.invariant f.new.0 f.result f.ensures in
+    search rules
+
+pub returns-then-used-chunk : goal.returns-then-used-chunk
+returns-then-used-chunk c =
+    let s = c in
+    let l = c.loop-used in
+    let m : List ℕ = s.args.memory.now in
+    let chunk : List ℕ = s.args.chunk.now in
+    let h : ℕ = s.args.held in
+    let long = s.requires.long in
+    let f = c.fill-used in
+    gathers (held_in h m) chunk l.memory h l.used long l.invariant f.new.0 f.result f.ensures c.read_frame-frame.result (c.read_frame-frame.ensures ∙ ap (λ (x : List ℕ). frame_of (next x)) (after_in (held_in h m) chunk l.memory h l.used long l.invariant f.new.0 f.result f.ensures)) (λ _. c.if-used-chunk.true)
+
+pub loop-used-smaller : goal.loop-used-smaller
+loop-used-smaller c =
+    let s = c in
+    let l = c.loop-used in
+    let m : List ℕ = s.args.memory.now in
+    let chunk : List ℕ = s.args.chunk.now in
+    let h : ℕ = s.args.held in
+    let long = s.requires.long in
+    let f = c.fill-used in
+    let left = f.ensures.left in
+    let some = after_some (held_in h m) chunk l.memory h l.used long l.invariant f.new.0 f.result f.ensures (let x : l.used + f.result < length chunk = omega arith in x) in
+    omega arith
+
+pub loop-used-preserved : goal.loop-used-preserved
+loop-used-preserved c =
+    let s = c in
+    let l = c.loop-used in
+    let m : List ℕ = s.args.memory.now in
+    let chunk : List ℕ = s.args.chunk.now in
+    let h : ℕ = s.args.held in
+    let long = s.requires.long in
+    let f = c.fill-used in
+    part_again (held_in h m) chunk l.memory h l.used long l.invariant f.new.0 f.result f.ensures (told _ _ c.read_frame-frame.result (after_in (held_in h m) chunk l.memory h l.used long l.invariant f.new.0 f.result f.ensures) c.read_frame-frame.ensures c.enum_told-1.given.1)
+
+pub returns-in-loop-used : goal.returns-in-loop-used
+returns-in-loop-used c =
+    let s = c in
+    let l = c.loop-used in
+    let m : List ℕ = s.args.memory.now in
+    let chunk : List ℕ = s.args.chunk.now in
+    let h : ℕ = s.args.held in
+    let long = s.requires.long in
+    let f = c.fill-used in
+    gathers (held_in h m) chunk l.memory h l.used long l.invariant f.new.0 f.result f.ensures c.read_frame-frame.result (c.read_frame-frame.ensures ∙ ap (λ (x : List ℕ). frame_of (next x)) (after_in (held_in h m) chunk l.memory h l.used long l.invariant f.new.0 f.result f.ensures)) (λ u. absurd (not_told _ _ (c.read_frame-frame.ensures ∙ ap (λ (x : List ℕ). frame_of (next x)) (after_in (held_in h m) chunk l.memory h l.used long l.invariant f.new.0 f.result f.ensures)) c.in-Unfinished.keys2 u))

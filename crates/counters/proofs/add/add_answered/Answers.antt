@@ -1,0 +1,8 @@
+use mathlib.Core.Path.{refl}
+use borrow.Author.Rules.{rules}
+use Rattle.counters.specs.code.Counted.{answered_after}
+use Rattle.counters.proofs.add.add_answered.Goals as goal
+
+pub returns : goal.returns
+unfolding answered_after
+returns c = refl

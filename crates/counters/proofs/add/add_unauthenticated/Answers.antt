@@ -1,0 +1,31 @@
+use Prim.Native.Nat.{◌≤◌}
+use mathlib.Core.Path.{subst}
+use native.Mathlib.Numerals.{add-one}
+use native.Mathlib.Omega.{arith}
+use borrow.Author.Rules.{rules}
+use Rattle.judgement.specs.Counts.{count_served, count_refused}
+use Rattle.counters.specs.Counters.{counter_most}
+use Rattle.counters.specs.code.Counted.{count_event, unauthenticated_after, LowFor}
+use Rattle.counters.proofs.add.add_unauthenticated.Goals as goal
+
+pub overflow_add-counter : goal.overflow_add-counter
+overflow_add-counter c =
+    let s = c in
+    let low : s.args.counter.now ≤ counter_most = subst (LowFor s.args.counter.now) c.enum_told-1.given.1 s.requires in
+    omega arith
+
+pub returns-in-ServedUnauthenticated : goal.returns-in-ServedUnauthenticated
+unfolding unauthenticated_after count_event count_served
+returns-in-ServedUnauthenticated c = rw (c.enum_told-1.given.1, add-one)
+
+pub returns-in-NoRequest : goal.returns-in-NoRequest
+unfolding unauthenticated_after count_event
+returns-in-NoRequest c = rw c.enum_told-in-NoRequest-1.given.1
+
+pub returns-in-Served : goal.returns-in-Served
+unfolding unauthenticated_after count_event count_served
+returns-in-Served c = rw c.enum_told-in-Served-1.given.1
+
+pub returns-in-Refused : goal.returns-in-Refused
+unfolding unauthenticated_after count_event count_refused
+returns-in-Refused c = rw c.enum_told-in-Refused-1.given.1

@@ -1,0 +1,46 @@
+use Prim.Native.Nat.{◌+◌, ◌-◌, ◌≤◌}
+use mathlib.Core.Path.{◌≡◌, refl, ap, ◌∙◌}
+use native.Mathlib.Omega.{arith}
+use borrow.Author.Rules.{rules}
+use lib.ListN.{length, length-drop}
+use borrow.Rule.Slice.PartMut.{put_mid, same_len_mid}
+use Rattle.wire.proofs.BufferLaws.{lent}
+use Rattle.starting.proofs.ReadLaws.{front_within}
+use Rattle.starting.proofs.FeedLaws.{read_bytes}
+use Rattle.file_input.proofs.read_front.Goals as goal
+
+pub loop-size-init : goal.loop-size-init
+loop-size-init c = (omega arith, refl)
+
+-- a byte at least was read, and no more than there is room for
+fits : (c : goal.In-Bytes)
+    → (let l = c.loop-size in (1 ≤ c.input-1.given.0.0) × (l.size + c.input-1.given.0.0 ≤ length l.front))
+fits c =
+    let l = c.loop-size in
+    let (some, most) = read_bytes c.read_some-input.ensures c.input-1.given.1 in
+    (some, omega (arith, most, ap length (lent l.size l.front), length-drop l.size l.front))
+
+-- what is lent on for reading keeps its length
+long : (c : goal.In-Bytes)
+    → (let l = c.loop-size in
+    length (put_mid l.size (length l.front - l.size) l.front c.read_some-input.new.1.0) ≡ length l.front)
+long c = let l = c.loop-size in same_len_mid l.size (length l.front - l.size) l.front c.read_some-input.new.1.0 c.read_some-input.auto.1.0
+
+pub overflow_add-size : goal.overflow_add-size
+overflow_add-size c = omega (arith, (fits c).1)
+
+pub loop-size-smaller : goal.loop-size-smaller
+loop-size-smaller c = omega (arith, long c, (fits c).0, (fits c).1)
+
+pub loop-size-preserved : goal.loop-size-preserved
+loop-size-preserved c = (omega (arith, long c, (fits c).1), long c ∙ c.loop-size.invariant.1)
+
+pub returns-in_default : goal.returns-in_default
+returns-in_default c =
+    let l = c.loop-size in
+    front_within _ l.size _ _ (omega (arith, l.invariant.0, l.invariant.1)) c.front_of.ensures
+
+pub returns : goal.returns
+returns c =
+    let l = c.loop-size in
+    front_within _ l.size _ _ (omega (arith, l.invariant.0, l.invariant.1)) c.front_of-2.ensures

@@ -1,0 +1,13 @@
+use Rattle.journal.proofs.StepLaws.{ended_fault, ended_most}
+use borrow.Author.Rules.{rules}
+use Rattle.journal.proofs.read.has_ended.Goals as goal
+
+pub returns-then-p-ne0 : goal.returns-then-p-ne0
+returns-then-p-ne0 c =
+    let p = c.args.p in
+    ended_fault p.fault p.kept p.count c.if-p-ne0.true
+
+pub returns : goal.returns
+returns c =
+    let p = c.args.p in
+    ended_most p.fault p.kept p.count c.if-p-ne0.false

@@ -1,0 +1,34 @@
+use mathlib.Core.Path.{sym, ◌∙◌}
+use mathlib.Core.Bool.{false}
+use mathlib.Core.List.{[]}
+use borrow.Author.Rules.{rules}
+use borrow.Author.Tests.{not-true, not-false}
+use Rattle.registry.specs.code.Check.{key_from}
+use Rattle.judgement.specs.declared.Status.TheVariants.{PsaErrorNotPermitted, PsaErrorInvalidArgument, PsaErrorNotSupported}
+use Rattle.judgement.proofs.DecidedLaws.{refusal, not_verifying, bad_hash, bad_bits, verifying}
+use Rattle.judgement.proofs.signature.verify_with.Goals as goal
+
+pub returns-then-not-allowed : goal.returns-then-not-allowed
+returns-then-not-allowed c slots list body = rw c.refused.ensures (refusal slots list body PsaErrorNotPermitted (not_verifying _ _ _ (not-true _ c.if-not-allowed.true)))
+
+pub returns-then-hash-ne-HASH_SIZE : goal.returns-then-hash-ne-HASH_SIZE
+returns-then-hash-ne-HASH_SIZE c slots list body =
+    rw c.refused-then-hash-ne-HASH_SIZE.ensures
+    (refusal slots list body PsaErrorInvalidArgument (bad_hash _ _ _ (not-false _ c.if-not-allowed.false) c.if-hash-ne-HASH_SIZE.true))
+
+pub returns-then-not-are_import_bits : goal.returns-then-not-are_import_bits
+returns-then-not-are_import_bits c slots list body =
+    let b = c in
+    let e = b in
+    rw c.refused-then-not-are_import_bits.ensures
+    (refusal slots list body PsaErrorNotSupported
+    (bad_bits _ _ _ (not-false _ e.if-not-allowed.false) e.if-hash-ne-HASH_SIZE.false (sym b.are_import_bits.ensures ∙ not-true _ c.if-not-are_import_bits.true)))
+
+pub returns : goal.returns
+returns c slots list body =
+    let l = c in
+    let e = l in
+    let s = e in
+    let key = key_from [] s.args.key.now s.args.bits false s.args.allowed in
+    rw (verifying s.args.hash.now s.args.signature.now key (not-false _ e.if-not-allowed.false) e.if-hash-ne-HASH_SIZE.false (sym l.are_import_bits.ensures ∙ not-false _ l.if-not-are_import_bits.false), ← c.verify-verification.ensures)
+    (c.judge_outcome.ensures slots list body)

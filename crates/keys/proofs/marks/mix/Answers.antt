@@ -1,0 +1,8 @@
+use mathlib.Core.Path.{refl}
+use borrow.Author.Rules.{rules}
+use Rattle.keys.specs.code.Marks.{mixed}
+use Rattle.keys.proofs.marks.mix.Goals as goal
+
+pub returns : goal.returns
+unfolding mixed
+returns c = refl

@@ -1,0 +1,13 @@
+use native.Mathlib.Omega.{arith}
+use Rattle.messages.proofs.WriteLaws.{bytes_short, list_field}
+use Rattle.messages.proofs.TaggedWriteLaws.{tagged_list_short}
+use borrow.Author.Rules.{rules}
+use Rattle.messages.proofs.format.write_list.Goals as goal
+
+pub returns-in-Protobuf : goal.returns-in-Protobuf
+returns-in-Protobuf c =
+    let w = c.write_bytes_field.ensures in
+    rw (c.enum_told-1.given.1, list_field _ _ c.requires.0) (w, omega (arith, bytes_short _ _ w))
+
+pub returns-in-Tagged : goal.returns-in-Tagged
+returns-in-Tagged c = let w = c.write_tagged_list.ensures in rw c.enum_told-in-Tagged-1.given.1 (w, omega (arith, tagged_list_short _ _ w))

@@ -1,0 +1,11 @@
+use native.Mathlib.Omega.{arith}
+use Rattle.messages.proofs.WriteLaws.{number_short}
+use Rattle.messages.proofs.TaggedWriteLaws.{tagged_number_short}
+use borrow.Author.Rules.{rules}
+use Rattle.messages.proofs.format.write_number.Goals as goal
+
+pub returns-in-Protobuf : goal.returns-in-Protobuf
+returns-in-Protobuf c = let w = c.write_number_field.ensures in rw c.enum_told-1.given.1 (w, number_short _ _ w)
+
+pub returns-in-Tagged : goal.returns-in-Tagged
+returns-in-Tagged c = let w = c.write_tagged_number.ensures in rw c.enum_told-in-Tagged-1.given.1 (w, omega (arith, tagged_number_short _ c.args.value w))

@@ -1,0 +1,6 @@
+use Rattle.messages.proofs.WriteLaws.{offset_body}
+use borrow.Author.Rules.{rules}
+use Rattle.messages.proofs.write.write_offset_body.Goals as goal
+
+pub returns : goal.returns
+returns c = rw offset_body c.write_number.ensures.0

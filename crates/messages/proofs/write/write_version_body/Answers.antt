@@ -1,0 +1,10 @@
+use Rattle.wire.proofs.BufferLaws.{wrote_on}
+use Rattle.messages.proofs.WriteLaws.{version_body}
+use borrow.Author.Rules.{rules}
+use Rattle.messages.proofs.write.write_version_body.Goals as goal
+
+pub returns : goal.returns
+returns c =
+    let second = c in
+    let first = second in
+    rw version_body (wrote_on first.write_number-first.ensures.0 second.write_number-second.ensures.0)

@@ -1,0 +1,15 @@
+use Prim.Native.Nat.{◌-◌}
+use mathlib.Core.Path.{◌≡◌, sym, ◌∙◌}
+use native.Mathlib.Omega.{arith}
+use borrow.Author.Rules.{rules}
+use lib.ListN.{length}
+use Rattle.fields.specs.code.Fields.{all_absent}
+use Rattle.protobuf.specs.code.Body.{body_at}
+use Rattle.protobuf.proofs.BodyLaws as laws
+use Rattle.protobuf.proofs.body.read_fields.Given as goal
+
+abbrev pub invariant-loop-at : goal.invariant-loop-at
+invariant-loop-at l = body_at l.k l.s l.at l.m ≡ body_at l.k l.s l.start all_absent
+
+abbrev pub decreases-loop-at : goal.decreases-loop-at
+decreases-loop-at l = length l.s - l.at

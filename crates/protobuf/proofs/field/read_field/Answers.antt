@@ -1,0 +1,33 @@
+use Rattle.protobuf.specs.Field.{field_at}
+use Prim.Native.Nat.{◌≤◌, ◌<◌, ◌^◌}
+use borrow.Author.Tests.{lt-ltb, le-ltb, eq-eqb, ne_eqb}
+use native.Mathlib.Omega.{arith}
+use mathlib.Core.Path.{sym, ◌∙◌}
+use borrow.Author.Rules.{rules}
+use Rattle.protobuf.proofs.field.read_field.Goals as goal
+
+-- src/lib.rt:169:9
+pub returns-in_default : goal.returns-in_default
+unfolding field_at
+returns-in_default c = rw (sym c.read_varint.ensures ∙ c.enum_told-1.given.1)
+
+-- src/lib.rt:172:9
+pub returns-then-tag-gt4294967295 : goal.returns-then-tag-gt4294967295
+unfolding field_at
+returns-then-tag-gt4294967295 c =
+    let big : 2 ^ 32 ≤ c.tag-1.given.0.0 = omega arith in
+    rw (sym c.read_varint.ensures ∙ c.tag-1.given.1, le-ltb _ _ big)
+
+-- src/lib.rt:176:9
+pub returns-then-number-eq0 : goal.returns-then-number-eq0
+unfolding field_at
+returns-then-number-eq0 c =
+    let small : c.tag-1.given.0.0 < 2 ^ 32 = omega arith in
+    rw (sym c.read_varint.ensures ∙ c.tag-1.given.1, lt-ltb _ _ small, eq-eqb _ _ c.if-number-eq0.true)
+
+-- src/lib.rt:165:1
+pub returns : goal.returns
+unfolding field_at
+returns c =
+    let small : c.tag-1.given.0.0 < 2 ^ 32 = omega arith in
+    rw (sym c.read_varint.ensures ∙ c.tag-1.given.1, lt-ltb _ _ small, ne_eqb _ _ c.if-number-eq0.false) c.read_content.ensures

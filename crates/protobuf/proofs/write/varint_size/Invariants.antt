@@ -1,0 +1,9 @@
+use native.Mathlib.Omega.{arith}
+use Rattle.protobuf.proofs.WrittenLaws.{Counted, counted_none, counted_more, counted_all}
+use Rattle.protobuf.proofs.write.varint_size.Given as goal
+
+abbrev pub invariant-loop-rest : goal.invariant-loop-rest
+invariant-loop-rest l = Counted l.n l.rest l.k
+
+abbrev pub decreases-loop-rest : goal.decreases-loop-rest
+decreases-loop-rest l = l.rest

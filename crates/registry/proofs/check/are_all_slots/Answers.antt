@@ -1,0 +1,30 @@
+use Rattle.wire.specs.Lists.{all, is_zero, blocks}
+use Rattle.wire.proofs.BufferLaws.{lent}
+use Rattle.registry.specs.Slots.{slot_size, well_formed_slot}
+use Rattle.registry.specs.Registry.{line_head}
+use Rattle.registry.specs.WellFormed.{slots_well_formed}
+use Rattle.registry.proofs.FreeLaws.{slots_free_from}
+use mathlib.Core.Path.{◌≡◌, sym, ap, ◌∙◌}
+use mathlib.Core.Bool.{◌&&◌}
+use Prim.Native.Nat.{◌+◌, ◌*◌}
+use borrow.Author.Rules.{rules}
+use borrow.Author.Tests.{not-true, not-false}
+use lib.ListN.{drop}
+use Rattle.registry.proofs.check.are_all_slots.Goals as goal
+
+-- the slots are the first ones and the part behind them
+apart : (c : goal.Start)
+    → (let line = c.args.line.now in
+    slots_well_formed line ≡ all well_formed_slot (blocks c.args.n slot_size (drop line_head line)) && all is_zero (drop (line_head + c.args.n * slot_size) line))
+apart c = slots_free_from c.args.line.now c.args.n c.requires.0 c.requires.1 c.requires.2
+
+pub returns-then-not-are_slots : goal.returns-then-not-are_slots
+returns-then-not-are_slots c = sym (apart c ∙ rw (sym c.are_slots.ensures ∙ not-true _ c.if-not-are_slots.true))
+
+pub returns : goal.returns
+returns c =
+    let e = c in
+    let s = e in
+    c.all_zero_long.ensures
+    ∙ ap (all is_zero) (lent (line_head + s.args.n * slot_size) s.args.line.now)
+    ∙ sym (apart s ∙ rw (sym e.are_slots.ensures ∙ not-false _ e.if-not-are_slots.false))

@@ -1,0 +1,27 @@
+use Prim.Native.Nat.{ℕ, ◌+◌, ◌≤◌}
+use mathlib.Core.Path.{sym, ap, ◌∙◌}
+use native.Mathlib.Omega.{arith}
+use lib.ListN.{length}
+use Rattle.wire.specs.Numbers.{field}
+use Rattle.registry.specs.Slots.{bits_at, slot_size}
+use Rattle.registry.specs.Registry.{place}
+use Rattle.registry.proofs.KeyLaws.{bits_there}
+use Rattle.registry.proofs.WellFormedLaws.{good_of}
+use borrow.Author.Rules.{rules}
+use Rattle.registry.proofs.key.key_bits.Goals as goal
+
+abbrev at : goal.Start → ℕ
+at c = place c.args.line c.args.slot
+
+room : (c : goal.Start) → at c + slot_size ≤ length c.args.registry.now
+room c = omega (arith, (good_of c.args.registry.now c.requires.0).size, c.requires.1, c.requires.2)
+
+pub size_at-requires : goal.size_at-requires
+size_at-requires c = omega (arith, c.slot_at-a.ensures, room c)
+
+pub returns : goal.returns
+returns c =
+    let s = c in
+    c.size_at.ensures.0
+    ∙ ap (λ (k : ℕ). field (k + bits_at) 2 s.args.registry.now) c.slot_at-a.ensures
+    ∙ sym (bits_there s.args.registry.now s.requires.0 s.args.line s.requires.1 s.args.slot.0 s.requires.2 (room s))

@@ -1,0 +1,22 @@
+use Prim.Native.Nat.{ℕ, ◌*◌, ◌≤◌}
+use mathlib.Core.Path.{◌≡◌, sym, ap, ◌∙◌}
+use mathlib.Core.List.{List}
+use native.Mathlib.Omega.{arith}
+use lib.ListN.{length, take, take-append-drop}
+use lib.Seq.{length-take-le}
+use Rattle.wire.specs.Lists.{padded, over}
+use Rattle.wire.proofs.BufferLaws.{zeros_on}
+use Rattle.registry.specs.Registry.{line_size}
+use borrow.Author.Rules.{rules}
+use Rattle.registry.proofs.lines.clear_lines.Goals as goal
+
+pub returns : goal.returns
+returns c =
+    let s = c in
+    let r : List ℕ = s.args.registry.now in
+    let at : ℕ = s.args.n * line_size in
+    let within : at ≤ length r = omega (arith, s.requires.0, s.requires.1) in
+    let long : length (take at r) ≡ at = length-take-le at r within in
+    let whole : r ≡ over (take at r) r = rw long (sym (take-append-drop at r)) in
+    zeros_on (take at r) r r c.clear.new.0 at (sym long) (omega arith) whole c.clear.ensures
+    ∙ ap (λ (n : ℕ). padded n (take at r)) s.requires.0

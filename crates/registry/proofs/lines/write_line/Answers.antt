@@ -1,0 +1,18 @@
+use Prim.Native.Nat.{ℕ, ◌*◌}
+use mathlib.Core.Path.{ap, ◌∙◌}
+use mathlib.Core.List.{List}
+use lib.ListN.{length}
+use Rattle.wire.specs.Lists.{put}
+use Rattle.wire.proofs.BufferLaws.{put_part}
+use Rattle.registry.specs.Registry.{line_size}
+use Rattle.registry.proofs.LineLaws.{line_long}
+use borrow.Author.Rules.{rules}
+use Rattle.registry.proofs.lines.write_line.Goals as goal
+
+pub returns : goal.returns
+returns c =
+    let w = c.write_keyless in
+    let s = c in
+    let r : List ℕ = s.args.registry.now in
+    let at : ℕ = s.args.line.0 * line_size in
+    put_part r w.new.0 at line_size (ap length w.ensures ∙ line_long s.args.name.now s.requires.2) ∙ ap (put r at) w.ensures

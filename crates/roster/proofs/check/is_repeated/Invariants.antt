@@ -1,0 +1,19 @@
+use Prim.Native.Nat.{ℕ, ◌-◌, ◌≤◌, ◌<◌}
+use mathlib.Core.Path.{◌≡◌, refl, sym, ap, ◌∙◌}
+use mathlib.Core.Bool.{Bool, not}
+use mathlib.Core.List.{List, []}
+use native.Mathlib.Omega.{arith}
+use borrow.Author.Rules.{rules}
+use lib.ListN.{length, drop, get_or}
+use Rattle.wire.specs.Lists.{same}
+use Rattle.wire.proofs.ListLaws.{all_pass, all_fail, all_end}
+use Rattle.keys.specs.Names.{is_new}
+use Rattle.roster.specs.code.Check.{names_at}
+use Rattle.roster.proofs.LoadLaws.{names_many}
+use Rattle.roster.proofs.check.is_repeated.Given as goal
+
+abbrev pub invariant-loop-i : goal.invariant-loop-i
+invariant-loop-i l = (l.i ≤ l.names.count) × (is_new l.name (names_at l.file l.names) ≡ is_new l.name (drop l.i (names_at l.file l.names)))
+
+abbrev pub decreases-loop-i : goal.decreases-loop-i
+decreases-loop-i l = l.names.count - l.i

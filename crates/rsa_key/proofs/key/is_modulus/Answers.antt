@@ -1,0 +1,29 @@
+use mathlib.Core.Path.{◌≡◌, sym, ap, ◌∙◌}
+use mathlib.Core.Bool.{true}
+use Prim.Native.Nat.{ℕ, ◌%◌}
+use native.Mathlib.Omega.{arith}
+use borrow.Author.Rules.{rules}
+use borrow.Author.Tests.{not-true, not-false}
+use lib.Dec.{eqb}
+use Rattle.rsa_key.specs.Key.{unsigned}
+use Rattle.rsa_key.proofs.KeyLaws as law
+use Rattle.rsa_key.proofs.IntegerLaws.{some}
+use Rattle.rsa_key.proofs.key.is_modulus.Goals as goal
+
+pub returns-then-not-is_unsigned : goal.returns-then-not-is_unsigned
+returns-then-not-is_unsigned c =
+    let a = c.args in
+    law.not_unsigned a.s.now a.start a.len (sym c.is_unsigned.ensures ∙ not-true c.is_unsigned.result c.if-not-is_unsigned.true)
+
+-- an INTEGER has a byte
+pub overflow_sub-start : goal.overflow_sub-start
+overflow_sub-start c =
+    let s = c in
+    let u : unsigned s.args.s.now s.args.start s.args.len ≡ true = sym c.is_unsigned.ensures ∙ not-false c.is_unsigned.result c.if-not-is_unsigned.false in
+    omega (arith, some s.args.s.now s.args.start s.args.len (λ i. (c.shared_slice_known-1.given i).fits) s.requires.0 u)
+
+pub returns : goal.returns
+returns c =
+    let s = c in
+    let u : unsigned s.args.s.now s.args.start s.args.len ≡ true = sym c.is_unsigned.ensures ∙ not-false c.is_unsigned.result c.if-not-is_unsigned.false in
+    ap (λ (n : ℕ). eqb (n % 2) 1) c.byte_at.ensures.0 ∙ law.by_last s.args.s.now s.args.start s.args.len u (λ i. (c.shared_slice_known-1.given i).fits) s.requires.0

@@ -1,0 +1,5 @@
+use borrow.Author.Rules.{rules}
+use Rattle.service.proofs.serve.finish.Goals as goal
+
+pub returns : goal.returns
+returns c = rw c.event_of.ensures

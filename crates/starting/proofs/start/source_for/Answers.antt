@@ -1,0 +1,12 @@
+use mathlib.Core.Path.{sym, ap}
+use Rattle.starting.specs.code.Sources.{source_for}
+use borrow.Author.Rules.{rules}
+use Rattle.starting.proofs.start.source_for.Goals as goal
+
+pub returns-in-Good : goal.returns-in-Good
+unfolding source_for
+returns-in-Good c = sym (ap source_for c.enum_told-1.given.1)
+
+pub returns-in-Faulty : goal.returns-in-Faulty
+unfolding source_for
+returns-in-Faulty c = sym (ap source_for c.loaded-1.given.1)

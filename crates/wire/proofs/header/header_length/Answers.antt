@@ -1,0 +1,6 @@
+use native.Mathlib.Omega.{arith}
+use borrow.Author.Rules.{rules}
+use Rattle.wire.proofs.header.header_length.Goals as goal
+
+pub returns : goal.returns
+returns c = omega (arith, c.read_u16.ensures)
