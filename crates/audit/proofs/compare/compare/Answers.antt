@@ -2,9 +2,10 @@ use native.Mathlib.Omega.{arith}
 use borrow.Author.Rules.{rules}
 use Rattle.audit.proofs.StepLaws.{Good, good, within, compared_is}
 use Rattle.audit.proofs.compare.compare.Goals as goal
+use Rattle.audit.proofs.compare.compare.Goals.{After-shared_slice_known-2-1}
 
-fine : (c : goal.After-shared_slice_known-2-1) → (let a = c.args in Good a.p a.pending.now)
-fine c = let start = c in good start.args.p start.args.pending.now start.requires
+fine : (c : After-shared_slice_known-2-1) → (let a = c.args in Good a.p a.pending.now)
+fine c = good c.args.p c.args.pending.now c.requires
 
 pub slice_bounds-left-count : goal.slice_bounds-left-count
 slice_bounds-left-count c = (fine c).placed
@@ -17,13 +18,11 @@ slice_bounds-left-end c = (fine c).held
 
 pub overflow_add-progress : goal.overflow_add-progress
 overflow_add-progress c =
-    let counted = c in
-    let known = counted in
-    let a = known.args in
-    omega (arith, within a.p a.pending.now (fine known) a.captured.now counted.count_alike-n.result counted.count_alike-n.ensures)
+    let w = (goal.at.overflow_add-progress c).After-shared_slice_known-2-1 in
+    let a = c.args in
+    omega (arith, within a.p a.pending.now (fine w) a.captured.now c.count_alike-n.result c.count_alike-n.ensures)
 
 pub returns : goal.returns
 returns c =
-    let counted = c in
-    let a = counted.args in
-    compared_is a.p a.pending.now a.captured.now a.is_last counted.count_alike-n.result c.is_found-is_wrong.result counted.count_alike-n.ensures c.is_found-is_wrong.ensures
+    let a = c.args in
+    compared_is a.p a.pending.now a.captured.now a.is_last c.count_alike-n.result c.is_found-is_wrong.result c.count_alike-n.ensures c.is_found-is_wrong.ensures

@@ -10,8 +10,8 @@ unfolding end_outcome
 returns-then-not-is_well_formed c = rw (← c.is_well_formed.ensures, c.if-not-is_well_formed.true)
 
 pub judge_rest-requires : goal.judge_rest-requires
-judge_rest-requires c = let wf = c in sym wf.is_well_formed.ensures ∙ not-false wf.is_well_formed.result c.if-not-is_well_formed.false
+judge_rest-requires c = sym c.is_well_formed.ensures ∙ not-false c.is_well_formed.result c.if-not-is_well_formed.false
 
 pub returns : goal.returns
 unfolding end_outcome
-returns c = let else = c in rw (← else.is_well_formed.ensures, else.if-not-is_well_formed.false) (ap Reached c.judge_rest.ensures)
+returns c = rw (← c.is_well_formed.ensures, c.if-not-is_well_formed.false) (ap Reached c.judge_rest.ensures)

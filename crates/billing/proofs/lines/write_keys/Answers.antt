@@ -11,54 +11,50 @@ use Rattle.billing.specs.Outcome.{key_line_most}
 use Rattle.billing.proofs.PlacedLaws.{Leaves, leaves_all, leaves_rest, leaves_none}
 use Rattle.billing.proofs.LineLaws.{slots_from, keys_from, keys_end, keys_none, keys_next}
 use Rattle.billing.proofs.lines.write_keys.Goals as goal
+use Rattle.billing.proofs.lines.write_keys.Goals.{After-line_name, At-loop-i}
 
-good : (l : goal.At-loop-i) → well_formed_registry l.args.registry.now ≡ true
+good : (l : At-loop-i) → well_formed_registry l.args.registry.now ≡ true
 good l = l.requires.0
 
-size : (l : goal.At-loop-i) → length l.args.registry.now ≡ registry_size
+size : (l : At-loop-i) → length l.args.registry.now ≡ registry_size
 size l = (good_of _ (good l)).size
 
-abbrev at_loop : goal.After-line_name → goal.At-loop-i
-at_loop w = w
 
-below : (w : goal.After-line_name) → (at_loop w).loop.i < line_count
+below : (w : After-line_name) → w.loop-i.i < line_count
 below w = omega arith
 
 pub loop-i-init : goal.loop-i-init
 loop-i-init c = let a = c.args in (leaves_all _ a.out.now a.at (omega arith), omega arith, omega arith)
 
 pub line_name-requires : goal.line_name-requires
-line_name-requires c = (size c, omega arith)
+line_name-requires c =
+    let w = (goal.at.line_name-requires c).At-loop-i in
+    (size w, omega arith)
 
 pub returns-then-line_name-eq0 : goal.returns-then-line_name-eq0
 returns-then-line_name-eq0 c =
-    let w = c in
-    let l = at_loop w in
-    let a = l.before.before.before.args in
-    let none = keys_none a.registry.now l.loop.i (below w) (sym (ap length w.line_name.ensures) ∙ c.if-line_name-eq0.true) in
-    (leaves_none (rw none at l.loop.inv.0), omega arith)
+    let w = (goal.at.returns-then-line_name-eq0 c).After-line_name in
+    let a = c.args in
+    let none = keys_none a.registry.now c.loop-i.i (below w) (sym (ap length c.line_name.ensures) ∙ c.if-line_name-eq0.true) in
+    (leaves_none (rw none at c.loop-i.inv.0), omega arith)
 
 pub write_line_keys-end-requires : goal.write_line_keys-end-requires
 write_line_keys-end-requires c =
-    let w = c in
-    let l = at_loop w in
-    (good l, below w, omega (arith, l.loop.inv.0.long))
+    let w = (goal.at.write_line_keys-end-requires c).At-loop-i in
+    let w' = (goal.at.write_line_keys-end-requires c).After-line_name in
+    (good w, below w', omega (arith, c.loop-i.inv.0.long))
 
 pub loop-i-preserved : goal.loop-i-preserved
 loop-i-preserved c =
-    let written = c in
-    let some = written in
-    let w = some in
-    let l = at_loop w in
-    let a = l.before.before.before.args in
-    let next = keys_next a.registry.now l.loop.i (below w) (λ z. some.if-line_name-eq0.false (ap length w.line_name.ensures ∙ z)) in (
-      leaves_rest {a = slots_from a.registry.now (record { 0 = l.loop.i }) 0} (rw next at l.loop.inv.0) written.write_line_keys-end.ensures.0,
+    let w = (goal.at.loop-i-preserved c).After-line_name in
+    let a = c.args in
+    let next = keys_next a.registry.now c.loop-i.i (below w) (λ z. c.if-line_name-eq0.false (ap length c.line_name.ensures ∙ z)) in (
+      leaves_rest {a = slots_from a.registry.now (record { 0 = c.loop-i.i }) 0} (rw next at c.loop-i.inv.0) c.write_line_keys-end.ensures.0,
       omega arith,
-      omega (arith, written.write_line_keys-end.ensures.1),
+      omega (arith, c.write_line_keys-end.ensures.1),
     )
 
 pub returns : goal.returns
 returns c =
-    let l = c in
-    let a = l.args in
-    (leaves_none (rw (keys_end a.registry.now l.loop-i.i (omega arith)) at l.loop-i.invariant.0), omega arith)
+    let a = c.args in
+    (leaves_none (rw (keys_end a.registry.now c.loop-i.i (omega arith)) at c.loop-i.invariant.0), omega arith)

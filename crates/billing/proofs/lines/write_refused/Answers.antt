@@ -12,21 +12,10 @@ returns c =
     let none = refused_line_none a.number a.n c.if-n-eq0.true in
     (rw none (placed_none a.out.now a.at (omega arith)), search rules)
 
--- LEFT slice_aggregate_write_word : tie.Need-slice-aggregate-write-word
--- slice_aggregate_write_word c = search rules
--- 
--- LEFT slice_aggregate_write_word_2 : tie.Need-slice-aggregate-write-word-2
--- slice_aggregate_write_word_2 c = search rules
--- 
 pub returns : goal.returns
 unfolding text_line ascii
 returns c =
-    let end = c in
-    let count = end in
-    let number = count in
-    let word = number in
-    let start = word in
-    let a = start.args in
-    let some = refused_line_some a.number a.n start.if-n-eq0.false in
-    let behind = placed_on number.write_number-numbered.ensures.0 (placed_on count.write_number-counted.ensures.0 end.write_word.ensures) in
-    (rw some (placed_on word.write_word-begun.ensures behind), search rules)
+    let a = c.args in
+    let some = refused_line_some a.number a.n c.if-n-eq0.false in
+    let behind = placed_on c.write_number-numbered.ensures.0 (placed_on c.write_number-counted.ensures.0 c.write_word.ensures) in
+    (rw some (placed_on c.write_word-begun.ensures behind), search rules)

@@ -7,42 +7,43 @@ use Rattle.keys.specs.Names.{application_name_most}
 use Rattle.client_requests.specs.Writing.{Sender, sender_of, auth_of}
 use Rattle.client_requests.proofs.WritingLaws.{auth_type_of_lem, auth_front, auth_short, around_on}
 use Rattle.client_requests.proofs.write.write_around.Goals as goal
+use Rattle.client_requests.proofs.write.write_around.Goals.{After-auth_length-auth}
 
-abbrev start : goal.After-auth_length-auth → goal.Start
-start c = c
-
-abbrev sender : goal.Start → Sender
+abbrev sender : After-auth_length-auth → Sender
 sender s = sender_of s.args.named s.args.application.now
 
-short : (c : goal.After-auth_length-auth) → c.auth_length-auth.result ≤ application_name_most
-short c = omega (arith, c.auth_length-auth.ensures, auth_short (sender (start c)) (start c).requires.1)
+short : (c : After-auth_length-auth) → c.auth_length-auth.result ≤ application_name_most
+short c = omega (arith, c.auth_length-auth.ensures, auth_short (sender c) c.requires.1)
 
-front : (c : goal.After-auth_length-auth) → take c.auth_length-auth.result (start c).args.application.now ≡ auth_of (sender (start c))
-front c = auth_front (start c).args.named (start c).args.application.now c.auth_length-auth.ensures
+front : (c : After-auth_length-auth) → take c.auth_length-auth.result c.args.application.now ≡ auth_of (sender c)
+front c = auth_front c.args.named c.args.application.now c.auth_length-auth.ensures
 
-front_length : (c : goal.After-auth_length-auth) → c.auth_length-auth.result ≡ length (take c.auth_length-auth.result (start c).args.application.now)
+front_length : (c : After-auth_length-auth) → c.auth_length-auth.result ≡ length (take c.auth_length-auth.result c.args.application.now)
 front_length c = c.auth_length-auth.ensures ∙ sym (ap length (front c))
 
 pub overflow_cast-auth : goal.overflow_cast-auth
-overflow_cast-auth c = omega (arith, short c)
+overflow_cast-auth c =
+    let w = (goal.at.overflow_cast-auth c).After-auth_length-auth in
+    omega (arith, short w)
 
 pub slice_bounds-copy_into-end-3 : goal.slice_bounds-copy_into-end-3
-slice_bounds-copy_into-end-3 c = front_length c
+slice_bounds-copy_into-end-3 c =
+    let w = (goal.at.slice_bounds-copy_into-end-3 c).After-auth_length-auth in
+    front_length w
 
 pub copy_into-copied-requires : goal.copy_into-copied-requires
-copy_into-copied-requires c = let n = c in omega (arith, short n, front_length n)
+copy_into-copied-requires c =
+    let w = (goal.at.copy_into-copied-requires c).After-auth_length-auth in
+    omega (arith, short w, front_length w)
 
 pub overflow_add-result : goal.overflow_add-result
-overflow_add-result c = let n = c in omega (arith, c.copy_into-copied.ensures.count, short n, front_length n)
+overflow_add-result c =
+    let w = (goal.at.overflow_add-result c).After-auth_length-auth in
+    omega (arith, c.copy_into-copied.ensures.count, short w, front_length w)
 
 pub returns : goal.returns
 returns c =
-    let auth = c in
-    let head = auth in
-    let h = head in
-    let t = h in
-    let n = t in
-    let s = start n in
-    around_on _ s.args.types (sender s) _ _ _ s.args.out.now (omega (arith, s.pre.0, s.pre.2))
-    (rw (auth_type_of_lem, ← t.auth_type.ensures, ← n.auth_length-auth.ensures, ← h.request_header-head.ensures) head.copy_into-start.ensures)
-    (rw (front n) at auth.copy_into-copied.ensures)
+    let w = (goal.at.returns c).After-auth_length-auth in
+    around_on _ c.args.types (sender w) _ _ _ c.args.out.now (omega (arith, c.pre.0, c.pre.2))
+    (rw (auth_type_of_lem, ← c.auth_type.ensures, ← c.auth_length-auth.ensures, ← c.request_header-head.ensures) c.copy_into-start.ensures)
+    (rw (front w) at c.copy_into-copied.ensures)

@@ -13,50 +13,51 @@ use Rattle.client_requests.specs.declared.judge.Judged.TheVariants.{Legal}
 use Rattle.client_requests.proofs.JudgeLaws.{Passed, passed, import_name_passed, import_data_passed}
 use Rattle.client_requests.proofs.WritingLaws.{written_short, refused_outcome, body_outcome}
 use Rattle.client_requests.proofs.write.write_import.Goals as goal
+use Rattle.client_requests.proofs.write.write_import.Goals.{In-Legal}
 
-abbrev start : goal.In-Legal → goal.Start
-start c = c
-
-abbrev key_of : goal.Start → Key
+abbrev key_of : In-Legal → Key
 key_of s = record { name = s.args.name.now; bytes = s.args.bytes.now; bits = s.args.bits; export_allowed = s.args.exported; verify_allowed = s.args.verified }
 
-abbrev operation : goal.Start → Operation
+abbrev operation : In-Legal → Operation
 operation s = import_key (key_of s)
 
-abbrev sender : goal.Start → Sender
+abbrev sender : In-Legal → Sender
 sender s = sender_of s.args.named s.args.application.now
 
-legal : (c : goal.In-Legal) → judged_as (first_of (write_tests (start c).args.out.now (start c).args.types (sender (start c)) (operation (start c)))) ≡ Legal
-legal c = sym (c.judge_key.ensures (start c).args.exported (start c).args.verified) ∙ c.enum_told-1.given.1
+legal : (c : In-Legal) → judged_as (first_of (write_tests c.args.out.now c.args.types (sender c) (operation c))) ≡ Legal
+legal c = sym (c.judge_key.ensures c.args.exported c.args.verified) ∙ c.in-Legal.is
 
-passes : (c : goal.In-Legal) → Passed (start c).args.out.now (start c).args.types (sender (start c)) (operation (start c))
+passes : (c : In-Legal) → Passed c.args.out.now c.args.types (sender c) (operation c)
 passes c = passed _ _ _ _ (legal c)
 
 pub slice_bounds-write_key_body-count : goal.slice_bounds-write_key_body-count
-slice_bounds-write_key_body-count c = omega (arith, (passes c).room)
+slice_bounds-write_key_body-count c =
+    let w = (goal.at.slice_bounds-write_key_body-count c).In-Legal in
+    omega (arith, (passes w).room)
 
 pub slice_bounds-write_key_body-start : goal.slice_bounds-write_key_body-start
-slice_bounds-write_key_body-start c = omega (arith, (passes c).room)
+slice_bounds-write_key_body-start c =
+    let w = (goal.at.slice_bounds-write_key_body-start c).In-Legal in
+    omega (arith, (passes w).room)
 
 pub write_key_body-size-requires : goal.write_key_body-size-requires
 write_key_body-size-requires c =
-    let p = passes c in
-    let key = key_of (start c) in
-    let format = body_format (start c).args.types in
+    let w = (goal.at.write_key_body-size-requires c).In-Legal in
+    let p = passes w in
+    let key = key_of w in
+    let format = body_format c.args.types in
     omega (arith, p.room, legal_short key_name_most _ (import_name_passed format key p.fields), legal_data_lem _ (import_data_passed format key p.fields))
 
 pub write_around-length-requires : goal.write_around-length-requires
 write_around-length-requires c =
-    let b = c in
-    let p = passes b in
-    (omega (arith, p.room), p.legal, written_short p (rw b.format_for.ensures at b.write_key_body-size.ensures))
+    let w = (goal.at.write_around-length-requires c).In-Legal in
+    let p = passes w in
+    (omega (arith, p.room), p.legal, written_short p (rw c.format_for.ensures at c.write_key_body-size.ensures))
 
 pub returns-in-Refused : goal.returns-in-Refused
-returns-in-Refused c = refused_outcome _ _ _ _ _ _ (sym (c.judge_key.ensures c.args.exported c.args.verified) ∙ c.refusal-1.given.1)
+returns-in-Refused c = refused_outcome _ _ _ _ _ _ (sym (c.judge_key.ensures c.args.exported c.args.verified) ∙ c.in-Refused.is)
 
 pub returns-in-Legal : goal.returns-in-Legal
 returns-in-Legal c =
-    let around = c in
-    let b = around in
-    let told = b in
-    body_outcome _ _ _ _ _ (legal told) (omega (arith, (passes told).room)) (rw b.format_for.ensures at b.write_key_body-size.ensures) around.write_around-length.ensures
+    let w = (goal.at.returns-in-Legal c).In-Legal in
+    body_outcome _ _ _ _ _ (legal w) (omega (arith, (passes w).room)) (rw c.format_for.ensures at c.write_key_body-size.ensures) c.write_around-length.ensures

@@ -10,32 +10,32 @@ use Rattle.client_requests.specs.declared.judge.Judged.TheVariants.{Legal}
 use Rattle.client_requests.proofs.JudgeLaws.{Passed, passed}
 use Rattle.client_requests.proofs.WritingLaws.{refused_outcome, written_outcome}
 use Rattle.client_requests.proofs.write.write_list_providers.Goals as goal
+use Rattle.client_requests.proofs.write.write_list_providers.Goals.{In-Legal}
 
-abbrev start : goal.In-Legal → goal.Start
-start c = c
-
-abbrev operation : goal.Start → Operation
+abbrev operation : In-Legal → Operation
 operation s = list_providers
 
-abbrev sender : goal.Start → Sender
+abbrev sender : In-Legal → Sender
 sender s = sender_of s.args.named s.args.application.now
 
-legal : (c : goal.In-Legal) → judged_as (first_of (write_tests (start c).args.out.now (start c).args.types (sender (start c)) (operation (start c)))) ≡ Legal
+legal : (c : In-Legal) → judged_as (first_of (write_tests c.args.out.now c.args.types (sender c) (operation c))) ≡ Legal
 unfolding write_tests
-legal c = sym c.judge_sender.ensures ∙ c.enum_told-1.given.1
+legal c = sym c.judge_sender.ensures ∙ c.in-Legal.is
 
-passes : (c : goal.In-Legal) → Passed (start c).args.out.now (start c).args.types (sender (start c)) (operation (start c))
+passes : (c : In-Legal) → Passed c.args.out.now c.args.types (sender c) (operation c)
 passes c = passed _ _ _ _ (legal c)
 
 pub write_around-length-requires : goal.write_around-length-requires
-write_around-length-requires c = let p = passes c in (omega (arith, p.room), p.legal, omega arith)
+write_around-length-requires c =
+    let w = (goal.at.write_around-length-requires c).In-Legal in
+    let p = passes w in (omega (arith, p.room), p.legal, omega arith)
 
 pub returns-in-Refused : goal.returns-in-Refused
 unfolding write_tests
-returns-in-Refused c = refused_outcome _ _ _ _ _ _ (sym c.judge_sender.ensures ∙ c.refusal-1.given.1)
+returns-in-Refused c = refused_outcome _ _ _ _ _ _ (sym c.judge_sender.ensures ∙ c.in-Refused.is)
 
 pub returns-in-Legal : goal.returns-in-Legal
 unfolding operation_body message_bytes
 returns-in-Legal c =
-    let around = c in
-    written_outcome _ _ _ _ _ (legal around) around.write_around-length.ensures
+    let w = (goal.at.returns-in-Legal c).In-Legal in
+    written_outcome _ _ _ _ _ (legal w) c.write_around-length.ensures

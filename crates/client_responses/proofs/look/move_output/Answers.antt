@@ -7,25 +7,25 @@ use borrow.Author.Rules.{rules}
 use Rattle.client_responses.proofs.look.move_output.Goals as goal
 
 pub move_span-requires : goal.move_span-requires
-move_span-requires c = subst (OutputWithin response_content_most) c.output-in-Providers-1.given.1 c.requires
+move_span-requires c = subst (OutputWithin response_content_most) c.in-Providers.is c.requires
 
 pub move_span-requires-in-Opcodes : goal.move_span-requires-in-Opcodes
-move_span-requires-in-Opcodes c = subst (OutputWithin response_content_most) c.output-in-Opcodes-1.given.1 c.requires
+move_span-requires-in-Opcodes c = subst (OutputWithin response_content_most) c.in-Opcodes.is c.requires
 
 pub move_span-requires-in-Data : goal.move_span-requires-in-Data
-move_span-requires-in-Data c = subst (OutputWithin response_content_most) c.output-in-Data-1.given.1 c.requires
+move_span-requires-in-Data c = subst (OutputWithin response_content_most) c.in-Data.is c.requires
 
 pub returns-in-Version : goal.returns-in-Version
-returns-in-Version c = ap (output_moved body_at) (sym c.output-1.given.1)
+returns-in-Version c = ap (output_moved body_at) (sym c.in-Version.is)
 
 pub returns-in-Providers : goal.returns-in-Providers
-returns-in-Providers c = ap Providers c.move_span.ensures ∙ ap (output_moved body_at) (sym c.output-in-Providers-1.given.1)
+returns-in-Providers c = ap Providers c.move_span.ensures ∙ ap (output_moved body_at) (sym c.in-Providers.is)
 
 pub returns-in-Opcodes : goal.returns-in-Opcodes
-returns-in-Opcodes c = ap Opcodes c.move_span-in-Opcodes.ensures ∙ ap (output_moved body_at) (sym c.output-in-Opcodes-1.given.1)
+returns-in-Opcodes c = ap Opcodes c.move_span-in-Opcodes.ensures ∙ ap (output_moved body_at) (sym c.in-Opcodes.is)
 
 pub returns-in-Data : goal.returns-in-Data
-returns-in-Data c = ap Data c.move_span-in-Data.ensures ∙ ap (output_moved body_at) (sym c.output-in-Data-1.given.1)
+returns-in-Data c = ap Data c.move_span-in-Data.ensures ∙ ap (output_moved body_at) (sym c.in-Data.is)
 
 pub returns-in-Offset : goal.returns-in-Offset
-returns-in-Offset c = ap (output_moved body_at) (sym c.output-in-Offset-1.given.1)
+returns-in-Offset c = ap (output_moved body_at) (sym c.in-Offset.is)

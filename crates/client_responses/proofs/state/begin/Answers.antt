@@ -21,20 +21,13 @@ returns-then-not-is_listed c = rw (eq-eqb _ _ c.if-memory-ne-STATE_SIZE.false, s
 pub returns-then-not-is_content_type : goal.returns-then-not-is_content_type
 unfolding begin_state
 returns-then-not-is_content_type c =
-    let l = c in
-    rw (eq-eqb _ _ l.if-memory-ne-STATE_SIZE.false, sym l.is_listed.ensures ∙ not-false _ l.if-not-is_listed.false, sym c.is_content_type.ensures ∙ not-true _ c.if-not-is_content_type.true, begin_state)
+    rw (eq-eqb _ _ c.if-memory-ne-STATE_SIZE.false, sym c.is_listed.ensures ∙ not-false _ c.if-not-is_listed.false, sym c.is_content_type.ensures ∙ not-true _ c.if-not-is_content_type.true, begin_state)
 
 pub returns : goal.returns
 unfolding begin_state
 returns c =
-    let d = c in
-    let h = d in
-    let k = h in
-    let z = k in
-    let t = z in
-    let l = t in
-    let a = l.args in
+    let a = c.args in
     let asked : Asked = record { opcode = a.opcode; session = a.session; accept_type = a.accept-type } in
-    let size = l.if-memory-ne-STATE_SIZE.false in
-    let put = begun_put asked _ _ _ _ _ k.bytes_of_u16-first.ensures h.bytes_of_u64-second.ensures (z.clear.ensures ∙ ap (λ (n : ℕ). replicate n 0) size) k.copy_into.ensures.bytes d.copy_into-2.ensures.bytes in
-    rw (eq-eqb _ _ size, sym l.is_listed.ensures ∙ not-false _ l.if-not-is_listed.false, sym t.is_content_type.ensures ∙ not-false _ t.if-not-is_content_type.false, begin_state, put)
+    let size = c.if-memory-ne-STATE_SIZE.false in
+    let put = begun_put asked _ _ _ _ _ c.bytes_of_u16-first.ensures c.bytes_of_u64-second.ensures (c.clear.ensures ∙ ap (λ (n : ℕ). replicate n 0) size) c.copy_into.ensures.bytes c.copy_into-2.ensures.bytes in
+    rw (eq-eqb _ _ size, sym c.is_listed.ensures ∙ not-false _ c.if-not-is_listed.false, sym c.is_content_type.ensures ∙ not-false _ c.if-not-is_content_type.false, begin_state, put)

@@ -9,7 +9,6 @@ use Rattle.connection.proofs.change.write_number.Goals as goal
 
 pub returns : goal.returns
 returns c = λ kind before held e.
-    let i = c in
-    let a = i.args in
-    number_put kind before a.number held a.memory.now i.copy_into.new.0 e
-    (i.copy_into.ensures.bytes ∙ ap (λ (l : List ℕ). over l (take 8 (drop 1 a.memory.now))) i.bytes_of_u64-bytes.ensures)
+    let a = c.args in
+    number_put kind before a.number held a.memory.now c.copy_into.new.dst e
+    (c.copy_into.ensures.bytes ∙ ap (λ (l : List ℕ). over l (take 8 (drop 1 a.memory.now))) c.bytes_of_u64-bytes.ensures)

@@ -33,16 +33,16 @@ told s f e = ap is_unfinished e ∙ go (next s)
 
 pub returns-in-Unfinished : goal.returns-in-Unfinished
 unfolding is_unfinished
-returns-in-Unfinished c = ap is_unfinished (sym c.enum_told-1.given.1) ∙ told _ _ c.read_frame.ensures
+returns-in-Unfinished c = ap is_unfinished (sym c.in-Unfinished.is) ∙ told _ _ c.read_frame.ensures
 
 pub returns-in-BadStart : goal.returns-in-BadStart
 unfolding is_unfinished
-returns-in-BadStart c = ap is_unfinished (sym c.enum_told-in-BadStart-1.given.1) ∙ told _ _ c.read_frame.ensures
+returns-in-BadStart c = ap is_unfinished (sym c.in-BadStart.is) ∙ told _ _ c.read_frame.ensures
 
 pub returns-in-Skipped : goal.returns-in-Skipped
 unfolding is_unfinished
-returns-in-Skipped c = ap is_unfinished (sym c.enum_told-in-Skipped-1.given.1) ∙ told _ _ c.read_frame.ensures
+returns-in-Skipped c = ap is_unfinished (sym c.in-Skipped.is) ∙ told _ _ c.read_frame.ensures
 
 pub returns-in-Whole : goal.returns-in-Whole
 unfolding is_unfinished
-returns-in-Whole c = ap is_unfinished (sym c.enum_told-in-Whole-1.given.1) ∙ told _ _ c.read_frame.ensures
+returns-in-Whole c = ap is_unfinished (sym c.in-Whole.is) ∙ told _ _ c.read_frame.ensures

@@ -13,30 +13,32 @@ use Rattle.stream.specs.Call.{is_beginning}
 use Rattle.connection.specs.Connection.{held_most, well_formed_connection}
 use Rattle.connection.proofs.CheckLaws.{open_tests_lem}
 use Rattle.connection.proofs.check.open_well_formed.Goals as goal
+use Rattle.connection.proofs.check.open_well_formed.Goals.{After-read_u64-number}
 
 abbrev Tests : List ℕ → ℕ → Type 0
 Tests memory n =
     well_formed_connection memory ≡ leb n held_most && (all is_zero (drop (9 + n) memory) && is_beginning (take n (drop 9 memory)))
 
-tests : (c : goal.After-read_u64-number) → Tests c.args.memory.now c.read_u64-number.result
+tests : (c : After-read_u64-number) → Tests c.args.memory.now c.read_u64-number.result
 tests c =
-    let k = c in
-    let memory : List ℕ = k.args.memory.now in
+    let memory : List ℕ = c.args.memory.now in
     rw c.read_u64-number.ensures
-    (open_tests_lem memory k.requires.0 (all_bytes memory (λ i. (k.shared_slice_known-1.given i).fits)) k.requires.1)
+    (open_tests_lem memory c.requires.0 (all_bytes memory (λ i. (c.shared_slice_known-1.given i).fits)) c.requires.1)
 
 pub returns-then-number : goal.returns-then-number
-returns-then-number c = rw (tests c, lt-leb _ _ c.if-number.true)
+returns-then-number c =
+    let w = (goal.at.returns-then-number c).After-read_u64-number in
+    rw (tests w, lt-leb _ _ c.if-number.true)
 
 pub returns-then-not-is_zero_from : goal.returns-then-not-is_zero_from
 returns-then-not-is_zero_from c =
-    let z = c in
-    rw (tests z, le-leb _ _ z.if-number.false, sym z.is_zero_from.ensures ∙ not-true _ c.if-not-is_zero_from.true)
+    let w = (goal.at.returns-then-not-is_zero_from c).After-read_u64-number in
+    rw (tests w, le-leb _ _ c.if-number.false, sym c.is_zero_from.ensures ∙ not-true _ c.if-not-is_zero_from.true)
 
 pub returns : goal.returns
 returns c =
-    let z = c in
-    let n = z.read_u64-number.result in
+    let w = (goal.at.returns c).After-read_u64-number in
+    let n = c.read_u64-number.result in
     let same : 9 + n - 9 ≡ n = omega arith in
-    rw (tests z, le-leb _ _ z.if-number.false, sym z.is_zero_from.ensures ∙ not-false _ c.if-not-is_zero_from.false)
+    rw (tests w, le-leb _ _ c.if-number.false, sym c.is_zero_from.ensures ∙ not-false _ c.if-not-is_zero_from.false)
     (c.is_beginning.ensures ∙ rw same)

@@ -35,104 +35,95 @@ loop-used-init c = part_none _ _ _ c.requires
 
 pub overflow_add-before : goal.overflow_add-before
 overflow_add-before c =
-    let s = c in
     let l = c.loop-used in
-    let m : List ℕ = s.args.memory.now in
-    let chunk : List ℕ = s.args.chunk.now in
-    let h : ℕ = s.args.held in
-    let long = s.requires.long in
+    let m : List ℕ = c.args.memory.now in
+    let chunk : List ℕ = c.args.chunk.now in
+    let h : ℕ = c.args.held in
+    let long = c.requires.long in
     let few = holding_few l.memory (h + l.used) (part_holds (held_in h m) chunk l.memory h l.used long l.invariant) in
     search rules
 
 pub fill-used-requires : goal.fill-used-requires
 fill-used-requires c =
-    let s = c in
     let l = c.loop-used in
-    let m : List ℕ = s.args.memory.now in
-    let chunk : List ℕ = s.args.chunk.now in
-    let h : ℕ = s.args.held in
-    let long = s.requires.long in
+    let m : List ℕ = c.args.memory.now in
+    let chunk : List ℕ = c.args.chunk.now in
+    let h : ℕ = c.args.held in
+    let long = c.requires.long in
     (part_holds (held_in h m) chunk l.memory h l.used long l.invariant, l.invariant.left)
 
 pub overflow_add-end : goal.overflow_add-end
 overflow_add-end c =
-    let s = c in
     let l = c.loop-used in
-    let m : List ℕ = s.args.memory.now in
-    let chunk : List ℕ = s.args.chunk.now in
-    let h : ℕ = s.args.held in
-    let long = s.requires.long in
+    let m : List ℕ = c.args.memory.now in
+    let chunk : List ℕ = c.args.chunk.now in
+    let h : ℕ = c.args.held in
+    let long = c.requires.long in
     let f = c.fill-used in
-    let few = after_few (held_in h m) chunk l.memory h l.used long l.invariant f.new.0 f.result f.ensures in
+    let few = after_few (held_in h m) chunk l.memory h l.used long l.invariant f.new.memory f.result f.ensures in
     search rules
 
 pub overflow_add-end-in-loop-used : goal.overflow_add-end-in-loop-used
 overflow_add-end-in-loop-used c =
-    let s = c in
     let l = c.loop-used in
-    let m : List ℕ = s.args.memory.now in
-    let chunk : List ℕ = s.args.chunk.now in
-    let h : ℕ = s.args.held in
-    let long = s.requires.long in
+    let m : List ℕ = c.args.memory.now in
+    let chunk : List ℕ = c.args.chunk.now in
+    let h : ℕ = c.args.held in
+    let long = c.requires.long in
     let f = c.fill-used in
-    let few = after_few (held_in h m) chunk l.memory h l.used long l.invariant f.new.0 f.result f.ensures in
+    let few = after_few (held_in h m) chunk l.memory h l.used long l.invariant f.new.memory f.result f.ensures in
     search rules
 
 pub slice_bounds-read_frame-end : goal.slice_bounds-read_frame-end
 slice_bounds-read_frame-end c =
-    let s = c in
     let l = c.loop-used in
-    let m : List ℕ = s.args.memory.now in
-    let chunk : List ℕ = s.args.chunk.now in
-    let h : ℕ = s.args.held in
-    let long = s.requires.long in
+    let m : List ℕ = c.args.memory.now in
+    let chunk : List ℕ = c.args.chunk.now in
+    let h : ℕ = c.args.held in
+    let long = c.requires.long in
     let f = c.fill-used in
-    let few = after_few (held_in h m) chunk l.memory h l.used long l.invariant f.new.0 f.result f.ensures in
-    let size = after_size (held_in h m) chunk l.memory h l.used long l.invariant f.new.0 f.result f.ensures in
+    let few = after_few (held_in h m) chunk l.memory h l.used long l.invariant f.new.memory f.result f.ensures in
+    let size = after_size (held_in h m) chunk l.memory h l.used long l.invariant f.new.memory f.result f.ensures in
     search rules
 
 pub returns-then-used-chunk : goal.returns-then-used-chunk
 returns-then-used-chunk c =
-    let s = c in
     let l = c.loop-used in
-    let m : List ℕ = s.args.memory.now in
-    let chunk : List ℕ = s.args.chunk.now in
-    let h : ℕ = s.args.held in
-    let long = s.requires.long in
+    let m : List ℕ = c.args.memory.now in
+    let chunk : List ℕ = c.args.chunk.now in
+    let h : ℕ = c.args.held in
+    let long = c.requires.long in
     let f = c.fill-used in
-    gathers (held_in h m) chunk l.memory h l.used long l.invariant f.new.0 f.result f.ensures c.read_frame-frame.result (c.read_frame-frame.ensures ∙ ap (λ (x : List ℕ). frame_of (next x)) (after_in (held_in h m) chunk l.memory h l.used long l.invariant f.new.0 f.result f.ensures)) (λ _. c.if-used-chunk.true)
+    gathers (held_in h m) chunk l.memory h l.used long l.invariant f.new.memory f.result f.ensures c.read_frame-frame.result (c.read_frame-frame.ensures ∙ ap (λ (x : List ℕ). frame_of (next x)) (after_in (held_in h m) chunk l.memory h l.used long l.invariant f.new.memory f.result f.ensures)) (λ _. c.if-used-chunk.true)
 
 pub loop-used-smaller : goal.loop-used-smaller
 loop-used-smaller c =
-    let s = c in
     let l = c.loop-used in
-    let m : List ℕ = s.args.memory.now in
-    let chunk : List ℕ = s.args.chunk.now in
-    let h : ℕ = s.args.held in
-    let long = s.requires.long in
+    let m : List ℕ = c.args.memory.now in
+    let chunk : List ℕ = c.args.chunk.now in
+    let h : ℕ = c.args.held in
+    let long = c.requires.long in
     let f = c.fill-used in
     let left = f.ensures.left in
-    let some = after_some (held_in h m) chunk l.memory h l.used long l.invariant f.new.0 f.result f.ensures (let x : l.used + f.result < length chunk = omega arith in x) in
+    let some = after_some (held_in h m) chunk l.memory h l.used long l.invariant f.new.memory f.result f.ensures (let x : l.used + f.result < length chunk = omega arith in x) in
     omega arith
 
 pub loop-used-preserved : goal.loop-used-preserved
 loop-used-preserved c =
-    let s = c in
     let l = c.loop-used in
-    let m : List ℕ = s.args.memory.now in
-    let chunk : List ℕ = s.args.chunk.now in
-    let h : ℕ = s.args.held in
-    let long = s.requires.long in
+    let m : List ℕ = c.args.memory.now in
+    let chunk : List ℕ = c.args.chunk.now in
+    let h : ℕ = c.args.held in
+    let long = c.requires.long in
     let f = c.fill-used in
-    part_again (held_in h m) chunk l.memory h l.used long l.invariant f.new.0 f.result f.ensures (told _ _ c.read_frame-frame.result (after_in (held_in h m) chunk l.memory h l.used long l.invariant f.new.0 f.result f.ensures) c.read_frame-frame.ensures c.enum_told-1.given.1)
+    part_again (held_in h m) chunk l.memory h l.used long l.invariant f.new.memory f.result f.ensures (told _ _ c.read_frame-frame.result (after_in (held_in h m) chunk l.memory h l.used long l.invariant f.new.memory f.result f.ensures) c.read_frame-frame.ensures c.in-Unfinished.is)
 
 pub returns-in-loop-used : goal.returns-in-loop-used
 returns-in-loop-used c =
-    let s = c in
     let l = c.loop-used in
-    let m : List ℕ = s.args.memory.now in
-    let chunk : List ℕ = s.args.chunk.now in
-    let h : ℕ = s.args.held in
-    let long = s.requires.long in
+    let m : List ℕ = c.args.memory.now in
+    let chunk : List ℕ = c.args.chunk.now in
+    let h : ℕ = c.args.held in
+    let long = c.requires.long in
     let f = c.fill-used in
-    gathers (held_in h m) chunk l.memory h l.used long l.invariant f.new.0 f.result f.ensures c.read_frame-frame.result (c.read_frame-frame.ensures ∙ ap (λ (x : List ℕ). frame_of (next x)) (after_in (held_in h m) chunk l.memory h l.used long l.invariant f.new.0 f.result f.ensures)) (λ u. absurd (not_told _ _ (c.read_frame-frame.ensures ∙ ap (λ (x : List ℕ). frame_of (next x)) (after_in (held_in h m) chunk l.memory h l.used long l.invariant f.new.0 f.result f.ensures)) c.in-Unfinished.keys2 u))
+    gathers (held_in h m) chunk l.memory h l.used long l.invariant f.new.memory f.result f.ensures c.read_frame-frame.result (c.read_frame-frame.ensures ∙ ap (λ (x : List ℕ). frame_of (next x)) (after_in (held_in h m) chunk l.memory h l.used long l.invariant f.new.memory f.result f.ensures)) (λ u. absurd (not_told _ _ (c.read_frame-frame.ensures ∙ ap (λ (x : List ℕ). frame_of (next x)) (after_in (held_in h m) chunk l.memory h l.used long l.invariant f.new.memory f.result f.ensures)) c.in-Unfinished.keys2 u))

@@ -12,38 +12,34 @@ use Rattle.counters.proofs.add.add_refused.Goals as goal
 
 pub offset_bounds-refused-k : goal.offset_bounds-refused-k
 offset_bounds-refused-k c =
-    let event = c.event-1 in
-    omega (arith, index_below event.given.0.0 (subst EventBelow event.given.1 c.requires.1))
+    omega (arith, index_below c.in-Refused.status (subst EventBelow c.in-Refused.is c.requires.1))
 
 pub bounds-refused-k : goal.bounds-refused-k
 bounds-refused-k c =
-    let event = c.event-1 in
-    omega (arith, index_below event.given.0.0 (subst EventBelow event.given.1 c.requires.1))
+    omega (arith, index_below c.in-Refused.status (subst EventBelow c.in-Refused.is c.requires.1))
 
 pub overflow_add-refused : goal.overflow_add-refused
 overflow_add-refused c =
-    let s = c in
-    let refused = s.args.refused.now in
-    let low : maximum refused ≤ counter_most = subst (LowFor (maximum refused)) c.event-1.given.1 s.requires.0 in
+    let refused = c.args.refused.now in
+    let low : maximum refused ≤ counter_most = subst (LowFor (maximum refused)) c.in-Refused.is c.requires.0 in
     omega (arith, at_most_maximum refused c.refused_index-k.result)
 
 pub bounds-refused-k-in-Refused : goal.bounds-refused-k-in-Refused
 bounds-refused-k-in-Refused c =
-    let event = c.event-1 in
-    omega (arith, index_below event.given.0.0 (subst EventBelow event.given.1 c.requires.1))
+    omega (arith, index_below c.in-Refused.status (subst EventBelow c.in-Refused.is c.requires.1))
 
 pub returns-in-Refused : goal.returns-in-Refused
 unfolding refused_after count_event count_refused increment
-returns-in-Refused c = rw (c.event-1.given.1, ← c.refused_index-k.ensures, add-one)
+returns-in-Refused c = rw (c.in-Refused.is, ← c.refused_index-k.ensures, add-one)
 
 pub returns-in-NoRequest : goal.returns-in-NoRequest
 unfolding refused_after count_event
-returns-in-NoRequest c = rw c.enum_told-1.given.1
+returns-in-NoRequest c = rw c.in-NoRequest.is
 
 pub returns-in-Served : goal.returns-in-Served
 unfolding refused_after count_event count_served
-returns-in-Served c = rw c.enum_told-in-Served-1.given.1
+returns-in-Served c = rw c.in-Served.is
 
 pub returns-in-ServedUnauthenticated : goal.returns-in-ServedUnauthenticated
 unfolding refused_after count_event count_served
-returns-in-ServedUnauthenticated c = rw c.enum_told-in-ServedUnauthenticated-1.given.1
+returns-in-ServedUnauthenticated c = rw c.in-ServedUnauthenticated.is

@@ -12,34 +12,33 @@ use Rattle.counters.proofs.add.add_served.Goals as goal
 
 pub offset_bounds-served-l : goal.offset_bounds-served-l
 offset_bounds-served-l c =
-    let below : c.event-1.given.0.0.0 < line_count = subst EventBelow c.event-1.given.1 c.requires.1 in
+    let below : c.in-Served.line.0 < line_count = subst EventBelow c.in-Served.is c.requires.1 in
     omega arith
 
 pub bounds-served-l : goal.bounds-served-l
-bounds-served-l c = subst EventBelow c.event-1.given.1 c.requires.1
+bounds-served-l c = subst EventBelow c.in-Served.is c.requires.1
 
 pub overflow_add-served : goal.overflow_add-served
 overflow_add-served c =
-    let s = c in
-    let served = s.args.served.now in
-    let low : maximum served ≤ counter_most = subst (LowFor (maximum served)) c.event-1.given.1 s.requires.0 in
-    omega (arith, at_most_maximum served c.event-1.given.0.0.0)
+    let served = c.args.served.now in
+    let low : maximum served ≤ counter_most = subst (LowFor (maximum served)) c.in-Served.is c.requires.0 in
+    omega (arith, at_most_maximum served c.in-Served.line.0)
 
 pub bounds-served-l-in-Served : goal.bounds-served-l-in-Served
-bounds-served-l-in-Served c = subst EventBelow c.event-1.given.1 c.requires.1
+bounds-served-l-in-Served c = subst EventBelow c.in-Served.is c.requires.1
 
 pub returns-in-Served : goal.returns-in-Served
 unfolding served_after count_event count_served increment
-returns-in-Served c = rw (c.event-1.given.1, add-one)
+returns-in-Served c = rw (c.in-Served.is, add-one)
 
 pub returns-in-NoRequest : goal.returns-in-NoRequest
 unfolding served_after count_event
-returns-in-NoRequest c = rw c.enum_told-1.given.1
+returns-in-NoRequest c = rw c.in-NoRequest.is
 
 pub returns-in-ServedUnauthenticated : goal.returns-in-ServedUnauthenticated
 unfolding served_after count_event count_served
-returns-in-ServedUnauthenticated c = rw c.enum_told-in-ServedUnauthenticated-1.given.1
+returns-in-ServedUnauthenticated c = rw c.in-ServedUnauthenticated.is
 
 pub returns-in-Refused : goal.returns-in-Refused
 unfolding served_after count_event count_refused
-returns-in-Refused c = rw c.enum_told-in-Refused-1.given.1
+returns-in-Refused c = rw c.in-Refused.is

@@ -10,22 +10,21 @@ use Rattle.counters.proofs.add.add_unauthenticated.Goals as goal
 
 pub overflow_add-counter : goal.overflow_add-counter
 overflow_add-counter c =
-    let s = c in
-    let low : s.args.counter.now ≤ counter_most = subst (LowFor s.args.counter.now) c.enum_told-1.given.1 s.requires in
+    let low : c.args.counter.now ≤ counter_most = subst (LowFor c.args.counter.now) c.in-ServedUnauthenticated.is c.requires in
     omega arith
 
 pub returns-in-ServedUnauthenticated : goal.returns-in-ServedUnauthenticated
 unfolding unauthenticated_after count_event count_served
-returns-in-ServedUnauthenticated c = rw (c.enum_told-1.given.1, add-one)
+returns-in-ServedUnauthenticated c = rw (c.in-ServedUnauthenticated.is, add-one)
 
 pub returns-in-NoRequest : goal.returns-in-NoRequest
 unfolding unauthenticated_after count_event
-returns-in-NoRequest c = rw c.enum_told-in-NoRequest-1.given.1
+returns-in-NoRequest c = rw c.in-NoRequest.is
 
 pub returns-in-Served : goal.returns-in-Served
 unfolding unauthenticated_after count_event count_served
-returns-in-Served c = rw c.enum_told-in-Served-1.given.1
+returns-in-Served c = rw c.in-Served.is
 
 pub returns-in-Refused : goal.returns-in-Refused
 unfolding unauthenticated_after count_event count_refused
-returns-in-Refused c = rw c.enum_told-in-Refused-1.given.1
+returns-in-Refused c = rw c.in-Refused.is

@@ -9,8 +9,8 @@ returns-then-status_number-ne0 c = rw (← c.status_number.ensures, ne_eqb _ _ c
 
 pub returns-in-Nobody : goal.returns-in-Nobody
 unfolding event_of served_for
-returns-in-Nobody c = rw (← c.status_number.ensures, eq-eqb _ _ c.if-status_number-ne0.false, c.enum_told-1.given.1)
+returns-in-Nobody c = rw (← c.status_number.ensures, eq-eqb _ _ c.if-status_number-ne0.false, c.in-Nobody.is)
 
 pub returns-in-Named : goal.returns-in-Named
 unfolding event_of served_for
-returns-in-Named c = rw (← c.status_number.ensures, eq-eqb _ _ c.if-status_number-ne0.false, c.asker-1.given.1)
+returns-in-Named c = rw (← c.status_number.ensures, eq-eqb _ _ c.if-status_number-ne0.false, c.in-Named.is)

@@ -13,8 +13,7 @@ loop-i-init c = (omega arith, omega arith)
 
 pub loop-i-preserved : goal.loop-i-preserved
 loop-i-preserved c =
-    let p = c in
-    let next = maximum_next p.args.counters.now p.loop-i.i (omega arith) in
+    let next = maximum_next c.args.counters.now c.loop-i.i (omega arith) in
     (omega arith, ⊎_elim (λ w. omega arith) (λ w. omega arith) c.if-most-counters.branch)
 
 pub returns : goal.returns

@@ -9,19 +9,12 @@ use Rattle.journal.proofs.read.end_record.Goals as goal
 
 pub returns-then-fault-ne0 : goal.returns-then-fault-ne0
 returns-then-fault-ne0 c =
-    let k = c in
-    let j = k in
-    let s = j in
-    let cleared = k.clear.ensures ∙ ap (λ (n : ℕ). replicate n 0) s.requires.0 in
-    ap (compact_with j.judge-fault.new.1.0 (record { fault = j.judge-fault.result; kept = s.args.p.kept; count = 0; register = all_ones })) cleared
-    ∙ record_bad (compact_with s.args.registry.now s.args.p s.args.front.now) _ (record { fault = j.judge-fault.result; registry = j.judge-fault.new.1.0 }) j.judge-fault.ensures c.if-fault-ne0.true
+    let cleared = c.clear.ensures ∙ ap (λ (n : ℕ). replicate n 0) c.requires.0 in
+    ap (compact_with c.judge-fault.new.1.0 (record { fault = c.judge-fault.result; kept = c.args.p.kept; count = 0; register = all_ones })) cleared
+    ∙ record_bad (compact_with c.args.registry.now c.args.p c.args.front.now) _ (record { fault = c.judge-fault.result; registry = c.judge-fault.new.1.0 }) c.judge-fault.ensures c.if-fault-ne0.true
 
 pub returns : goal.returns
 returns c =
-    let l = c in
-    let k = l in
-    let j = k in
-    let s = j in
-    let cleared = k.clear.ensures ∙ ap (λ (n : ℕ). replicate n 0) s.requires.0 in
-    ap (compact_with j.judge-fault.new.1.0 (record { fault = 0; kept = s.args.p.kept + s.args.p.count; count = 0; register = all_ones })) cleared
-    ∙ record_good (compact_with s.args.registry.now s.args.p s.args.front.now) _ (record { fault = j.judge-fault.result; registry = j.judge-fault.new.1.0 }) j.judge-fault.ensures l.if-fault-ne0.false
+    let cleared = c.clear.ensures ∙ ap (λ (n : ℕ). replicate n 0) c.requires.0 in
+    ap (compact_with c.judge-fault.new.1.0 (record { fault = 0; kept = c.args.p.kept + c.args.p.count; count = 0; register = all_ones })) cleared
+    ∙ record_good (compact_with c.args.registry.now c.args.p c.args.front.now) _ (record { fault = c.judge-fault.result; registry = c.judge-fault.new.1.0 }) c.judge-fault.ensures c.if-fault-ne0.false

@@ -8,38 +8,26 @@ use Rattle.registry.proofs.RegistryLaws.{slot_below}
 use Rattle.journal.proofs.DoneLaws.{destroy_bad, destroy_none, destroy_done}
 use borrow.Author.Rules.{rules}
 use Rattle.journal.proofs.replay.destroy_key.Goals as goal
+use Rattle.journal.proofs.replay.destroy_key.Goals.{Else-not-is_legal}
 
-abbrev start : goal.Else-not-is_legal → goal.Start
-start c = c
-
-legal : (c : goal.Else-not-is_legal) → legal_name key_name_most (start c).args.name.now ≡ true
+legal : (c : Else-not-is_legal) → legal_name key_name_most c.args.name.now ≡ true
 legal c = sym c.is_legal.ensures ∙ not-false _ c.if-not-is_legal.false
 
 pub returns-then-not-is_legal : goal.returns-then-not-is_legal
 returns-then-not-is_legal c =
-    let s = c in
-    destroy_bad s.args.registry.now s.args.line s.args.name.now _ (sym c.is_legal.ensures ∙ not-true _ c.if-not-is_legal.true)
+    destroy_bad c.args.registry.now c.args.line c.args.name.now _ (sym c.is_legal.ensures ∙ not-true _ c.if-not-is_legal.true)
 
 pub returns-in_default : goal.returns-in_default
 returns-in_default c =
-    let f = c in
-    let l = f in
-    let s = start l in
-    destroy_none s.args.registry.now s.args.line s.args.name.now _ (legal l) (sym f.find_slot-found.ensures ∙ c.enum_told-1.given.1)
+    let w = (goal.at.returns-in_default c).Else-not-is_legal in
+    destroy_none c.args.registry.now c.args.line c.args.name.now _ (legal w) (sym c.find_slot-found.ensures ∙ c.in_default.is)
 
 pub clear_slot-requires : goal.clear_slot-requires
 clear_slot-requires c =
-    let k = c in
-    let f = k in
-    let s = start f in
-    (s.pre.0, s.pre.1, slot_below s.args.registry.now s.args.line s.args.name.now _ (sym f.find_slot-found.ensures ∙ k.found-1.given.1))
+    (c.pre.0, c.pre.1, slot_below c.args.registry.now c.args.line c.args.name.now _ (sym c.find_slot-found.ensures ∙ c.in-At.is))
 
 pub returns : goal.returns
 returns c =
-    let r = c in
-    let k = r in
-    let f = k in
-    let l = f in
-    let s = start l in
-    ap (λ (x : List ℕ). record { served = true; registry = x }) r.clear_slot.ensures
-    ∙ destroy_done s.args.registry.now s.args.line s.args.name.now _ (legal l) _ (sym f.find_slot-found.ensures ∙ k.found-1.given.1)
+    let w = (goal.at.returns c).Else-not-is_legal in
+    ap (λ (x : List ℕ). record { served = true; registry = x }) c.clear_slot.ensures
+    ∙ destroy_done c.args.registry.now c.args.line c.args.name.now _ (legal w) _ (sym c.find_slot-found.ensures ∙ c.in-At.is)

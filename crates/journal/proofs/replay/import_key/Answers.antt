@@ -15,62 +15,56 @@ use Rattle.judgement.proofs.ImportLaws.{Taken, bounded_legal}
 use Rattle.journal.proofs.DoneLaws.{import_bad, import_taken, import_full, import_done}
 use borrow.Author.Rules.{rules}
 use Rattle.journal.proofs.replay.import_key.Goals as goal
+use Rattle.journal.proofs.replay.import_key.Goals.{Else-not-is_importable, In-Nothing, Start}
 
-abbrev start : goal.Else-not-is_importable → goal.Start
-start c = c
-
-abbrev key : goal.Start → Key
+abbrev key : Start → Key
 key s = key_from s.args.name.now s.args.bytes.now s.args.bits s.args.exported s.args.verified
 
-abbrev at_name : goal.In-Nothing → goal.Else-not-is_importable
-at_name c = c
 
-allowed : (c : goal.Else-not-is_importable) → Taken legal_bits (key (start c))
+abbrev key_2 : Else-not-is_importable → Key
+key_2 s = key_from s.args.name.now s.args.bytes.now s.args.bits s.args.exported s.args.verified
+
+
+abbrev key_3 : In-Nothing → Key
+key_3 s = key_from s.args.name.now s.args.bytes.now s.args.bits s.args.exported s.args.verified
+
+
+allowed : (c : Else-not-is_importable) → Taken legal_bits (key_2 c)
 allowed c =
-    let k = key (start c) in
+    let k = key_2 c in
     let both : within_bounds k && legal_bits k.bits ≡ true = sym c.is_importable.ensures ∙ not-false _ c.if-not-is_importable.false in
     record { bounds = and_left (within_bounds k) _ both; bits = and_right (within_bounds k) _ both }
 
-new : (c : goal.In-Nothing)
-    → (let s = start (at_name c) in slot_named (key s).name (slots_of s.args.registry.now s.args.line) ≡ Nothing)
-new c = sym c.find_slot-same.ensures ∙ c.enum_told-1.given.1
+new : (c : In-Nothing)
+    → (let s = start c in slot_named (key_3 s).name (slots_of s.args.registry.now s.args.line) ≡ Nothing)
+new c = sym c.find_slot-same.ensures ∙ c.in-Nothing.is
 
 pub returns-then-not-is_importable : goal.returns-then-not-is_importable
 returns-then-not-is_importable c =
-    let s = c in
-    import_bad s.args.registry.now s.args.line (key s) _ (sym c.is_importable.ensures ∙ not-true _ c.if-not-is_importable.true)
+    let w = (goal.at.returns-then-not-is_importable c).Start in
+    import_bad c.args.registry.now c.args.line (key w) _ (sym c.is_importable.ensures ∙ not-true _ c.if-not-is_importable.true)
 
 pub returns-in_default : goal.returns-in_default
 returns-in_default c =
-    let f = c in
-    let l = f in
-    let s = start l in
-    import_taken s.args.registry.now s.args.line (key s) _ (allowed l) _ (sym f.find_slot-same.ensures ∙ c.enum_told-in_default-1.given.1)
+    let w = (goal.at.returns-in_default c).Else-not-is_importable in
+    import_taken c.args.registry.now c.args.line (key_2 w) _ (allowed w) _ (sym c.find_slot-same.ensures ∙ c.in_default.is)
 
 pub returns-in_default-empty : goal.returns-in_default-empty
 returns-in_default-empty c =
-    let f = c in
-    let n = f in
-    let l = at_name n in
-    let s = start l in
-    import_full s.args.registry.now s.args.line (key s) _ (allowed l) (new n) (sym f.find_slot-empty.ensures ∙ c.enum_told-in_default-empty-1.given.1)
+    let w = (goal.at.returns-in_default-empty c).In-Nothing in
+    let w' = (goal.at.returns-in_default-empty c).Else-not-is_importable in
+    import_full c.args.registry.now c.args.line (key_3 w) _ (allowed w') (new w) (sym c.find_slot-empty.ensures ∙ c.in_default-empty.is)
 
 pub fill_slot-requires : goal.fill_slot-requires
 fill_slot-requires c =
-    let k = c in
-    let f = k in
-    let l = at_name f in
-    let s = start l in
-    let legal = bounded_legal (key s) (allowed l).bounds (allowed l).bits in
-    (s.pre.0, s.pre.1, slot_below s.args.registry.now s.args.line [] _ (sym f.find_slot-empty.ensures ∙ k.empty-1.given.1), short_name (key s) legal, short_data (key s) legal)
+    let w = (goal.at.fill_slot-requires c).In-Nothing in
+    let w' = (goal.at.fill_slot-requires c).Else-not-is_importable in
+    let legal = bounded_legal (key_3 w) (allowed w').bounds (allowed w').bits in
+    (c.pre.0, c.pre.1, slot_below c.args.registry.now c.args.line [] _ (sym c.find_slot-empty.ensures ∙ c.in-At.is), short_name (key_3 w) legal, short_data (key_3 w) legal)
 
 pub returns : goal.returns
 returns c =
-    let r = c in
-    let k = r in
-    let f = k in
-    let n = f in
-    let l = at_name n in
-    let s = start l in
-    ap (λ (x : List ℕ). record { served = true; registry = x }) r.fill_slot.ensures
-    ∙ import_done s.args.registry.now s.args.line (key s) _ (allowed l) (new n) _ (sym f.find_slot-empty.ensures ∙ k.empty-1.given.1)
+    let w = (goal.at.returns c).In-Nothing in
+    let w' = (goal.at.returns c).Else-not-is_importable in
+    ap (λ (x : List ℕ). record { served = true; registry = x }) c.fill_slot.ensures
+    ∙ import_done c.args.registry.now c.args.line (key_3 w) _ (allowed w') (new w) _ (sym c.find_slot-empty.ensures ∙ c.in-At.is)

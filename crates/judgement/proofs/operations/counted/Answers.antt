@@ -20,14 +20,12 @@ returns-then-status_number-ne0 c = refused_at _ _ (λ e. c.if-status_number-ne0.
 pub returns-in-Own : goal.returns-in-Own
 unfolding counted_at
 returns-in-Own c =
-    let p = c in
-    let l = p in
-    rw (p.place-1.given.1, counted_at, eq-eqb _ 0 (sym l.status_number.ensures ∙ l.if-status_number-ne0.false)) refl
+    rw (c.in-Own.is, counted_at, eq-eqb _ 0 (sym c.status_number.ensures ∙ c.if-status_number-ne0.false)) refl
 
 pub returns-in-Listed : goal.returns-in-Listed
 unfolding counted_at
-returns-in-Listed c = rw c.enum_told-1.given.1
+returns-in-Listed c = rw c.in-Listed.is
 
 pub returns-in-Nothing : goal.returns-in-Nothing
 unfolding counted_at
-returns-in-Nothing c = rw c.enum_told-in-Nothing-1.given.1
+returns-in-Nothing c = rw c.in-Nothing.is

@@ -17,8 +17,8 @@ returns-then-auth_type-eq0 c = rw (eq-eqb _ _ c.if-auth_type-eq0.true, lt-ltb 0 
 
 pub returns-in-Named : goal.returns-in-Named
 unfolding auth_of named_or
-returns-in-Named c = rw (ne_eqb _ _ c.if-auth_type-eq0.false, found_line _ _ (sym c.find_application.ensures ∙ c.line-1.given.1))
+returns-in-Named c = rw (ne_eqb _ _ c.if-auth_type-eq0.false, found_line _ _ (sym c.find_application.ensures ∙ c.in-Named.is))
 
 pub returns-in-Unknown : goal.returns-in-Unknown
 unfolding auth_of named_or
-returns-in-Unknown c = rw (ne_eqb _ _ c.if-auth_type-eq0.false, found_none _ (sym c.find_application.ensures ∙ c.enum_told-1.given.1))
+returns-in-Unknown c = rw (ne_eqb _ _ c.if-auth_type-eq0.false, found_none _ (sym c.find_application.ensures ∙ c.in-Unknown.is))

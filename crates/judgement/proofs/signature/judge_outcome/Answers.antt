@@ -9,12 +9,12 @@ use Rattle.judgement.proofs.signature.judge_outcome.Goals as goal
 
 pub returns-in-ValidSignature : goal.returns-in-ValidSignature
 unfolding checked output_in
-returns-in-ValidSignature c slots list body = rw (c.served.ensures, c.enum_told-1.given.1) (listing slots list body Nothing tt refl)
+returns-in-ValidSignature c slots list body = rw (c.served.ensures, c.in-ValidSignature.is) (listing slots list body Nothing tt refl)
 
 pub returns-in-InvalidKey : goal.returns-in-InvalidKey
 unfolding checked
-returns-in-InvalidKey c slots list body = rw (c.refused.ensures, c.enum_told-in-InvalidKey-1.given.1) (refusal slots list body PsaErrorNotSupported refl)
+returns-in-InvalidKey c slots list body = rw (c.refused.ensures, c.in-InvalidKey.is) (refusal slots list body PsaErrorNotSupported refl)
 
 pub returns-in-InvalidSignature : goal.returns-in-InvalidSignature
 unfolding checked
-returns-in-InvalidSignature c slots list body = rw (c.refused-in-InvalidSignature.ensures, c.enum_told-in-InvalidSignature-1.given.1) (refusal slots list body PsaErrorInvalidSignature refl)
+returns-in-InvalidSignature c slots list body = rw (c.refused-in-InvalidSignature.ensures, c.in-InvalidSignature.is) (refusal slots list body PsaErrorInvalidSignature refl)

@@ -18,17 +18,12 @@ returns-then-hash-ne-HASH_SIZE c slots list body =
 
 pub returns-then-not-are_import_bits : goal.returns-then-not-are_import_bits
 returns-then-not-are_import_bits c slots list body =
-    let b = c in
-    let e = b in
     rw c.refused-then-not-are_import_bits.ensures
     (refusal slots list body PsaErrorNotSupported
-    (bad_bits _ _ _ (not-false _ e.if-not-allowed.false) e.if-hash-ne-HASH_SIZE.false (sym b.are_import_bits.ensures ∙ not-true _ c.if-not-are_import_bits.true)))
+    (bad_bits _ _ _ (not-false _ c.if-not-allowed.false) c.if-hash-ne-HASH_SIZE.false (sym c.are_import_bits.ensures ∙ not-true _ c.if-not-are_import_bits.true)))
 
 pub returns : goal.returns
 returns c slots list body =
-    let l = c in
-    let e = l in
-    let s = e in
-    let key = key_from [] s.args.key.now s.args.bits false s.args.allowed in
-    rw (verifying s.args.hash.now s.args.signature.now key (not-false _ e.if-not-allowed.false) e.if-hash-ne-HASH_SIZE.false (sym l.are_import_bits.ensures ∙ not-false _ l.if-not-are_import_bits.false), ← c.verify-verification.ensures)
+    let key = key_from [] c.args.key.now c.args.bits false c.args.allowed in
+    rw (verifying c.args.hash.now c.args.signature.now key (not-false _ c.if-not-allowed.false) c.if-hash-ne-HASH_SIZE.false (sym c.are_import_bits.ensures ∙ not-false _ c.if-not-are_import_bits.false), ← c.verify-verification.ensures)
     (c.judge_outcome.ensures slots list body)

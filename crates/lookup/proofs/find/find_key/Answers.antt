@@ -10,14 +10,14 @@ use Rattle.lookup.specs.Lookup.{listed_in, key_named}
 use Rattle.lookup.specs.code.Places.{Within, source_at, SlotNamed}
 use Rattle.lookup.proofs.LookupLaws.{own_named, none_own, listed_there, listed_nowhere}
 use Rattle.lookup.proofs.find.find_key.Goals as goal
+use Rattle.lookup.proofs.find.find_key.Goals.{After-find_listed-listed}
 
 pub returns-in-At : goal.returns-in-At
 unfolding source_at Within SlotNamed
 returns-in-At c =
-    let f = c in
-    let s = f.args in
+    let s = c.args in
     let slots : List Entry = slots_of s.registry.now s.line in
-    let e = sym f.find_slot-found.ensures ∙ c.found-1.given.1 in
+    let e = sym c.find_slot-found.ensures ∙ c.in-At.is in
     record {
       source = sym (own_named s.name.now slots (keys_in s.list.now) _ e);
       within = slot_below s.registry.now s.line _ _ e;
@@ -25,21 +25,20 @@ returns-in-At c =
     }
 
 -- no own key has the name
-not_own : (c : goal.After-find_listed-listed) → let s = c.args in
+not_own : (c : After-find_listed-listed) → let s = c.args in
     key_named s.name.now (slots_of s.registry.now s.line) (keys_in s.list.now) ≡ listed_in (listed_named s.name.now (keys_in s.list.now))
 not_own c =
-    let f = c in
-    let s = f.args in
-    none_own s.name.now (slots_of s.registry.now s.line) (keys_in s.list.now) (sym f.find_slot-found.ensures ∙ c.enum_told-1.given.1)
+    let s = c.args in
+    none_own s.name.now (slots_of s.registry.now s.line) (keys_in s.list.now) (sym c.find_slot-found.ensures ∙ c.in_default.is)
 
 pub returns-in-At-listed : goal.returns-in-At-listed
 unfolding source_at Within SlotNamed place_end
 returns-in-At-listed c =
-    let f = c in
-    let s = f.args in
-    let finds = subst (Finds s.list.now s.name.now) c.listed-1.given.1 f.find_listed-listed.ensures in
+    let w = (goal.at.returns-in-At-listed c).After-find_listed-listed in
+    let s = c.args in
+    let finds = subst (Finds s.list.now s.name.now) c.in-At-listed.is c.find_listed-listed.ensures in
     record {
-      source = sym (not_own f ∙ listed_there s.list.now s.name.now _ finds);
+      source = sym (not_own w ∙ listed_there s.list.now s.name.now _ finds);
       within = finds.within;
       slot = tt;
     }
@@ -47,11 +46,11 @@ returns-in-At-listed c =
 pub returns : goal.returns
 unfolding source_at Within SlotNamed
 returns c =
-    let f = c in
-    let s = f.args in
-    let finds = subst (Finds s.list.now s.name.now) c.enum_told-in_default-listed-1.given.1 f.find_listed-listed.ensures in
+    let w = (goal.at.returns c).After-find_listed-listed in
+    let s = c.args in
+    let finds = subst (Finds s.list.now s.name.now) c.in_default-listed.is c.find_listed-listed.ensures in
     record {
-      source = sym (not_own f ∙ listed_nowhere s.list.now s.name.now finds);
+      source = sym (not_own w ∙ listed_nowhere s.list.now s.name.now finds);
       within = tt;
       slot = tt;
     }

@@ -7,39 +7,31 @@ use Rattle.lookup.specs.declared.Place.{Place}
 use Rattle.lookup.proofs.LookupLaws.{held_bits}
 use Rattle.lookup.proofs.key.key_bits.Goals as goal
 
-abbrev start : goal.In-Own-1 → goal.Start
-start c = c
-
 pub key_bits-requires : goal.key_bits-requires
 unfolding Within
 key_bits-requires c =
-    let s = start c in
-    (s.pre.0, s.pre.1, subst (Within s.args.list.now) c.place-1.given.1 s.pre.2)
+    (c.pre.0, c.pre.1, subst (Within c.args.list.now) c.in-Own.is c.pre.2)
 
 pub listed_bytes-requires : goal.listed_bytes-requires
 unfolding Within
 listed_bytes-requires c =
-    let s = c in
-    subst (Within s.args.list.now) c.place-in-Listed-1.given.1 s.requires.2
+    subst (Within c.args.list.now) c.in-Listed.is c.requires.2
 
 pub returns-in-Own : goal.returns-in-Own
 unfolding key_at
 returns-in-Own c =
-    let k = c in
-    let s = start k in
-    c.key_bits.ensures ∙ held_bits _ ∙ ap (λ (p : Place). (key_at s.args.registry.now s.args.list.now s.args.line p).bits) (sym k.place-1.given.1)
+    c.key_bits.ensures ∙ held_bits _ ∙ ap (λ (p : Place). (key_at c.args.registry.now c.args.list.now c.args.line p).bits) (sym c.in-Own.is)
 
 pub returns-in-Listed : goal.returns-in-Listed
 unfolding key_at shipped_key
 returns-in-Listed c =
-    let k = c in
-    let s = k.args in
+    let s = c.args in
     c.modulus_bits.ensures
     ∙ ap modulus_bits c.listed_bytes.ensures
-    ∙ ap (λ (p : Place). (key_at s.registry.now s.list.now s.line p).bits) (sym k.place-in-Listed-1.given.1)
+    ∙ ap (λ (p : Place). (key_at s.registry.now s.list.now s.line p).bits) (sym c.in-Listed.is)
 
 pub returns-in-Nothing : goal.returns-in-Nothing
 unfolding key_at key_held
 returns-in-Nothing c =
     let s = c.args in
-    ap (λ (p : Place). (key_at s.registry.now s.list.now s.line p).bits) (sym c.enum_told-1.given.1)
+    ap (λ (p : Place). (key_at s.registry.now s.list.now s.line p).bits) (sym c.in-Nothing.is)

@@ -6,38 +6,29 @@ use Rattle.lookup.specs.declared.Place.{Place}
 use Rattle.lookup.proofs.LookupLaws.{held_bytes}
 use Rattle.lookup.proofs.key.key_bytes.Goals as goal
 
-abbrev start : goal.In-Own-1 → goal.Start
-start c = c
-
 pub key_data-requires : goal.key_data-requires
 unfolding Within
 key_data-requires c =
-    let s = start c in
-    (s.pre.0, s.pre.1, subst (Within s.args.list.now) c.place-1.given.1 s.pre.2)
+    (c.pre.0, c.pre.1, subst (Within c.args.list.now) c.in-Own.is c.pre.2)
 
 pub listed_bytes-requires : goal.listed_bytes-requires
 unfolding Within
 listed_bytes-requires c =
-    let s = c in
-    subst (Within s.args.list.now) c.place-in-Listed-1.given.1 s.requires.2
+    subst (Within c.args.list.now) c.in-Listed.is c.requires.2
 
 pub returns-in-Own : goal.returns-in-Own
 unfolding key_at
 returns-in-Own c =
-    let k = c in
-    let s = start k in
-    c.key_data.ensures ∙ held_bytes _ ∙ ap (λ (p : Place). (key_at s.args.registry.now s.args.list.now s.args.line p).bytes) (sym k.place-1.given.1)
+    c.key_data.ensures ∙ held_bytes _ ∙ ap (λ (p : Place). (key_at c.args.registry.now c.args.list.now c.args.line p).bytes) (sym c.in-Own.is)
 
 pub returns-in-Listed : goal.returns-in-Listed
 unfolding key_at shipped_key
 returns-in-Listed c =
-    let k = c in
-    let s = k.args in
-    c.listed_bytes.ensures ∙ ap (λ (p : Place). (key_at s.registry.now s.list.now s.line p).bytes) (sym k.place-in-Listed-1.given.1)
+    let s = c.args in
+    c.listed_bytes.ensures ∙ ap (λ (p : Place). (key_at s.registry.now s.list.now s.line p).bytes) (sym c.in-Listed.is)
 
 pub returns-in-Nothing : goal.returns-in-Nothing
 unfolding key_at key_held
 returns-in-Nothing c =
-    let t = c in
-    let s = t.args in
-    ap (λ (p : Place). (key_at s.registry.now s.list.now s.line p).bytes) (sym t.enum_told-1.given.1)
+    let s = c.args in
+    ap (λ (p : Place). (key_at s.registry.now s.list.now s.line p).bytes) (sym c.in-Nothing.is)

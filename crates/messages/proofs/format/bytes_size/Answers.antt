@@ -3,9 +3,9 @@ use borrow.Author.Rules.{rules}
 use Rattle.messages.proofs.format.bytes_size.Goals as goal
 
 pub returns-in-Protobuf : goal.returns-in-Protobuf
-returns-in-Protobuf c = rw c.enum_told-1.given.1 c.bytes_field_size.ensures
+returns-in-Protobuf c = rw c.in-Protobuf.is c.bytes_field_size.ensures
 
 pub returns-in-Tagged : goal.returns-in-Tagged
 returns-in-Tagged c =
     let e = c.tagged_size.ensures in
-    rw c.enum_told-in-Tagged-1.given.1 (e.0 _, omega (arith, e.1))
+    rw c.in-Tagged.is (e.0 _, omega (arith, e.1))

@@ -13,21 +13,19 @@ loop-at-init c = packing_none _
 pub loop-at-smaller : goal.loop-at-smaller
 loop-at-smaller c =
     let s = c.args.bytes.now in
-    let v = c.next-1.given in
-    let a = varint_next s _ v.0.0 v.0.1.0 (sym c.read_varint.ensures ∙ v.1) in
+    let a = varint_next s _ c.in-Read.field-0 c.in-Read.next (sym c.read_varint.ensures ∙ c.in-Read.is) in
     omega arith
 
 pub loop-at-preserved : goal.loop-at-preserved
 loop-at-preserved c =
     let s = c.args.bytes.now in
-    let v = c.next-1.given in
-    packing_on s c.loop-at.invariant v.0.0 v.0.1.0 c.loop-at-test.true (sym c.read_varint.ensures ∙ v.1)
+    packing_on s c.loop-at.invariant c.in-Read.field-0 c.in-Read.next c.loop-at-test.true (sym c.read_varint.ensures ∙ c.in-Read.is)
 
 pub returns-in-Unreadable : goal.returns-in-Unreadable
 unfolding is_some
 returns-in-Unreadable c =
     let s = c.args.bytes.now in
-    sym (ap is_some (packing_cut s c.loop-at.invariant c.loop-at-test.true (sym c.read_varint.ensures ∙ c.enum_told-1.given.1)))
+    sym (ap is_some (packing_cut s c.loop-at.invariant c.loop-at-test.true (sym c.read_varint.ensures ∙ c.in-Unreadable.is)))
 
 pub returns : goal.returns
 unfolding is_some

@@ -13,17 +13,16 @@ pub returns-then-packed-at : goal.returns-then-packed-at
 returns-then-packed-at c = listing_end _ c.loop-count.invariant c.if-packed-at.true
 
 pub returns-in_default : goal.returns-in_default
-returns-in_default c = listing_cut _ c.loop-count.invariant c.if-packed-at.false (sym c.read_varint.ensures ∙ c.enum_told-1.given.1)
+returns-in_default c = listing_cut _ c.loop-count.invariant c.if-packed-at.false (sym c.read_varint.ensures ∙ c.in_default.is)
 
 pub loop-count-smaller : goal.loop-count-smaller
 loop-count-smaller c = let size = listing_size _ c.loop-count.invariant in omega arith
 
 pub loop-count-preserved : goal.loop-count-preserved
 loop-count-preserved c =
-    let v = c.value-1.given in
     let l = c.loop-count in
     let size = listing_size _ l.invariant in
-    listing_on _ l.invariant v.0.0 v.0.1.0 (omega arith) c.if-packed-at.false (sym c.read_varint.ensures ∙ v.1)
+    listing_on _ l.invariant c.in-Read.value c.in-Read.next (omega arith) c.if-packed-at.false (sym c.read_varint.ensures ∙ c.in-Read.is)
 
 pub returns : goal.returns
 returns c = let size = listing_size _ c.loop-count.invariant in listing_full _ c.loop-count.invariant (omega arith)

@@ -9,25 +9,25 @@ use Rattle.protobuf.proofs.field.read_field.Goals as goal
 -- src/lib.rt:169:9
 pub returns-in_default : goal.returns-in_default
 unfolding field_at
-returns-in_default c = rw (sym c.read_varint.ensures ∙ c.enum_told-1.given.1)
+returns-in_default c = rw (sym c.read_varint.ensures ∙ c.in_default.is)
 
 -- src/lib.rt:172:9
 pub returns-then-tag-gt4294967295 : goal.returns-then-tag-gt4294967295
 unfolding field_at
 returns-then-tag-gt4294967295 c =
-    let big : 2 ^ 32 ≤ c.tag-1.given.0.0 = omega arith in
-    rw (sym c.read_varint.ensures ∙ c.tag-1.given.1, le-ltb _ _ big)
+    let big : 2 ^ 32 ≤ c.in-Read.tag = omega arith in
+    rw (sym c.read_varint.ensures ∙ c.in-Read.is, le-ltb _ _ big)
 
 -- src/lib.rt:176:9
 pub returns-then-number-eq0 : goal.returns-then-number-eq0
 unfolding field_at
 returns-then-number-eq0 c =
-    let small : c.tag-1.given.0.0 < 2 ^ 32 = omega arith in
-    rw (sym c.read_varint.ensures ∙ c.tag-1.given.1, lt-ltb _ _ small, eq-eqb _ _ c.if-number-eq0.true)
+    let small : c.in-Read.tag < 2 ^ 32 = omega arith in
+    rw (sym c.read_varint.ensures ∙ c.in-Read.is, lt-ltb _ _ small, eq-eqb _ _ c.if-number-eq0.true)
 
 -- src/lib.rt:165:1
 pub returns : goal.returns
 unfolding field_at
 returns c =
-    let small : c.tag-1.given.0.0 < 2 ^ 32 = omega arith in
-    rw (sym c.read_varint.ensures ∙ c.tag-1.given.1, lt-ltb _ _ small, ne_eqb _ _ c.if-number-eq0.false) c.read_content.ensures
+    let small : c.in-Read.tag < 2 ^ 32 = omega arith in
+    rw (sym c.read_varint.ensures ∙ c.in-Read.is, lt-ltb _ _ small, ne_eqb _ _ c.if-number-eq0.false) c.read_content.ensures

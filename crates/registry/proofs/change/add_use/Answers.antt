@@ -15,13 +15,12 @@ use Rattle.registry.proofs.change.add_use.Goals as goal
 pub returns : goal.returns
 unfolding changed
 returns c =
-    let s = c in
     let slot_at = c.slot_at-a in
-    let r : List ℕ = s.args.registry.now in
+    let r : List ℕ = c.args.registry.now in
     let at : ℕ = slot_at.result in
     let w = c.count_use in
-    let inside : at + slot_size ≤ length r = omega (arith, slot_at.ensures, s.requires.0, s.requires.1, s.requires.2) in
+    let inside : at + slot_size ≤ length r = omega (arith, slot_at.ensures, c.requires.0, c.requires.1, c.requires.2) in
     let d : at + slot_size - at ≡ slot_size = omega arith in
-    let slot : w.new.0 ≡ used_slot (take slot_size (drop at r)) = w.ensures ∙ ap (λ (k : ℕ). used_slot (take k (drop at r))) d in
-    put_part r w.new.0 at slot_size (ap length slot ∙ length_used (take slot_size (drop at r)) (length_part r at slot_size inside))
+    let slot : w.new.slot ≡ used_slot (take slot_size (drop at r)) = w.ensures ∙ ap (λ (k : ℕ). used_slot (take k (drop at r))) d in
+    put_part r w.new.slot at slot_size (ap length slot ∙ length_used (take slot_size (drop at r)) (length_part r at slot_size inside))
     ∙ ap (put r at) slot ∙ ap (λ (k : ℕ). put r k (used_slot (take slot_size (drop k r)))) slot_at.ensures

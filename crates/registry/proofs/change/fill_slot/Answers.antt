@@ -14,11 +14,10 @@ use Rattle.registry.proofs.change.fill_slot.Goals as goal
 pub returns : goal.returns
 unfolding changed
 returns c =
-    let s = c in
     let slot_at = c.slot_at-a in
-    let r : List ℕ = s.args.registry.now in
+    let r : List ℕ = c.args.registry.now in
     let at : ℕ = slot_at.result in
     let w = c.write_key in
-    let key = key_from s.args.name.now s.args.bytes.now s.args.bits s.args.exported s.args.verified in
-    put_part r w.new.0 at slot_size (ap length w.ensures ∙ length_key key s.requires.3 s.requires.4)
+    let key = key_from c.args.name.now c.args.bytes.now c.args.bits c.args.exported c.args.verified in
+    put_part r w.new.slot at slot_size (ap length w.ensures ∙ length_key key c.requires.3 c.requires.4)
     ∙ ap (put r at) w.ensures ∙ ap (λ (k : ℕ). put r k (key_bytes key)) slot_at.ensures

@@ -9,34 +9,29 @@ use borrow.Author.Rules.{rules}
 use borrow.Author.Tests.{not-true, not-false}
 use lib.ListN.{take, drop}
 use Rattle.registry.proofs.check.are_lines.Goals as goal
+use Rattle.registry.proofs.check.are_lines.Goals.{After-is_line}
 
-abbrev After-is-line : Type 0
-After-is-line = goal.After-is_line
-
-abbrev start : After-is-line → goal.Start
-start c = c
-
-abbrev i : After-is-line → ℕ
-i c = c.before.before.before.loop.i
+abbrev i : After-is_line → ℕ
+i c = c.loop-i.i
 
 -- the block that was tested
-tested : (c : After-is-line) → c.is-line.result ≡ well_formed_line (take line_size (drop (i c * line_size) (start c).args.registry.now))
+tested : (c : After-is_line) → c.is_line.result ≡ well_formed_line (take line_size (drop (i c * line_size) c.args.registry.now))
 tested c =
     let n : i c * line_size + line_size - i c * line_size ≡ line_size = omega arith in
-    c.is-line.ensures ∙ ap (λ (m : ℕ). well_formed_line (take m (drop (i c * line_size) (start c).args.registry.now))) n
+    c.is_line.ensures ∙ ap (λ (m : ℕ). well_formed_line (take m (drop (i c * line_size) c.args.registry.now))) n
 
 pub loop-i-init : goal.loop-i-init
 loop-i-init c = (search rules, refl)
 
 pub returns-then-not-is_line : goal.returns-then-not-is_line
 returns-then-not-is_line c =
-    let w = c in
-    sym (w.loop-i.invariant.1 ∙ blocks_fail well_formed_line line_size (start w).args.n (start w).args.registry.now (i w) w.loop-i-test.true (sym (tested w) ∙ not-true _ c.if-not-is_line.true))
+    let w = (goal.at.returns-then-not-is_line c).After-is_line in
+    sym (c.loop-i.invariant.1 ∙ blocks_fail well_formed_line line_size c.args.n c.args.registry.now (i w) c.loop-i-test.true (sym (tested w) ∙ not-true _ c.if-not-is_line.true))
 
 pub loop-i-preserved : goal.loop-i-preserved
 loop-i-preserved c =
-    let w = c in
-    (search rules, w.loop-i.invariant.1 ∙ blocks_pass well_formed_line line_size (start w).args.n (start w).args.registry.now (i w) w.loop-i-test.true (sym (tested w) ∙ not-false _ c.if-not-is_line.false))
+    let w = (goal.at.loop-i-preserved c).After-is_line in
+    (search rules, c.loop-i.invariant.1 ∙ blocks_pass well_formed_line line_size c.args.n c.args.registry.now (i w) c.loop-i-test.true (sym (tested w) ∙ not-false _ c.if-not-is_line.false))
 
 pub returns : goal.returns
 returns c =

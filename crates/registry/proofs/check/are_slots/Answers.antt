@@ -11,39 +11,34 @@ use borrow.Author.Rules.{rules}
 use borrow.Author.Tests.{not-true, not-false}
 use lib.ListN.{take, drop}
 use Rattle.registry.proofs.check.are_slots.Goals as goal
+use Rattle.registry.proofs.check.are_slots.Goals.{After-is_slot}
 
-abbrev After-is-slot : Type 0
-After-is-slot = goal.After-is_slot
+abbrev i : After-is_slot → ℕ
+i c = c.loop-i.i
 
-abbrev start : After-is-slot → goal.Start
-start c = c
-
-abbrev i : After-is-slot → ℕ
-i c = c.before.before.before.loop.i
-
-abbrev slots : After-is-slot → List ℕ
-slots c = drop line_head (start c).args.line.now
+abbrev slots : After-is_slot → List ℕ
+slots c = drop line_head c.args.line.now
 
 -- the block that was tested
-tested : (c : After-is-slot) → c.is-slot.result ≡ well_formed_slot (take slot_size (drop (i c * slot_size) (slots c)))
+tested : (c : After-is_slot) → c.is_slot.result ≡ well_formed_slot (take slot_size (drop (i c * slot_size) (slots c)))
 tested c =
-    let line = (start c).args.line.now in
+    let line = c.args.line.now in
     let a : ℕ = line_head + i c * slot_size in
     let n : a + slot_size - a ≡ slot_size = omega arith in
-    c.is-slot.ensures ∙ ap (λ (m : ℕ). well_formed_slot (take m (drop a line))) n ∙ ap (λ (b : List ℕ). well_formed_slot (take slot_size b)) (sym (drop-drop (i c * slot_size) line_head line))
+    c.is_slot.ensures ∙ ap (λ (m : ℕ). well_formed_slot (take m (drop a line))) n ∙ ap (λ (b : List ℕ). well_formed_slot (take slot_size b)) (sym (drop-drop (i c * slot_size) line_head line))
 
 pub loop-i-init : goal.loop-i-init
 loop-i-init c = (search rules, refl)
 
 pub returns-then-not-is_slot : goal.returns-then-not-is_slot
 returns-then-not-is_slot c =
-    let w = c in
-    sym (w.loop-i.invariant.1 ∙ blocks_fail well_formed_slot slot_size (start w).args.n (slots w) (i w) w.loop-i-test.true (sym (tested w) ∙ not-true _ c.if-not-is_slot.true))
+    let w = (goal.at.returns-then-not-is_slot c).After-is_slot in
+    sym (c.loop-i.invariant.1 ∙ blocks_fail well_formed_slot slot_size c.args.n (slots w) (i w) c.loop-i-test.true (sym (tested w) ∙ not-true _ c.if-not-is_slot.true))
 
 pub loop-i-preserved : goal.loop-i-preserved
 loop-i-preserved c =
-    let w = c in
-    (search rules, w.loop-i.invariant.1 ∙ blocks_pass well_formed_slot slot_size (start w).args.n (slots w) (i w) w.loop-i-test.true (sym (tested w) ∙ not-false _ c.if-not-is_slot.false))
+    let w = (goal.at.loop-i-preserved c).After-is_slot in
+    (search rules, c.loop-i.invariant.1 ∙ blocks_pass well_formed_slot slot_size c.args.n (slots w) (i w) c.loop-i-test.true (sym (tested w) ∙ not-false _ c.if-not-is_slot.false))
 
 pub returns : goal.returns
 returns c =

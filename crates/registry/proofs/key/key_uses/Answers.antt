@@ -9,19 +9,21 @@ use Rattle.registry.proofs.UseLaws.{uses_there}
 use Rattle.registry.proofs.WellFormedLaws.{good_of}
 use borrow.Author.Rules.{rules}
 use Rattle.registry.proofs.key.key_uses.Goals as goal
+use Rattle.registry.proofs.key.key_uses.Goals.{Start}
 
-abbrev at : goal.Start → ℕ
+abbrev at : Start → ℕ
 at c = place c.args.line c.args.slot
 
-room : (c : goal.Start) → at c + slot_size ≤ length c.args.registry.now
+room : (c : Start) → at c + slot_size ≤ length c.args.registry.now
 room c = omega (arith, (good_of c.args.registry.now c.requires.0).size, c.requires.1, c.requires.2)
 
 pub read_u32-requires : goal.read_u32-requires
-read_u32-requires c = omega (arith, c.slot_at-a.ensures, room c)
+read_u32-requires c =
+    let w = (goal.at.read_u32-requires c).Start in
+    omega (arith, c.slot_at-a.ensures, room w)
 
 pub returns : goal.returns
 returns c =
-    let s = c in
     c.read_u32.ensures
-    ∙ ap (λ (k : ℕ). field (k + uses_at) 4 s.args.registry.now) c.slot_at-a.ensures
-    ∙ sym (uses_there s.args.registry.now s.args.line s.args.slot.0 s.requires.2)
+    ∙ ap (λ (k : ℕ). field (k + uses_at) 4 c.args.registry.now) c.slot_at-a.ensures
+    ∙ sym (uses_there c.args.registry.now c.args.line c.args.slot.0 c.requires.2)

@@ -12,11 +12,10 @@ use Rattle.registry.proofs.lines.clear_lines.Goals as goal
 
 pub returns : goal.returns
 returns c =
-    let s = c in
-    let r : List ℕ = s.args.registry.now in
-    let at : ℕ = s.args.n * line_size in
-    let within : at ≤ length r = omega (arith, s.requires.0, s.requires.1) in
+    let r : List ℕ = c.args.registry.now in
+    let at : ℕ = c.args.n * line_size in
+    let within : at ≤ length r = omega (arith, c.requires.0, c.requires.1) in
     let long : length (take at r) ≡ at = length-take-le at r within in
     let whole : r ≡ over (take at r) r = rw long (sym (take-append-drop at r)) in
-    zeros_on (take at r) r r c.clear.new.0 at (sym long) (omega arith) whole c.clear.ensures
-    ∙ ap (λ (n : ℕ). padded n (take at r)) s.requires.0
+    zeros_on (take at r) r r c.clear.new.dst at (sym long) (omega arith) whole c.clear.ensures
+    ∙ ap (λ (n : ℕ). padded n (take at r)) c.requires.0

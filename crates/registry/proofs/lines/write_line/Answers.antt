@@ -12,7 +12,6 @@ use Rattle.registry.proofs.lines.write_line.Goals as goal
 pub returns : goal.returns
 returns c =
     let w = c.write_keyless in
-    let s = c in
-    let r : List ℕ = s.args.registry.now in
-    let at : ℕ = s.args.line.0 * line_size in
-    put_part r w.new.0 at line_size (ap length w.ensures ∙ line_long s.args.name.now s.requires.2) ∙ ap (put r at) w.ensures
+    let r : List ℕ = c.args.registry.now in
+    let at : ℕ = c.args.line.0 * line_size in
+    put_part r w.new.bytes at line_size (ap length w.ensures ∙ line_long c.args.name.now c.requires.2) ∙ ap (put r at) w.ensures

@@ -20,73 +20,86 @@ use Rattle.registry.specs.code.Check.{mark_in}
 use Rattle.registry.proofs.BlockNameLaws.{fits}
 use Rattle.registry.proofs.MarkLaws.{AllSound, sound_all, name_part, mark_of, Marked, marked_none, marked_more}
 use Rattle.registry.proofs.marks.are_marks_apart.Goals as goal
+use Rattle.registry.proofs.marks.are_marks_apart.Goals.{After-mark_of-mark, Else-is_repeated, In-loop-i}
 
-abbrev In-loop : Type 0
-In-loop = goal.In-loop-i
+abbrev line : In-loop-i → List ℕ
+line c = c.args.line.now
 
-abbrev start : In-loop → goal.Start
-start c = c
+abbrev line_2 : After-mark_of-mark → List ℕ
+line_2 c = c.args.line.now
 
-abbrev line : In-loop → List ℕ
-line c = (start c).args.line.now
+abbrev line_3 : Else-is_repeated → List ℕ
+line_3 c = c.args.line.now
 
-abbrev i : In-loop → ℕ
-i c = c.before.loop.i
+abbrev i : In-loop-i → ℕ
+i c = c.loop-i.i
 
-abbrev at : In-loop → ℕ
+abbrev i_2 : After-mark_of-mark → ℕ
+i_2 c = c.loop-i.i
+
+abbrev i_3 : Else-is_repeated → ℕ
+i_3 c = c.loop-i.i
+
+abbrev at : In-loop-i → ℕ
 at c = line_head + i c * slot_size
 
-room : (c : In-loop) → at c + slot_size ≤ length (line c)
-room c = omega (arith, fits (i c) slot_count slot_size c.loop-test.true, (start c).requires.0)
+abbrev at_2 : After-mark_of-mark → ℕ
+at_2 c = line_head + i_2 c * slot_size
+
+abbrev at_3 : Else-is_repeated → ℕ
+at_3 c = line_head + i_3 c * slot_size
+
+room : (c : In-loop-i) → at c + slot_size ≤ length (line c)
+room c = omega (arith, fits (i c) slot_count slot_size c.loop-i-test.true, c.requires.0)
 
 -- ---- the slots of the line
 
 behind : (l : List ℕ) → length l ≡ line_size → length (drop line_head l) ≡ slot_count * slot_size
 behind l e = length-drop line_head l ∙ omega (arith, e)
 
-all_sound : (c : In-loop) → AllSound (slots_in (line c))
-all_sound c = sound_all (slots_in (line c)) (sized_blocks slot_size slot_count (drop line_head (line c)) (behind (line c) (start c).requires.0)) (start c).requires.1
+all_sound : (c : In-loop-i) → AllSound (slots_in (line c))
+all_sound c = sound_all (slots_in (line c)) (sized_blocks slot_size slot_count (drop line_head (line c)) (behind (line c) c.requires.0)) c.requires.1
 
-abbrev slot : In-loop → List ℕ
-slot c = get_or (slots_in (line c)) (i c) []
+abbrev slot : After-mark_of-mark → List ℕ
+slot c = get_or (slots_in (line_2 c)) (i_2 c) []
 
-there : (c : In-loop) → slot c ≡ take slot_size (drop (at c) (line c))
-there c = block_at_lem slot_size slot_count (drop line_head (line c)) (i c) c.loop-test.true ∙ ap (take slot_size) (drop-drop (i c * slot_size) line_head (line c))
+abbrev slot_2 : Else-is_repeated → List ℕ
+slot_2 c = get_or (slots_in (line_3 c)) (i_3 c) []
 
-abbrev Marking : Type 0
-Marking = goal.After-mark_of-mark
+there : (c : After-mark_of-mark) → slot c ≡ take slot_size (drop (at_2 c) (line_2 c))
+there c = block_at_lem slot_size slot_count (drop line_head (line_2 c)) (i_2 c) c.loop-i-test.true ∙ ap (take slot_size) (drop-drop (i_2 c * slot_size) line_head (line_2 c))
 
-marked : (c : Marking) → let t = c.before.before in c.mark_of.result ≡ mark_of (slot t)
+
+there_2 : (c : Else-is_repeated) → slot_2 c ≡ take slot_size (drop (at_3 c) (line_3 c))
+there_2 c = block_at_lem slot_size slot_count (drop line_head (line_3 c)) (i_3 c) c.loop-i-test.true ∙ ap (take slot_size) (drop-drop (i_3 c * slot_size) line_head (line_3 c))
+
+
+marked : (c : Else-is_repeated) → c.mark_of-mark.result ≡ mark_of (slot_2 c)
 marked c =
-    let t = c.before.before in
-    let k : at t + data_length_at - at t ≡ data_length_at = omega arith in
-    c.mark_of.ensures
-    ∙ ap (λ (n : ℕ). mark_in (take n (drop (at t) (line t)))) k
-    ∙ ap mark_in (sym (ap name_part (there t) ∙ part_of_part data_length_at 0 slot_size (drop (at t) (line t)) (omega arith)))
+    let k : at_3 c + data_length_at - at_3 c ≡ data_length_at = omega arith in
+    c.mark_of-mark.ensures
+    ∙ ap (λ (n : ℕ). mark_in (take n (drop (at_3 c) (line_3 c)))) k
+    ∙ ap mark_in (sym (ap name_part (there_2 c) ∙ part_of_part data_length_at 0 slot_size (drop (at_3 c) (line_3 c)) (omega arith)))
 
 -- ---- a slot that is passed
 
-abbrev Passed : Type 0
-Passed = goal.Else-is_repeated
 
-abbrev marking : Passed → Marking
-marking c = c.before.before.before.before
 
-abbrev turn : Passed → In-loop
-turn c = (marking c).before.before
+abbrev turn : Else-is_repeated → Else-is_repeated
+turn c = c
 
-first_byte : (c : In-loop) → get_or (slot c) 0 0 ≡ get_or (line c) (at c) 0
+first_byte : (c : Else-is_repeated) → get_or (slot_2 c) 0 0 ≡ get_or (line_3 c) (at_3 c) 0
 first_byte c =
-    ap (λ (l : List ℕ). get_or l 0 0) (there c) ∙ get_or-take slot_size (drop (at c) (line c)) 0 0 (omega arith) ∙ get_or-drop (at c) (line c) 0 0
-    ∙ ap (λ (k : ℕ). get_or (line c) k 0) (add-zero (at c))
+    ap (λ (l : List ℕ). get_or l 0 0) (there_2 c) ∙ get_or-take slot_size (drop (at_3 c) (line_3 c)) 0 0 (omega arith) ∙ get_or-drop (at_3 c) (line_3 c) 0 0
+    ∙ ap (λ (k : ℕ). get_or (line_3 c) k 0) (add-zero (at_3 c))
 
-apart : (c : Passed) → (get_or (slot (turn c)) 0 0 ≡ 0 → ⊥) → all (differs_from (mark_of (slot (turn c)))) (turn c).before.loop.marks ≡ true
+apart : (c : Else-is_repeated) → (get_or (slot_2 (turn c)) 0 0 ≡ 0 → ⊥) → all (differs_from (mark_of (slot_2 (turn c)))) (turn c).before.loop.marks ≡ true
 apart c h =
     let t = turn c in
-    let named : eqb (get_or (line t) (at t) 0) 0 ≡ false = ne_eqb _ 0 (λ z. h (first_byte t ∙ z)) in
-    let others : Bool = all (differs_from (marking c).mark_of.result) t.before.loop.marks in
-    let none : not others ≡ false = sym (ap (λ (b : Bool). not b && not others) named) ∙ sym c.before.is-repeated.ensures ∙ c.if1.false in
-    ap (λ (m : ℕ). all (differs_from m) t.before.loop.marks) (sym (marked (marking c))) ∙ not-false others none
+    let named : eqb (get_or (line_3 t) (at_3 t) 0) 0 ≡ false = ne_eqb _ 0 (λ z. h (first_byte t ∙ z)) in
+    let others : Bool = all (differs_from c.mark_of-mark.result) t.before.loop.marks in
+    let none : not others ≡ false = sym (ap (λ (b : Bool). not b && not others) named) ∙ sym c.is_repeated.ensures ∙ c.if-is_repeated.false in
+    ap (λ (m : ℕ). all (differs_from m) t.before.loop.marks) (sym (marked c)) ∙ not-false others none
 
 pub loop-i-init : goal.loop-i-init
 loop-i-init c = (omega arith, (refl, marked_none _ _))
@@ -105,15 +118,17 @@ slice_bounds-mark_of-end c = omega (arith, room c)
 
 pub mark_of-mark-requires : goal.mark_of-mark-requires
 mark_of-mark-requires c =
-    let t = c in
-    let k : at t + data_length_at - at t ≡ data_length_at = omega arith in
-    length_part (line t) (at t) (at t + data_length_at - at t) (omega (arith, room t)) ∙ k
+    let w = (goal.at.mark_of-mark-requires c).In-loop-i in
+    let k : at w + data_length_at - at w ≡ data_length_at = omega arith in
+    length_part (line w) (at w) (at w + data_length_at - at w) (omega (arith, room w)) ∙ k
 
 pub slice_bounds-is_repeated-end : goal.slice_bounds-is_repeated-end
 slice_bounds-is_repeated-end c = sym c.loop-i.invariant.1.0
 
 pub bounds-line-a : goal.bounds-line-a
-bounds-line-a c = let t = c in omega (arith, room t)
+bounds-line-a c =
+    let w = (goal.at.bounds-line-a c).In-loop-i in
+    omega (arith, room w)
 
 pub returns-then-is_repeated : goal.returns-then-is_repeated
 returns-then-is_repeated c = λ e. absurd (false≢true e)
@@ -132,17 +147,18 @@ loop-i-smaller c = omega (arith, (turn c).loop-test.true)
 
 pub loop-i-preserved : goal.loop-i-preserved
 loop-i-preserved c =
+    let w = (goal.at.loop-i-preserved c).In-loop-i in
     let t = turn c in
     let l = t.before.loop in
     let h : l.i < slot_count = t.loop-test.taken in
-    let few : l.i < length (slots_in (line t)) = rw (length_blocks slot_size slot_count (drop line_head (line t))) h in
+    let few : l.i < length (slots_in (line_3 t)) = rw (length_blocks slot_size slot_count (drop line_head (line_3 t))) h in
     let wide : l.i < length l.marks = rw l.inv.1.0 h in
-    let more : Marked (slots_in (line t)) (set l.marks l.i (mark_of (slot t))) (l.i + 1)
-    = marked_more (slots_in (line t)) (all_sound t) l.marks l.i few wide l.inv.1.1 (apart c) in (
+    let more : Marked (slots_in (line_3 t)) (set l.marks l.i (mark_of (slot_2 t))) (l.i + 1)
+    = marked_more (slots_in (line_3 t)) (all_sound t) l.marks l.i few wide l.inv.1.1 (apart c) in (
       omega (arith, h),
       (
-        length-set l.marks l.i (marking c).mark_of.result ∙ l.inv.1.0,
-        subst (λ (m : ℕ). Marked (slots_in (line t)) (set l.marks l.i m) (l.i + 1)) (sym (marked (marking c))) more,
+        length-set l.marks l.i c.mark_of-mark.result ∙ l.inv.1.0,
+        subst (λ (m : ℕ). Marked (slots_in (line_3 t)) (set l.marks l.i m) (l.i + 1)) (sym (marked c)) more,
       ),
     )
 

@@ -13,7 +13,6 @@ pub returns : goal.returns
 unfolding used_slot
 returns c =
     let w = c.write_u32 in
-    let s = c in
-    let n : ℕ = used (uses_in s.args.slot.now) in
-    let v : w.new.0 ≡ little_endian_of 4 n = w.ensures ∙ ap (little_endian_of 4) (c.one_more.ensures ∙ ap used c.read_u32-uses.ensures) in
-    put_part s.args.slot.now w.new.0 uses_at 4 (ap length v ∙ length_number 4 n) ∙ ap (put s.args.slot.now uses_at) v
+    let n : ℕ = used (uses_in c.args.slot.now) in
+    let v : w.new.dst ≡ little_endian_of 4 n = w.ensures ∙ ap (little_endian_of 4) (c.one_more.ensures ∙ ap used c.read_u32-uses.ensures) in
+    put_part c.args.slot.now w.new.dst uses_at 4 (ap length v ∙ length_number 4 n) ∙ ap (put c.args.slot.now uses_at) v

@@ -18,122 +18,228 @@ use Rattle.records.proofs.RecordLaws.{whole_room}
 use Rattle.roster.specs.code.Check.{loaded_of, names_at}
 use Rattle.roster.proofs.LoadLaws.{fault_cut, fault_tag, fault_name, fault_ninth, fault_repeated, fault_none, names_many}
 use Rattle.roster.proofs.check.check_record.Goals as goal
+use Rattle.roster.proofs.check.check_record.Goals.{After-is_legal, After-is_repeated, After-is_whole, After-shared_slice_known-2-1, Else-bytes-ne1, Else-names-ge-LINES, Else-not-is_legal, Else-not-is_whole, Start}
 
-abbrev names : goal.Start → List (List ℕ)
+abbrev names : Start → List (List ℕ)
 names c = names_at c.args.file.now c.args.names
 
-abbrev bytes : goal.Start → List ℕ
+abbrev names_2 : Else-names-ge-LINES → List (List ℕ)
+names_2 c = names_at c.args.file.now c.args.names
+
+abbrev names_3 : After-is_repeated → List (List ℕ)
+names_3 c = names_at c.args.file.now c.args.names
+
+abbrev bytes : After-is_whole → List ℕ
 bytes c = drop c.args.at c.args.file.now
 
+abbrev bytes_2 : Else-not-is_whole → List ℕ
+bytes_2 c = drop c.args.at c.args.file.now
+
+abbrev bytes_3 : After-shared_slice_known-2-1 → List ℕ
+bytes_3 c = drop c.args.at c.args.file.now
+
+abbrev bytes_4 : Else-bytes-ne1 → List ℕ
+bytes_4 c = drop c.args.at c.args.file.now
+
+abbrev bytes_5 : After-is_legal → List ℕ
+bytes_5 c = drop c.args.at c.args.file.now
+
+abbrev bytes_6 : Else-not-is_legal → List ℕ
+bytes_6 c = drop c.args.at c.args.file.now
+
+abbrev bytes_7 : After-is_repeated → List ℕ
+bytes_7 c = drop c.args.at c.args.file.now
+
 -- the entry, from behind each test that passed
-abbrev start1 : goal.Else-not-is_whole → goal.Start
-start1 c = c
 
-abbrev start2 : goal.Else-bytes-ne1 → goal.Start
-start2 c = start1 c
+abbrev start2 : Else-bytes-ne1 → Else-bytes-ne1
+start2 c = c
 
-abbrev start3 : goal.Else-not-is_legal → goal.Start
-start3 c = start2 c
+-- the entry, from behind each test that passed
 
-abbrev start4 : goal.Else-names-ge-LINES → goal.Start
-start4 c = start3 c
+abbrev start2_2 : After-is_legal → After-is_legal
+start2_2 c = c
+
+-- the entry, from behind each test that passed
+
+abbrev start2_3 : Else-not-is_legal → Else-not-is_legal
+start2_3 c = c
+
+-- the entry, from behind each test that passed
+
+abbrev start2_4 : Else-names-ge-LINES → Else-names-ge-LINES
+start2_4 c = c
+
+-- the entry, from behind each test that passed
+
+abbrev start2_5 : After-is_repeated → After-is_repeated
+start2_5 c = c
+
+abbrev start3 : Else-not-is_legal → Else-not-is_legal
+start3 c = start2_3 c
+
+abbrev start3_2 : Else-names-ge-LINES → Else-names-ge-LINES
+start3_2 c = start2_4 c
+
+abbrev start3_3 : After-is_repeated → After-is_repeated
+start3_3 c = start2_5 c
+
+abbrev start4 : Else-names-ge-LINES → Else-names-ge-LINES
+start4 c = start3_2 c
+
+abbrev start4_2 : After-is_repeated → After-is_repeated
+start4_2 c = start3_3 c
 
 -- what each test says of the record
-whole_test : (c : goal.After-is_whole) → let s = c in is_whole (bytes s) ≡ c.is_whole.result
+whole_test : (c : After-is_whole) → is_whole (bytes c) ≡ c.is_whole.result
 whole_test c =
-    let s = c in
-    sym (c.is_whole.ensures ∙ ap is_whole (lent s.args.at s.args.file.now))
+    sym (c.is_whole.ensures ∙ ap is_whole (lent c.args.at c.args.file.now))
 
-whole : (c : goal.Else-not-is_whole) → is_whole (bytes (start1 c)) ≡ true
-whole c = whole_test c ∙ not-false _ c.if-not-is_whole.false
+-- what each test says of the record
+whole_test_2 : (c : Else-not-is_whole) → is_whole (bytes_2 c) ≡ c.is_whole.result
+whole_test_2 c =
+    sym (c.is_whole.ensures ∙ ap is_whole (lent c.args.at c.args.file.now))
 
-some_bytes : (c : goal.Else-not-is_whole) → 0 < length (bytes (start1 c))
-some_bytes c = omega (arith, whole_room (bytes (start1 c)) (whole c))
+-- what each test says of the record
+whole_test_3 : (c : After-shared_slice_known-2-1) → is_whole (bytes_3 c) ≡ c.is_whole.result
+whole_test_3 c =
+    sym (c.is_whole.ensures ∙ ap is_whole (lent c.args.at c.args.file.now))
 
-tag_test : (c : goal.After-shared_slice_known-2-1) → let s = start1 c in
-    field 0 1 (bytes s) ≡ get_or (take (length s.args.file.now - s.args.at) (bytes s)) 0 0
+-- what each test says of the record
+whole_test_4 : (c : Else-bytes-ne1) → is_whole (bytes_4 c) ≡ c.is_whole.result
+whole_test_4 c =
+    sym (c.is_whole.ensures ∙ ap is_whole (lent c.args.at c.args.file.now))
+
+whole : (c : Else-not-is_whole) → is_whole (bytes_2 c) ≡ true
+whole c = whole_test_2 c ∙ not-false _ c.if-not-is_whole.false
+
+whole_2 : (c : After-shared_slice_known-2-1) → is_whole (bytes_3 c) ≡ true
+whole_2 c = whole_test_3 c ∙ not-false _ c.if-not-is_whole.false
+
+whole_3 : (c : Else-bytes-ne1) → is_whole (bytes_4 c) ≡ true
+whole_3 c = whole_test_4 c ∙ not-false _ c.if-not-is_whole.false
+
+some_bytes : (c : Else-not-is_whole) → 0 < length (bytes_2 c)
+some_bytes c = omega (arith, whole_room (bytes_2 c) (whole c))
+
+some_bytes_2 : (c : After-shared_slice_known-2-1) → 0 < length (bytes_3 c)
+some_bytes_2 c = omega (arith, whole_room (bytes_3 c) (whole_2 c))
+
+some_bytes_3 : (c : Else-bytes-ne1) → 0 < length (bytes_4 c)
+some_bytes_3 c = omega (arith, whole_room (bytes_4 c) (whole_3 c))
+
+tag_test : (c : After-shared_slice_known-2-1) → 
+    field 0 1 (bytes_3 c) ≡ get_or (take (length c.args.file.now - c.args.at) (bytes_3 c)) 0 0
 tag_test c =
-    let s = start1 c in
-    field_byte 0 (bytes s) (some_bytes c) ∙ sym (ap (λ (l : List ℕ). get_or l 0 0) (lent s.args.at s.args.file.now))
+    field_byte 0 (bytes_3 c) (some_bytes_2 c) ∙ sym (ap (λ (l : List ℕ). get_or l 0 0) (lent c.args.at c.args.file.now))
 
-tag : (c : goal.Else-bytes-ne1) → eqb (field 0 1 (bytes (start2 c))) 1 ≡ true
-tag c = eq-eqb _ 1 (tag_test c ∙ c.if-bytes-ne1.false)
+tag_test_2 : (c : Else-bytes-ne1) → 
+    field 0 1 (bytes_4 c) ≡ get_or (take (length c.args.file.now - c.args.at) (bytes_4 c)) 0 0
+tag_test_2 c =
+    field_byte 0 (bytes_4 c) (some_bytes_3 c) ∙ sym (ap (λ (l : List ℕ). get_or l 0 0) (lent c.args.at c.args.file.now))
 
-value : (c : goal.After-value_in-name) → c.value_in-name.result.now ≡ value_in (bytes (start2 c))
+tag : (c : Else-bytes-ne1) → eqb (field 0 1 (bytes_4 (start2 c))) 1 ≡ true
+tag c = eq-eqb _ 1 (tag_test_2 c ∙ c.if-bytes-ne1.false)
+
+value : (c : After-is_legal) → c.value_in-name.result.now ≡ value_in (bytes_5 (start2_2 c))
 value c =
-    let s = start2 c in
+    let s = start2_2 c in
     c.value_in-name.ensures ∙ ap value_in (lent s.args.at s.args.file.now)
 
-legal_test : (c : goal.After-is_legal) → legal_name application_name_most (value_in (bytes (start2 c))) ≡ c.is_legal.result
+value_2 : (c : Else-not-is_legal) → c.value_in-name.result.now ≡ value_in (bytes_6 (start2_3 c))
+value_2 c =
+    let s = start2_3 c in
+    c.value_in-name.ensures ∙ ap value_in (lent s.args.at s.args.file.now)
+
+value_3 : (c : After-is_repeated) → c.value_in-name.result.now ≡ value_in (bytes_7 (start2_5 c))
+value_3 c =
+    let s = start2_5 c in
+    c.value_in-name.ensures ∙ ap value_in (lent s.args.at s.args.file.now)
+
+legal_test : (c : After-is_legal) → legal_name application_name_most (value_in (bytes_5 (start2_2 c))) ≡ c.is_legal.result
 legal_test c = sym (c.is_legal.ensures ∙ ap (legal_name application_name_most) (value c))
 
-legal : (c : goal.Else-not-is_legal) → legal_name application_name_most (value_in (bytes (start3 c))) ≡ true
-legal c = legal_test c ∙ not-false _ c.if-not-is_legal.false
+legal_test_2 : (c : Else-not-is_legal) → legal_name application_name_most (value_in (bytes_6 (start2_3 c))) ≡ c.is_legal.result
+legal_test_2 c = sym (c.is_legal.ensures ∙ ap (legal_name application_name_most) (value_2 c))
 
-many : (s : goal.Start) → length (names s) ≡ s.args.names.count
+legal : (c : Else-not-is_legal) → legal_name application_name_most (value_in (bytes_6 (start3 c))) ≡ true
+legal c = legal_test_2 c ∙ not-false _ c.if-not-is_legal.false
+
+many : (s : Start) → length (names s) ≡ s.args.names.count
 many s = names_many s.args.file.now s.args.names s.requires.1
 
-room : (c : goal.Else-names-ge-LINES) → leb line_count (length (names (start4 c))) ≡ false
-room c = lt-leb line_count (length (names (start4 c))) (rw (many (start4 c)) c.if-names-ge-LINES.false)
+many_2 : (s : Else-names-ge-LINES) → length (names_2 s) ≡ s.args.names.count
+many_2 s = names_many s.args.file.now s.args.names s.requires.1
 
-absent_test : (c : goal.After-is_repeated) → let s = start4 c in is_new (value_in (bytes s)) (names s) ≡ not c.is_repeated.result
+room : (c : Else-names-ge-LINES) → leb line_count (length (names_2 (start4 c))) ≡ false
+room c = lt-leb line_count (length (names_2 (start4 c))) (rw (many_2 (start4 c)) c.if-names-ge-LINES.false)
+
+absent_test : (c : After-is_repeated) → let s = start4_2 c in is_new (value_in (bytes_7 s)) (names_3 s) ≡ not c.is_repeated.result
 absent_test c =
-    let s = start4 c in
-    let v = value c in
-    not_across _ _ (sym (c.is_repeated.ensures ∙ ap (λ (n : List ℕ). not (is_new n (names s))) v))
+    let s = start4_2 c in
+    let v = value_3 c in
+    not_across _ _ (sym (c.is_repeated.ensures ∙ ap (λ (n : List ℕ). not (is_new n (names_3 s))) v))
 
 pub returns-then-not-is_whole : goal.returns-then-not-is_whole
 unfolding loaded_of
 returns-then-not-is_whole c =
-    let s = c in
-    rw (fault_cut (names s) (bytes s) (whole_test c ∙ not-true _ c.if-not-is_whole.true))
+    let w = (goal.at.returns-then-not-is_whole c).Start in
+    let w' = (goal.at.returns-then-not-is_whole c).After-is_whole in
+    rw (fault_cut (names w) (bytes w') (whole_test w' ∙ not-true _ c.if-not-is_whole.true))
 
 pub bounds-bytes-0 : goal.bounds-bytes-0
 bounds-bytes-0 c =
-    let s = start1 c in
-    omega (arith, some_bytes c, ap length (lent s.args.at s.args.file.now))
+    let w = (goal.at.bounds-bytes-0 c).Else-not-is_whole in
+    omega (arith, some_bytes w, ap length (lent c.args.at c.args.file.now))
 
 pub returns-then-bytes-ne1 : goal.returns-then-bytes-ne1
 unfolding loaded_of
 returns-then-bytes-ne1 c =
-    let e = c in
-    let s = start1 e in
-    rw (fault_tag (names s) (bytes s) (whole e) (ne_eqb _ 1 (λ q. c.if-bytes-ne1.true (sym (tag_test c) ∙ q))))
+    let w = (goal.at.returns-then-bytes-ne1 c).Start in
+    let w' = (goal.at.returns-then-bytes-ne1 c).After-shared_slice_known-2-1 in
+    rw (fault_tag (names w) (bytes_3 w') (whole_2 w') (ne_eqb _ 1 (λ q. c.if-bytes-ne1.true (sym (tag_test w') ∙ q))))
 
 pub value_in-name-requires : goal.value_in-name-requires
 value_in-name-requires c =
     let s = start2 c in
-    ap is_whole (lent s.args.at s.args.file.now) ∙ whole c
+    ap is_whole (lent s.args.at s.args.file.now) ∙ whole_3 c
 
 pub returns-then-not-is_legal : goal.returns-then-not-is_legal
 unfolding loaded_of
 returns-then-not-is_legal c =
-    let e = c in
-    let s = start2 e in
-    rw (fault_name (names s) (bytes s) (whole e) (tag e) (legal_test c ∙ not-true _ c.if-not-is_legal.true))
+    let w = (goal.at.returns-then-not-is_legal c).Start in
+    let w' = (goal.at.returns-then-not-is_legal c).After-is_legal in
+    let w2 = (goal.at.returns-then-not-is_legal c).Else-bytes-ne1 in
+    let s = start2_2 w' in
+    rw (fault_name (names s) (bytes s) (whole_3 w2) (tag w2) (legal_test w' ∙ not-true _ c.if-not-is_legal.true))
 
 pub returns-then-names-ge-LINES : goal.returns-then-names-ge-LINES
 unfolding loaded_of
 returns-then-names-ge-LINES c =
-    let e = c in
-    let s = start3 e in
-    let f = e in
-    rw (fault_ninth (names s) (bytes s) (whole f) (tag f) (legal e) (le-leb line_count (length (names s)) (rw (many s) c.if-names-ge-LINES.true)))
+    let w = (goal.at.returns-then-names-ge-LINES c).Start in
+    let w' = (goal.at.returns-then-names-ge-LINES c).Else-not-is_legal in
+    let w2 = (goal.at.returns-then-names-ge-LINES c).Else-bytes-ne1 in
+    let s = start3 w' in
+    rw (fault_ninth (names s) (bytes s) (whole_3 w2) (tag w2) (legal w') (le-leb line_count (length (names s)) (rw (many s) c.if-names-ge-LINES.true)))
 
 pub returns-then-is_repeated : goal.returns-then-is_repeated
 unfolding loaded_of
 returns-then-is_repeated c =
-    let e = c in
-    let s = start4 e in
-    let f = e in
-    let g = f in
-    rw (fault_repeated (names s) (bytes s) (whole g) (tag g) (legal f) (room e) (absent_test c ∙ ap not c.if-is_repeated.true))
+    let w = (goal.at.returns-then-is_repeated c).After-is_repeated in
+    let w' = (goal.at.returns-then-is_repeated c).Else-bytes-ne1 in
+    let w2 = (goal.at.returns-then-is_repeated c).Else-not-is_legal in
+    let w3 = (goal.at.returns-then-is_repeated c).Else-names-ge-LINES in
+    let s = start4_2 w in
+    
+    rw (fault_repeated (names s) (bytes s) (whole_3 w') (tag w') (legal w2) (room w3) (absent_test w ∙ ap not c.if-is_repeated.true))
 
 pub returns : goal.returns
 unfolding loaded_of
 returns c =
-    let e = c in
-    let s = start4 e in
-    let f = e in
-    let g = f in
-    rw (fault_none (names s) (bytes s) (whole g) (tag g) (legal f) (room e) (absent_test c ∙ ap not c.if-is_repeated.false))
+    let w = (goal.at.returns c).After-is_repeated in
+    let w' = (goal.at.returns c).Else-bytes-ne1 in
+    let w2 = (goal.at.returns c).Else-not-is_legal in
+    let w3 = (goal.at.returns c).Else-names-ge-LINES in
+    let s = start4_2 w in
+    
+    rw (fault_none (names s) (bytes s) (whole_3 w') (tag w') (legal w2) (room w3) (absent_test w ∙ ap not c.if-is_repeated.false))

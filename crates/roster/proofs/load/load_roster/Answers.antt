@@ -8,22 +8,22 @@ use Rattle.roster.specs.code.Check.{names_at}
 use Rattle.roster.proofs.RosterLaws.{roster_legal}
 use Rattle.roster.proofs.LoadLaws.{known_good, known_faulty}
 use Rattle.roster.proofs.load.load_roster.Goals as goal
+use Rattle.roster.proofs.load.load_roster.Goals.{After-check_roster-checked, In-Good}
 
-abbrev Checked : Type 0
-Checked = goal.After-check_roster-checked
+abbrev file : After-check_roster-checked → List ℕ
+file c = c.args.file.now
 
-abbrev file : Checked → List ℕ
-file c = c.before.before.before.before.args.file.now
 
-abbrev checked : goal.In-Good → Checked
-checked c = c
+abbrev file_2 : In-Good → List ℕ
+file_2 c = c.args.file.now
 
-names : goal.In-Good → List (List ℕ)
-names c = names_at (file (checked c)) (checked c).check-roster.result.names
 
-good : (c : goal.In-Good) → roster_of (file (checked c)) ≡ applications (names c)
+names : In-Good → List (List ℕ)
+names c = names_at (file_2 c) c.check_roster-checked.result.names
+
+good : (c : In-Good) → roster_of (file_2 c) ≡ applications (names c)
 unfolding names
-good c = known_good (file (checked c)) (checked c).check-roster.result (checked c).check-roster.ensures c.enum_told-1.given.1
+good c = known_good (file_2 c) c.check_roster-checked.result c.check_roster-checked.ensures c.in-Good.is
 
 pub returns-then-registry-ne-REGISTRY_SIZE : goal.returns-then-registry-ne-REGISTRY_SIZE
 unfolding load_roster roster_into
@@ -32,21 +32,18 @@ returns-then-registry-ne-REGISTRY_SIZE c = rw (ne_eqb _ _ c.if-registry-ne-REGIS
 pub write_names-requires : goal.write_names-requires
 unfolding names
 write_names-requires c =
-    let g = c in
-    let k = checked g in
-    (k.before.if1.left, k.check-roster.ensures.within, (roster_legal (file k) (names g) (good g)).legal)
+    let w = (goal.at.write_names-requires c).In-Good in
+    (c.if-registry-ne-REGISTRY_SIZE.left, c.check_roster-checked.ensures.within, (roster_legal (file_2 w) (names w) (good w)).legal)
 
 pub returns-in-Good : goal.returns-in-Good
 unfolding load_roster roster_into names
 returns-in-Good c =
-    let w = c in
-    let g = w in
-    rw (g.enum_told-1.given.1, eq-eqb _ _ (checked g).before.if1.false, good g, w.write_names.ensures)
+    let w = (goal.at.returns-in-Good c).In-Good in
+    rw (c.in-Good.is, eq-eqb _ _ c.if-registry-ne-REGISTRY_SIZE.false, good w, c.write_names.ensures)
 
 pub returns-in_default : goal.returns-in_default
 unfolding load_roster roster_into
 returns-in_default c =
-    let k = c in
-    let v = c.enum_told-in_default-1.given in
-    let bad = known_faulty (file k) k.check_roster-checked.result k.check_roster-checked.ensures v.0.0 v.1 in
-    rw (eq-eqb _ _ k.if-registry-ne-REGISTRY_SIZE.false, bad, v.1)
+    let w = (goal.at.returns-in_default c).After-check_roster-checked in
+    let bad = known_faulty (file w) c.check_roster-checked.result c.check_roster-checked.ensures c.in_default.field-0 c.in_default.is in
+    rw (eq-eqb _ _ c.if-registry-ne-REGISTRY_SIZE.false, bad, c.in_default.is)

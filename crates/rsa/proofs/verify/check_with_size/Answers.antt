@@ -26,8 +26,7 @@ slice_bounds-check_with_modulus-end-5 c = sym (length-take-le _ _ (omega arith))
 
 pub check_with_modulus-requires : goal.check_with_modulus-requires
 check_with_modulus-requires c =
-    let s = c in
-    ((refl, refl, simp length-take (omega arith), simp length-take (omega arith), simp length-take (omega arith)), (simp length-take (omega arith), simp length-take (omega arith), simp length-take (omega (arith, s.requires.2)), s.requires.3))
+    ((refl, refl, simp length-take (omega arith), simp length-take (omega arith), simp length-take (omega arith)), (simp length-take (omega arith), simp length-take (omega arith), simp length-take (omega (arith, c.requires.2)), c.requires.3))
 
 pub returns : goal.returns
 returns c =

@@ -18,12 +18,10 @@ returns-then-not-is_unsigned c =
 -- an INTEGER has a byte
 pub overflow_sub-start : goal.overflow_sub-start
 overflow_sub-start c =
-    let s = c in
-    let u : unsigned s.args.s.now s.args.start s.args.len ≡ true = sym c.is_unsigned.ensures ∙ not-false c.is_unsigned.result c.if-not-is_unsigned.false in
-    omega (arith, some s.args.s.now s.args.start s.args.len (λ i. (c.shared_slice_known-1.given i).fits) s.requires.0 u)
+    let u : unsigned c.args.s.now c.args.start c.args.len ≡ true = sym c.is_unsigned.ensures ∙ not-false c.is_unsigned.result c.if-not-is_unsigned.false in
+    omega (arith, some c.args.s.now c.args.start c.args.len (λ i. (c.shared_slice_known-1.given i).fits) c.requires.0 u)
 
 pub returns : goal.returns
 returns c =
-    let s = c in
-    let u : unsigned s.args.s.now s.args.start s.args.len ≡ true = sym c.is_unsigned.ensures ∙ not-false c.is_unsigned.result c.if-not-is_unsigned.false in
-    ap (λ (n : ℕ). eqb (n % 2) 1) c.byte_at.ensures.0 ∙ law.by_last s.args.s.now s.args.start s.args.len u (λ i. (c.shared_slice_known-1.given i).fits) s.requires.0
+    let u : unsigned c.args.s.now c.args.start c.args.len ≡ true = sym c.is_unsigned.ensures ∙ not-false c.is_unsigned.result c.if-not-is_unsigned.false in
+    ap (λ (n : ℕ). eqb (n % 2) 1) c.byte_at.ensures.0 ∙ law.by_last c.args.s.now c.args.start c.args.len u (λ i. (c.shared_slice_known-1.given i).fits) c.requires.0

@@ -18,89 +18,174 @@ use Rattle.shipped.proofs.PairLaws.{read_pairs, pair_told, pair_not, pair_long, 
 use Rattle.shipped.proofs.ListLaws.{good_list, list_good, list_keys, list_bad, pairs_end, before_more}
 use Rattle.shipped.proofs.MarkLaws.{marked_none, marked_more}
 use Rattle.shipped.proofs.check.are_pairs.Goals as goal
+use Rattle.shipped.proofs.check.are_pairs.Goals.{After-is_repeated, After-pair_length-n, After-value_in-name, Else-count-ge-LISTED_MOST, Else-is_repeated, Else-n-eq0, In-loop-at}
 
-abbrev In-loop : Type 0
-In-loop = goal.In-loop-at
+abbrev list : In-loop-at → List ℕ
+list c = c.args.list.now
 
-abbrev list : In-loop → List ℕ
-list c = c.before.before.before.args.list.now
+abbrev list_2 : After-pair_length-n → List ℕ
+list_2 c = c.args.list.now
 
-abbrev at : In-loop → ℕ
-at c = c.before.loop.at
+abbrev list_3 : Else-n-eq0 → List ℕ
+list_3 c = c.args.list.now
 
-abbrev bytes : In-loop → List ℕ
+abbrev list_4 : Else-count-ge-LISTED_MOST → List ℕ
+list_4 c = c.args.list.now
+
+abbrev list_5 : After-value_in-name → List ℕ
+list_5 c = c.args.list.now
+
+abbrev list_6 : After-is_repeated → List ℕ
+list_6 c = c.args.list.now
+
+abbrev list_7 : Else-is_repeated → List ℕ
+list_7 c = c.args.list.now
+
+abbrev at : In-loop-at → ℕ
+at c = c.loop-at.at
+
+abbrev at_2 : After-pair_length-n → ℕ
+at_2 c = c.loop-at.at
+
+abbrev at_3 : Else-n-eq0 → ℕ
+at_3 c = c.loop-at.at
+
+abbrev at_4 : Else-count-ge-LISTED_MOST → ℕ
+at_4 c = c.loop-at.at
+
+abbrev at_5 : After-value_in-name → ℕ
+at_5 c = c.loop-at.at
+
+abbrev at_6 : After-is_repeated → ℕ
+at_6 c = c.loop-at.at
+
+abbrev at_7 : Else-is_repeated → ℕ
+at_7 c = c.loop-at.at
+
+abbrev bytes : In-loop-at → List ℕ
 bytes c = drop (at c) (list c)
 
-abbrev keys : In-loop → List ListedKey
+abbrev bytes_2 : After-pair_length-n → List ℕ
+bytes_2 c = drop (at_2 c) (list_2 c)
+
+abbrev bytes_3 : Else-n-eq0 → List ℕ
+bytes_3 c = drop (at_3 c) (list_3 c)
+
+abbrev bytes_4 : After-value_in-name → List ℕ
+bytes_4 c = drop (at_5 c) (list_5 c)
+
+abbrev bytes_5 : After-is_repeated → List ℕ
+bytes_5 c = drop (at_6 c) (list_6 c)
+
+abbrev bytes_6 : Else-is_repeated → List ℕ
+bytes_6 c = drop (at_7 c) (list_7 c)
+
+abbrev keys : In-loop-at → List ListedKey
 keys c = keys_in (take (at c) (list c))
 
-some_bytes : (c : In-loop) → 0 < length (bytes c)
-some_bytes c = omega (arith, c.loop-test.true, length-drop (at c) (list c))
+abbrev keys_2 : Else-count-ge-LISTED_MOST → List ListedKey
+keys_2 c = keys_in (take (at_4 c) (list_4 c))
+
+abbrev keys_3 : After-is_repeated → List ListedKey
+keys_3 c = keys_in (take (at_6 c) (list_6 c))
+
+abbrev keys_4 : Else-is_repeated → List ListedKey
+keys_4 c = keys_in (take (at_7 c) (list_7 c))
+
+some_bytes : (c : In-loop-at) → 0 < length (bytes c)
+some_bytes c = omega (arith, c.loop-at-test.true, length-drop (at c) (list c))
 
 -- what the rest gives, the whole gives
-reads : (c : In-loop) → read_pairs (bytes c) (whole (keys c)) ≡ list_of (list c)
-reads c = c.before.loop.invariant.1.1.0
+reads : (c : In-loop-at) → read_pairs (bytes c) (whole (keys c)) ≡ list_of (list c)
+reads c = c.loop-at.invariant.1.1.0
 
-size : (c : goal.After-pair_length-n) → let t = c in c.pair_length-n.result ≡ pair_length (bytes t)
-size c = let t = c in c.pair_length-n.ensures ∙ ap pair_length (lent (at t) (list t))
+size : (c : After-pair_length-n) → c.pair_length-n.result ≡ pair_length (bytes_2 c)
+size c = c.pair_length-n.ensures ∙ ap pair_length (lent (at_2 c) (list_2 c))
 
-abbrev turn1 : goal.Else-n-eq0 → In-loop
-turn1 c = c
 
-pair : (c : goal.Else-n-eq0) → is_pair (bytes (turn1 c)) ≡ true
-pair c = pair_told (bytes (turn1 c)) _ (size c) c.if-n-eq0.false
+size_2 : (c : Else-n-eq0) → c.pair_length-n.result ≡ pair_length (bytes_3 c)
+size_2 c = c.pair_length-n.ensures ∙ ap pair_length (lent (at_3 c) (list_3 c))
 
-abbrev turn2 : goal.Else-count-ge-LISTED_MOST → In-loop
-turn2 c = turn1 c
 
-few : (c : goal.Else-count-ge-LISTED_MOST) → length (keys (turn2 c)) < listed_most
-few c = omega (arith, c.if-count-ge-LISTED_MOST.false, (turn2 c).before.loop.invariant.1.1.1.0)
+size_3 : (c : Else-is_repeated) → c.pair_length-n.result ≡ pair_length (bytes_6 c)
+size_3 c = c.pair_length-n.ensures ∙ ap pair_length (lent (at_7 c) (list_7 c))
 
-abbrev turn3 : goal.After-is_repeated → In-loop
-turn3 c = turn2 c
+
+pair : (c : Else-n-eq0) → is_pair (bytes_3 c) ≡ true
+pair c = pair_told (bytes_3 c) _ (size_2 c) c.if-n-eq0.false
+
+pair_2 : (c : Else-is_repeated) → is_pair (bytes_6 c) ≡ true
+pair_2 c = pair_told (bytes_6 c) _ (size_3 c) c.if-n-eq0.false
+
+abbrev turn2 : Else-count-ge-LISTED_MOST → Else-count-ge-LISTED_MOST
+turn2 c = c
+
+abbrev turn2_2 : After-value_in-name → After-value_in-name
+turn2_2 c = c
+
+abbrev turn2_3 : After-is_repeated → After-is_repeated
+turn2_3 c = c
+
+abbrev turn2_4 : Else-is_repeated → Else-is_repeated
+turn2_4 c = c
+
+few : (c : Else-is_repeated) → length (keys_4 (turn2_4 c)) < listed_most
+few c = omega (arith, c.if-count-ge-LISTED_MOST.false, (turn2_4 c).before.loop.invariant.1.1.1.0)
+
+abbrev turn3 : After-is_repeated → After-is_repeated
+turn3 c = turn2_3 c
+
+abbrev turn3_2 : Else-is_repeated → Else-is_repeated
+turn3_2 c = turn2_4 c
 
 -- the name
-name : (c : goal.After-value_in-name) → let t = turn2 c in c.value_in-name.result.now ≡ value_in (bytes t)
-name c = let t = turn2 c in c.value_in-name.ensures ∙ ap value_in (lent (at t) (list t))
+name : (c : After-is_repeated) → let t = turn2_3 c in c.value_in-name.result.now ≡ value_in (bytes_5 t)
+name c = let t = turn2_3 c in c.value_in-name.ensures ∙ ap value_in (lent (at_6 t) (list_6 t))
 
-new : (c : goal.After-is_repeated) → let t = turn3 c in is_new (value_in (bytes t)) (names_of (keys t)) ≡ not c.is_repeated.result
+-- the name
+name_2 : (c : Else-is_repeated) → let t = turn2_4 c in c.value_in-name.result.now ≡ value_in (bytes_6 t)
+name_2 c = let t = turn2_4 c in c.value_in-name.ensures ∙ ap value_in (lent (at_7 t) (list_7 t))
+
+new : (c : After-is_repeated) → let t = turn3 c in is_new (value_in (bytes_5 t)) (names_of (keys_3 t)) ≡ not c.is_repeated.result
 new c =
     let t = turn3 c in
     not_across _ _
-    (sym (c.is_repeated.ensures ∙ ap (λ (v : List ℕ). not (is_new v (names_of (keys t)))) (name c)))
+    (sym (c.is_repeated.ensures ∙ ap (λ (v : List ℕ). not (is_new v (names_of (keys_3 t)))) (name c)))
+
+new_2 : (c : Else-is_repeated) → let t = turn3_2 c in is_new (value_in (bytes_6 t)) (names_of (keys_4 t)) ≡ not c.is_repeated.result
+new_2 c =
+    let t = turn3_2 c in
+    not_across _ _
+    (sym (c.is_repeated.ensures ∙ ap (λ (v : List ℕ). not (is_new v (names_of (keys_4 t)))) (name_2 c)))
 
 -- ---- a pair is taken
 
-abbrev Taken : Type 0
-Taken = goal.Else-is_repeated
 
-abbrev turn : Taken → In-loop
-turn c = turn3 c.before
+abbrev turn : Else-is_repeated → Else-is_repeated
+turn c = turn3_2 c
 
-abbrev else2 : Taken → goal.Else-count-ge-LISTED_MOST
-else2 c = c
 
-abbrev n : Taken → ℕ
-n c = (else2 c).before.before.pair-length.result
+abbrev n : Else-is_repeated → ℕ
+n c = c.pair_length-n.result
 
-long : (c : Taken) → n c ≡ pair_length (bytes (turn c))
-long c = size (else2 c).before.before
+long : (c : Else-is_repeated) → n c ≡ pair_length (bytes_6 (turn c))
+long c = size_3 c
 
-there : (c : Taken) → is_pair (bytes (turn c)) ≡ true
-there c = pair (else2 c).before
+there : (c : Else-is_repeated) → is_pair (bytes_6 (turn c)) ≡ true
+there c = pair_2 c
 
-within : (c : Taken) → at (turn c) + n c ≤ length (list (turn c))
-within c = omega (arith, long c, pair_room (bytes (turn c)) (there c), length-drop (at (turn c)) (list (turn c)))
+within : (c : Else-is_repeated) → at_7 (turn c) + n c ≤ length (list_7 (turn c))
+within c = omega (arith, long c, pair_room (bytes_6 (turn c)) (there c), length-drop (at_7 (turn c)) (list_7 (turn c)))
 
-fresh : (c : Taken) → is_new (value_in (bytes (turn c))) (names_of (keys (turn c))) ≡ true
-fresh c = new c.before ∙ ap not c.if3.false
+fresh : (c : Else-is_repeated) → is_new (value_in (bytes_6 (turn c))) (names_of (keys_4 (turn c))) ≡ true
+fresh c = new_2 c ∙ ap not c.if-is_repeated.false
 
 -- the list up to the next pair
-more : (c : Taken) → list_of (take (at (turn c) + n c) (list (turn c))) ≡ some (keys (turn c) ++ (key_in (bytes (turn c)) ∷ []))
+more : (c : Else-is_repeated) → list_of (take (at_7 (turn c) + n c) (list_7 (turn c))) ≡ some (keys_4 (turn c) ++ (key_in (bytes_6 (turn c)) ∷ []))
 more c =
     let t = turn c in
-    ap (λ (k : ℕ). list_of (take (at t + k) (list t))) (long c)
-    ∙ before_more (keys t) (list t) (at t) (few (else2 c)) (good_list (take (at t) (list t)) t.before.loop.inv.1.0) (there c) (fresh c)
+    ap (λ (k : ℕ). list_of (take (at_7 t + k) (list_7 t))) (long c)
+    ∙ before_more (keys_4 t) (list_7 t) (at_7 t) (few c) (good_list (take (at_7 t) (list_7 t)) t.before.loop.inv.1.0) (there c) (fresh c)
 
 pub loop-at-init : goal.loop-at-init
 unfolding list_of
@@ -116,14 +201,16 @@ loop-at-init c =
 
 pub returns-then-n-eq0 : goal.returns-then-n-eq0
 returns-then-n-eq0 c =
-    let t = c in
-    sym (list_bad (list t) (sym (reads t) ∙ pairs_none (keys t) (bytes t) (some_bytes t) (pair_not (bytes t) _ (size c) c.if-n-eq0.true)))
+    let w = (goal.at.returns-then-n-eq0 c).After-pair_length-n in
+    let w' = (goal.at.returns-then-n-eq0 c).In-loop-at in
+    sym (list_bad (list_2 w) (sym (reads w') ∙ pairs_none (keys w') (bytes_2 w) (some_bytes w') (pair_not (bytes_2 w) _ (size w) c.if-n-eq0.true)))
 
 pub returns-then-count-ge-LISTED_MOST : goal.returns-then-count-ge-LISTED_MOST
 returns-then-count-ge-LISTED_MOST c =
-    let t = turn1 c in
-    let full : listed_most ≤ length (keys t) = omega (arith, c.if-count-ge-LISTED_MOST.true, t.before.loop.inv.1.1.1.0) in
-    sym (list_bad (list t) (sym (reads t) ∙ pairs_over (keys t) (bytes t) (pair c) full))
+    let w = (goal.at.returns-then-count-ge-LISTED_MOST c).Else-n-eq0 in
+    let w' = (goal.at.returns-then-count-ge-LISTED_MOST c).In-loop-at in
+    let full : listed_most ≤ length (keys w') = omega (arith, c.if-count-ge-LISTED_MOST.true, c.loop-at.inv.1.1.1.0) in
+    sym (list_bad (list_3 w) (sym (reads w') ∙ pairs_over (keys w') (bytes_3 w) (pair w) full))
 
 pub slice_bounds-value_in-count : goal.slice_bounds-value_in-count
 slice_bounds-value_in-count c = (turn2 c).before.loop.invariant.0
@@ -133,61 +220,66 @@ slice_bounds-value_in-start c = (turn2 c).before.loop.invariant.0
 
 pub value_in-name-requires : goal.value_in-name-requires
 value_in-name-requires c =
-    let e = c in
-    let t = turn1 e in
-    ap is_whole (lent (at t) (list t)) ∙ pair_whole (bytes t) (pair e)
+    let w = (goal.at.value_in-name-requires c).Else-count-ge-LISTED_MOST in
+    let w' = (goal.at.value_in-name-requires c).Else-n-eq0 in
+    ap is_whole (lent (at_4 w) (list_4 w)) ∙ pair_whole (bytes_3 w') (pair w')
 
 pub slice_bounds-is_repeated-end : goal.slice_bounds-is_repeated-end
-slice_bounds-is_repeated-end c = sym (turn2 c).before.loop.invariant.1.1.1.1.room
+slice_bounds-is_repeated-end c =
+    let w = (goal.at.slice_bounds-is_repeated-end c).After-value_in-name in
+    sym (turn2_2 w).before.loop.invariant.1.1.1.1.room
 
 pub is_repeated-requires : goal.is_repeated-requires
 is_repeated-requires c =
-    let inv = (turn2 c).before.loop.invariant in
+    let w = (goal.at.is_repeated-requires c).After-value_in-name in
+    let inv = (turn2_2 w).before.loop.invariant in
     (inv.0, inv.1.0, inv.1.1.1.1, c.mark_of-mark.ensures)
 
 pub returns-then-is_repeated : goal.returns-then-is_repeated
 returns-then-is_repeated c =
-    let t = turn3 c in
-    let e = c in
-    sym (list_bad (list t) (sym (reads t) ∙ pairs_repeated (keys t) (bytes t) (pair e) (new c ∙ ap not c.if-is_repeated.true)))
+    let w = (goal.at.returns-then-is_repeated c).After-is_repeated in
+    let w' = (goal.at.returns-then-is_repeated c).In-loop-at in
+    let w2 = (goal.at.returns-then-is_repeated c).Else-n-eq0 in
+    let t = turn3 w in
+    sym (list_bad (list t) (sym (reads t) ∙ pairs_repeated (keys t) (bytes t) (pair w2) (new w ∙ ap not c.if-is_repeated.true)))
 
 pub offset_bounds-marks-count : goal.offset_bounds-marks-count
-offset_bounds-marks-count c = record { fits = omega (arith, (else2 c).if2.false) }
+offset_bounds-marks-count c = record { fits = omega (arith, c.if-count-ge-LISTED_MOST.false) }
 
 pub bounds-marks-count : goal.bounds-marks-count
-bounds-marks-count c = (else2 c).if2.false
+bounds-marks-count c = c.if-count-ge-LISTED_MOST.false
 
 pub overflow_add-count : goal.overflow_add-count
-overflow_add-count c = omega (arith, (else2 c).if2.false)
+overflow_add-count c = omega (arith, c.if-count-ge-LISTED_MOST.false)
 
 pub overflow_add-at : goal.overflow_add-at
 overflow_add-at c = omega (arith, within c)
 
 pub loop-at-smaller : goal.loop-at-smaller
-loop-at-smaller c = omega (arith, within c, long c, pair_long (bytes (turn c)) (there c))
+loop-at-smaller c = omega (arith, within c, long c, pair_long (bytes_6 (turn c)) (there c))
 
 pub loop-at-preserved : goal.loop-at-preserved
 loop-at-preserved c =
+    let w = (goal.at.loop-at-preserved c).In-loop-at in
     let t = turn c in
-    let x : List ℕ = take (at t + n c) (list t) in
-    let key : ListedKey = key_in (bytes t) in
-    let all : keys_in x ≡ keys t ++ (key ∷ []) = list_keys x (keys t ++ (key ∷ [])) (more c) in
-    let rest : drop (at t + n c) (list t) ≡ drop (pair_length (bytes t)) (bytes t)
-    = ap (λ (k : ℕ). drop (at t + k) (list t)) (long c) ∙ sym (drop-drop (pair_length (bytes t)) (at t) (list t)) in
+    let x : List ℕ = take (at_7 t + n c) (list_7 t) in
+    let key : ListedKey = key_in (bytes_6 t) in
+    let all : keys_in x ≡ keys_4 t ++ (key ∷ []) = list_keys x (keys_4 t ++ (key ∷ [])) (more c) in
+    let rest : drop (at_7 t + n c) (list_7 t) ≡ drop (pair_length (bytes_6 t)) (bytes_6 t)
+    = ap (λ (k : ℕ). drop (at_7 t + k) (list_7 t)) (long c) ∙ sym (drop-drop (pair_length (bytes_6 t)) (at_7 t) (list_7 t)) in
     let inv = t.before.loop.inv.1.1.1 in
-    let m = c in
-    let marked : Marked (keys_in x) (set t.before.loop.marks t.before.loop.count m.mark_of-mark.result)
-    = subst (λ (ks : List ListedKey). Marked ks (set t.before.loop.marks t.before.loop.count m.mark_of-mark.result)) (sym all)
-    (marked_more (keys t) t.before.loop.marks inv.1 key t.before.loop.count m.mark_of-mark.result inv.0 (else2 c).if2.false
-    (m.mark_of-mark.ensures ∙ ap mark_of (name m))) in (
+    let marked : Marked (keys_in x) (set t.before.loop.marks t.before.loop.count c.mark_of-mark.result)
+    = subst (λ (ks : List ListedKey). Marked ks (set t.before.loop.marks t.before.loop.count c.mark_of-mark.result)) (sym all)
+    (marked_more (keys_4 t) t.before.loop.marks inv.1 key t.before.loop.count c.mark_of-mark.result inv.0 c.if-count-ge-LISTED_MOST.false
+    (c.mark_of-mark.ensures ∙ ap mark_of (name_2 c))) in (
       within c,
       (
-        list_good x (keys t ++ (key ∷ [])) (more c),
+        list_good x (keys_4 t ++ (key ∷ [])) (more c),
         (
           ap₂ (λ (l : List ℕ) (ks : List ListedKey). read_pairs l (whole ks)) rest all
-              ∙ sym (pairs_on (keys t) (bytes t) (there c) (few (else2 c)) (fresh c))
+              ∙ sym (pairs_on (keys_4 t) (bytes_6 t) (there c) (few c) (fresh c))
               ∙ reads t,
-          (omega (arith, ap length all, length-append (keys t) (key ∷ []), t.before.loop.inv.1.1.1.0), marked),
+          (omega (arith, ap length all, length-append (keys_4 t) (key ∷ []), t.before.loop.inv.1.1.1.0), marked),
         ),
       ),
     )

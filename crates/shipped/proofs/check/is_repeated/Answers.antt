@@ -17,38 +17,43 @@ use Rattle.shipped.specs.declared.Listed.{Listed}
 use Rattle.shipped.proofs.ListLaws.{finds_new}
 use Rattle.shipped.proofs.MarkLaws.{unmarked_new}
 use Rattle.shipped.proofs.check.is_repeated.Goals as goal
+use Rattle.shipped.proofs.check.is_repeated.Goals.{After-find_listed, Start}
 
-abbrev before : goal.Start → List ℕ
+abbrev before : Start → List ℕ
 before c = take c.args.at c.args.list.now
 
-abbrev start : goal.Else-not-is_among → goal.Start
-start c = c
+
+abbrev before_2 : After-find_listed → List ℕ
+before_2 c = take c.args.at c.args.list.now
+
 
 -- what was found says whether the name is new
-new : (c : goal.After-find_listed) (found : Listed) → c.find_listed.result ≡ found
-    → let s = start c in
-    not (is_new s.args.name.now (names_of (keys_in (before s)))) ≡ not (not (is_some (data_found (before s) found)))
+new : (c : After-find_listed) (found : Listed) → c.find_listed.result ≡ found
+    → 
+    not (is_new c.args.name.now (names_of (keys_in (before_2 c)))) ≡ not (not (is_some (data_found (before_2 c) found)))
 new c found e =
-    let s = start c in
-    ap not (finds_new (before s) s.args.name.now c.find_listed.result c.find_listed.ensures
-    ∙ ap (λ (l : Listed). not (is_some (data_found (before s) l))) e)
+    ap not (finds_new (before_2 c) c.args.name.now c.find_listed.result c.find_listed.ensures
+    ∙ ap (λ (l : Listed). not (is_some (data_found (before_2 c) l))) e)
 
 pub returns-then-not-is_among : goal.returns-then-not-is_among
 returns-then-not-is_among c =
-    let a = c in
-    let s = a in
-    let none : all (differs_from (mark_of s.args.name.now)) s.args.marks.now ≡ true
-    = ap (λ (m : ℕ). all (differs_from m) s.args.marks.now) (sym s.requires.3)
-    ∙ not-false (all (differs_from s.args.mark) s.args.marks.now) (sym a.is_among.ensures ∙ not-true a.is_among.result c.if-not-is_among.true) in
-    sym (ap not (unmarked_new (keys_in (before s)) s.args.marks.now s.requires.2 s.args.name.now none))
+    let w = (goal.at.returns-then-not-is_among c).Start in
+    let none : all (differs_from (mark_of c.args.name.now)) c.args.marks.now ≡ true
+    = ap (λ (m : ℕ). all (differs_from m) c.args.marks.now) (sym c.requires.3)
+    ∙ not-false (all (differs_from c.args.mark) c.args.marks.now) (sym c.is_among.ensures ∙ not-true c.is_among.result c.if-not-is_among.true) in
+    sym (ap not (unmarked_new (keys_in (before w)) c.args.marks.now c.requires.2 c.args.name.now none))
 
 pub slice_bounds-find_listed-end : goal.slice_bounds-find_listed-end
-slice_bounds-find_listed-end c = let s = start c in sym (length-take-le s.args.at s.args.list.now s.pre.0)
+slice_bounds-find_listed-end c = sym (length-take-le c.args.at c.args.list.now c.pre.0)
 
 pub returns-in-At : goal.returns-in-At
 unfolding data_found is_some
-returns-in-At c = sym (new c _ c.enum_told-1.given.1)
+returns-in-At c =
+    let w = (goal.at.returns-in-At c).After-find_listed in
+    sym (new w _ c.in-At.is)
 
 pub returns-in-Nothing : goal.returns-in-Nothing
 unfolding data_found is_some
-returns-in-Nothing c = sym (new c _ c.enum_told-in-Nothing-1.given.1)
+returns-in-Nothing c =
+    let w = (goal.at.returns-in-Nothing c).After-find_listed in
+    sym (new w _ c.in-Nothing.is)

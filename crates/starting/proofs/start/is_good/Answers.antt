@@ -6,7 +6,7 @@ use Rattle.starting.proofs.start.is_good.Goals as goal
 
 pub returns-in-Good : goal.returns-in-Good
 unfolding is_good
-returns-in-Good c = sym (ap is_good c.enum_told-1.given.1)
+returns-in-Good c = sym (ap is_good c.in-Good.is)
 
 pub returns-in_default : goal.returns-in_default
 returns-in_default c = not_good _ c.in-Good.keys2

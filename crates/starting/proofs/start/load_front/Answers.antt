@@ -8,14 +8,11 @@ use Rattle.starting.proofs.start.load_front.Goals as goal
 
 pub slice_bounds-load_roster-end : goal.slice_bounds-load_roster-end
 slice_bounds-load_roster-end c =
-    let read = c in
-    let start = read in
-    sym (length-take-le _ start.args.front.now (omega (arith, kept_bytes start.requires read.read-1.given.1)))
+    sym (length-take-le _ c.args.front.now (omega (arith, kept_bytes c.requires c.in-Kept.is)))
 
 pub returns-in-Unreadable : goal.returns-in-Unreadable
-returns-in-Unreadable c = load_none _ _ c.enum_told-1.given.1
+returns-in-Unreadable c = load_none _ _ c.in-Unreadable.is
 
 pub returns-in-Kept : goal.returns-in-Kept
 returns-in-Kept c =
-    let load = c in
-    load_kept _ _ load.read-1.given.1 load.load_roster.ensures c.source_for.ensures
+    load_kept _ _ c.in-Kept.is c.load_roster.ensures c.source_for.ensures

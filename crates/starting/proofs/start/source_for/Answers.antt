@@ -5,8 +5,8 @@ use Rattle.starting.proofs.start.source_for.Goals as goal
 
 pub returns-in-Good : goal.returns-in-Good
 unfolding source_for
-returns-in-Good c = sym (ap source_for c.enum_told-1.given.1)
+returns-in-Good c = sym (ap source_for c.in-Good.is)
 
 pub returns-in-Faulty : goal.returns-in-Faulty
 unfolding source_for
-returns-in-Faulty c = sym (ap source_for c.loaded-1.given.1)
+returns-in-Faulty c = sym (ap source_for c.in-Faulty.is)

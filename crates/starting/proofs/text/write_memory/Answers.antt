@@ -4,12 +4,10 @@ use Rattle.starting.proofs.text.write_memory.Goals as goal
 
 pub returns-in-Written : goal.returns-in-Written
 returns-in-Written c =
-    let bill = c in
-    let (room, connected, registered) = bill.requires in
-    bill_wrote _ _ _ _ room connected registered bill.write_bill.ensures _ c.size-1.given.1
+    let (room, connected, registered) = c.requires in
+    bill_wrote _ _ _ _ room connected registered c.write_bill.ensures _ c.in-Written.is
 
 pub returns-in_default : goal.returns-in_default
 returns-in_default c =
-    let bill = c in
-    let (room, connected, registered) = bill.requires in
-    absurd (always_written _ _ _ _ room connected registered bill.write_bill.ensures c.in-Written.keys2)
+    let (room, connected, registered) = c.requires in
+    absurd (always_written _ _ _ _ room connected registered c.write_bill.ensures c.in-Written.keys2)
