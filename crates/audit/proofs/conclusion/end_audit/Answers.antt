@@ -10,7 +10,7 @@ unfolding end_outcome
 returns-then-not-is_well_formed c = rw (← c.is_well_formed.ensures, c.if-not-is_well_formed.true)
 
 pub judge_rest-requires : goal.judge_rest-requires
-judge_rest-requires c = sym c.is_well_formed.ensures ∙ not-false c.is_well_formed.result c.if-not-is_well_formed.false
+judge_rest-requires c = sym c.is_well_formed.ensures ∙ c.if-not-is_well_formed.false
 
 pub returns : goal.returns
 unfolding end_outcome

@@ -22,8 +22,8 @@ returns-then-not-is_well_formed-2 c =
 pub write_lines-requires : goal.write_lines-requires
 write_lines-requires c =
     (
-      sym c.is_well_formed.ensures ∙ not-false _ c.if-not-is_well_formed.false,
-      sym c.is_well_formed-2.ensures ∙ not-false _ c.if-not-is_well_formed-2.false,
+      sym c.is_well_formed.ensures ∙ c.if-not-is_well_formed.false,
+      sym c.is_well_formed-2.ensures ∙ c.if-not-is_well_formed-2.false,
       omega arith,
     )
 

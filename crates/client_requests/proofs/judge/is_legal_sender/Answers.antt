@@ -3,7 +3,7 @@ use borrow.Author.Rules.{rules}
 use Rattle.client_requests.proofs.judge.is_legal_sender.Goals as goal
 
 pub returns-then-not-named : goal.returns-then-not-named
-returns-then-not-named c = rw (not-true c.args.named c.if-not-named.true)
+returns-then-not-named c = rw (c.if-not-named.true)
 
 pub returns : goal.returns
-returns c = rw (not-false c.args.named c.if-not-named.false) c.is_legal.ensures
+returns c = rw (c.if-not-named.false) c.is_legal.ensures

@@ -44,6 +44,6 @@ overflow_add-result c =
 pub returns : goal.returns
 returns c =
     let w = (goal.at.returns c).After-auth_length-auth in
-    around_on _ c.args.types (sender w) _ _ _ c.args.out.now (omega (arith, c.pre.0, c.pre.2))
+    around_on _ c.args.types (sender w) _ _ _ c.args.out.now (omega (arith, c.requires.0, c.requires.2))
     (rw (auth_type_of_lem, ← c.auth_type.ensures, ← c.auth_length-auth.ensures, ← c.request_header-head.ensures) c.copy_into-start.ensures)
     (rw (front w) at c.copy_into-copied.ensures)

@@ -13,21 +13,21 @@ use Rattle.client_responses.proofs.state.is_well_formed.Goals as goal
 use Rattle.client_responses.proofs.state.is_well_formed.Goals.{Else-not-is_content_type, Else-not-is_listed}
 
 listed : (c : Else-not-is_listed) → is_listed (field 0 2 c.args.memory.now) ≡ true
-listed c = ap is_listed (sym c.read_u16.ensures) ∙ sym c.is_listed.ensures ∙ not-false _ c.if-not-is_listed.false
+listed c = ap is_listed (sym c.read_u16.ensures) ∙ sym c.is_listed.ensures ∙ c.if-not-is_listed.false
 
 typed : (c : Else-not-is_content_type) → is_type (field accept_at 1 c.args.memory.now) ≡ true
-typed c = ap is_type (sym c.accept_type_of.ensures) ∙ sym c.is_content_type.ensures ∙ not-false _ c.if-not-is_content_type.false
+typed c = ap is_type (sym c.accept_type_of.ensures) ∙ sym c.is_content_type.ensures ∙ c.if-not-is_content_type.false
 
 pub returns-then-memory-ne-STATE_SIZE : goal.returns-then-memory-ne-STATE_SIZE
 returns-then-memory-ne-STATE_SIZE c = sym (other_size _ c.if-memory-ne-STATE_SIZE.true)
 
 pub returns-then-not-is_listed : goal.returns-then-not-is_listed
-returns-then-not-is_listed c = sym (unlisted _ c.if-memory-ne-STATE_SIZE.false (ap is_listed (sym c.read_u16.ensures) ∙ sym c.is_listed.ensures ∙ not-true _ c.if-not-is_listed.true))
+returns-then-not-is_listed c = sym (unlisted _ c.if-memory-ne-STATE_SIZE.false (ap is_listed (sym c.read_u16.ensures) ∙ sym c.is_listed.ensures ∙ c.if-not-is_listed.true))
 
 pub returns-then-not-is_content_type : goal.returns-then-not-is_content_type
 returns-then-not-is_content_type c =
     let w = (goal.at.returns-then-not-is_content_type c).Else-not-is_listed in
-    sym (other_type _ c.if-memory-ne-STATE_SIZE.false (listed w) (ap is_type (sym c.accept_type_of.ensures) ∙ sym c.is_content_type.ensures ∙ not-true _ c.if-not-is_content_type.true))
+    sym (other_type _ c.if-memory-ne-STATE_SIZE.false (listed w) (ap is_type (sym c.accept_type_of.ensures) ∙ sym c.is_content_type.ensures ∙ c.if-not-is_content_type.true))
 
 pub returns-then-count-gt-RESPONSE_MOST : goal.returns-then-count-gt-RESPONSE_MOST
 returns-then-count-gt-RESPONSE_MOST c =

@@ -37,24 +37,24 @@ tests c =
     (skipping_tests_lem memory c.requires.0 (all_bytes memory (λ i. (c.shared_slice_known-1.given i).fits)) c.requires.1)
 
 legal : (c : Else-not-is_legal_start) → legal_start (behind c.args.memory.now) ≡ true
-legal c = sym c.is_legal_start.ensures ∙ not-false _ c.if-not-is_legal_start.false
+legal c = sym c.is_legal_start.ensures ∙ c.if-not-is_legal_start.false
 
 legal_2 : (c : After-header_length) → legal_start (behind c.args.memory.now) ≡ true
-legal_2 c = sym c.is_legal_start.ensures ∙ not-false _ c.if-not-is_legal_start.false
+legal_2 c = sym c.is_legal_start.ensures ∙ c.if-not-is_legal_start.false
 
 large : (c : Else-not-is_oversized) → oversized (behind c.args.memory.now) ≡ true
-large c = sym c.is_oversized.ensures ∙ not-false _ c.if-not-is_oversized.false
+large c = sym c.is_oversized.ensures ∙ c.if-not-is_oversized.false
 
 pub returns-then-not-is_legal_start : goal.returns-then-not-is_legal_start
 returns-then-not-is_legal_start c =
     let w = (goal.at.returns-then-not-is_legal_start c).After-held-1 in
-    rw (tests w, sym c.is_legal_start.ensures ∙ not-true _ c.if-not-is_legal_start.true)
+    rw (tests w, sym c.is_legal_start.ensures ∙ c.if-not-is_legal_start.true)
 
 pub returns-then-not-is_oversized : goal.returns-then-not-is_oversized
 returns-then-not-is_oversized c =
     let w = (goal.at.returns-then-not-is_oversized c).After-held-1 in
     let w' = (goal.at.returns-then-not-is_oversized c).Else-not-is_legal_start in
-    rw (tests w, legal w', sym c.is_oversized.ensures ∙ not-true _ c.if-not-is_oversized.true)
+    rw (tests w, legal w', sym c.is_oversized.ensures ∙ c.if-not-is_oversized.true)
 
 pub returns-then-to_go-lt1 : goal.returns-then-to_go-lt1
 returns-then-to_go-lt1 c =

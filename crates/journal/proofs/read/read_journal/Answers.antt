@@ -19,10 +19,10 @@ use Rattle.journal.proofs.read.read_journal.Goals as goal
 use Rattle.journal.proofs.read.read_journal.Goals.{Else-not-is_well_formed, Else-not-is_well_formed-2}
 
 good : (c : Else-not-is_well_formed) → well_formed_registry c.args.registry.now ≡ true
-good c = sym c.is_well_formed.ensures ∙ not-false _ c.if-not-is_well_formed.false
+good c = sym c.is_well_formed.ensures ∙ c.if-not-is_well_formed.false
 
 well : (c : Else-not-is_well_formed-2) → well_formed_state c.args.state.now ≡ true
-well c = sym c.is_well_formed-2.ensures ∙ not-false _ c.if-not-is_well_formed-2.false
+well c = sym c.is_well_formed-2.ensures ∙ c.if-not-is_well_formed-2.false
 
 known : (c : Else-not-is_well_formed-2) → Told c.args.state.now
 known c = told _ (well c)
@@ -30,13 +30,13 @@ known c = told _ (well c)
 pub returns-then-not-is_well_formed : goal.returns-then-not-is_well_formed
 returns-then-not-is_well_formed c =
     ap (λ (a : ReadAnswer). record { said = a.said; taken = a.taken; kept = a.kept; state = c.args.state.now; registry = c.args.registry.now }) c.refused.ensures
-    ∙ outcome_registry c.args.registry.now c.args.state.now c.args.chunk.now (sym c.is_well_formed.ensures ∙ not-true _ c.if-not-is_well_formed.true)
+    ∙ outcome_registry c.args.registry.now c.args.state.now c.args.chunk.now (sym c.is_well_formed.ensures ∙ c.if-not-is_well_formed.true)
 
 pub returns-then-not-is_well_formed-2 : goal.returns-then-not-is_well_formed-2
 returns-then-not-is_well_formed-2 c =
     let w = (goal.at.returns-then-not-is_well_formed-2 c).Else-not-is_well_formed in
     ap (λ (a : ReadAnswer). record { said = a.said; taken = a.taken; kept = a.kept; state = c.args.state.now; registry = c.args.registry.now }) c.refused-then-not-is_well_formed-2.ensures
-    ∙ outcome_state c.args.registry.now c.args.state.now c.args.chunk.now (good w) (sym c.is_well_formed-2.ensures ∙ not-true _ c.if-not-is_well_formed-2.true)
+    ∙ outcome_state c.args.registry.now c.args.state.now c.args.chunk.now (good w) (sym c.is_well_formed-2.ensures ∙ c.if-not-is_well_formed-2.true)
 
 pub load-start-requires : goal.load-start-requires
 load-start-requires c = (known c).size

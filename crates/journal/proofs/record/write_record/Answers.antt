@@ -53,17 +53,17 @@ pub write_import-requires : goal.write_import-requires
 write_import-requires c =
     let w = (goal.at.write_import-requires c).In-Fills-2 in
     let f = fills w in
-    (c.pre.1, rw (add-sub_cancel_left, length-take) (omega (arith, f.name)), rw (add-sub_cancel_left, length-take) (omega (arith, f.bytes)), c.pre.3)
+    (c.requires.1, rw (add-sub_cancel_left, length-take) (omega (arith, f.name)), rw (add-sub_cancel_left, length-take) (omega (arith, f.bytes)), c.requires.3)
 
 pub name_there-requires : goal.name_there-requires
 name_there-requires c =
     let w = (goal.at.name_there-requires c).In-Clears-2 in
-    ((good_of c.args.registry.now c.pre.0).size, c.pre.1, clears w)
+    ((good_of c.args.registry.now c.requires.0).size, c.requires.1, clears w)
 
 pub write_destroy-requires : goal.write_destroy-requires
 write_destroy-requires c =
     let w = (goal.at.write_destroy-requires c).In-Clears-2 in
-    (c.pre.1, omega (arith, ap length c.name_there.ensures, name_short c.args.registry.now c.args.line _ (clears w) c.pre.0 c.pre.1), c.pre.3)
+    (c.requires.1, omega (arith, ap length c.name_there.ensures, name_short c.args.registry.now c.args.line _ (clears w) c.requires.0 c.requires.1), c.requires.3)
 
 pub returns-in-Stays : goal.returns-in-Stays
 unfolding change_of act_of_change record_for

@@ -11,11 +11,11 @@ use Rattle.journal.proofs.replay.destroy_key.Goals as goal
 use Rattle.journal.proofs.replay.destroy_key.Goals.{Else-not-is_legal}
 
 legal : (c : Else-not-is_legal) → legal_name key_name_most c.args.name.now ≡ true
-legal c = sym c.is_legal.ensures ∙ not-false _ c.if-not-is_legal.false
+legal c = sym c.is_legal.ensures ∙ c.if-not-is_legal.false
 
 pub returns-then-not-is_legal : goal.returns-then-not-is_legal
 returns-then-not-is_legal c =
-    destroy_bad c.args.registry.now c.args.line c.args.name.now _ (sym c.is_legal.ensures ∙ not-true _ c.if-not-is_legal.true)
+    destroy_bad c.args.registry.now c.args.line c.args.name.now _ (sym c.is_legal.ensures ∙ c.if-not-is_legal.true)
 
 pub returns-in_default : goal.returns-in_default
 returns-in_default c =
@@ -24,7 +24,7 @@ returns-in_default c =
 
 pub clear_slot-requires : goal.clear_slot-requires
 clear_slot-requires c =
-    (c.pre.0, c.pre.1, slot_below c.args.registry.now c.args.line c.args.name.now _ (sym c.find_slot-found.ensures ∙ c.in-At.is))
+    (c.requires.0, c.requires.1, slot_below c.args.registry.now c.args.line c.args.name.now _ (sym c.find_slot-found.ensures ∙ c.in-At.is))
 
 pub returns : goal.returns
 returns c =

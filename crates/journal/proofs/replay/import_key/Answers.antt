@@ -32,7 +32,7 @@ key_3 s = key_from s.args.name.now s.args.bytes.now s.args.bits s.args.exported 
 allowed : (c : Else-not-is_importable) → Taken legal_bits (key_2 c)
 allowed c =
     let k = key_2 c in
-    let both : within_bounds k && legal_bits k.bits ≡ true = sym c.is_importable.ensures ∙ not-false _ c.if-not-is_importable.false in
+    let both : within_bounds k && legal_bits k.bits ≡ true = sym c.is_importable.ensures ∙ c.if-not-is_importable.false in
     record { bounds = and_left (within_bounds k) _ both; bits = and_right (within_bounds k) _ both }
 
 new : (c : In-Nothing)
@@ -42,7 +42,7 @@ new c = sym c.find_slot-same.ensures ∙ c.in-Nothing.is
 pub returns-then-not-is_importable : goal.returns-then-not-is_importable
 returns-then-not-is_importable c =
     let w = (goal.at.returns-then-not-is_importable c).Start in
-    import_bad c.args.registry.now c.args.line (key w) _ (sym c.is_importable.ensures ∙ not-true _ c.if-not-is_importable.true)
+    import_bad c.args.registry.now c.args.line (key w) _ (sym c.is_importable.ensures ∙ c.if-not-is_importable.true)
 
 pub returns-in_default : goal.returns-in_default
 returns-in_default c =
@@ -60,7 +60,7 @@ fill_slot-requires c =
     let w = (goal.at.fill_slot-requires c).In-Nothing in
     let w' = (goal.at.fill_slot-requires c).Else-not-is_importable in
     let legal = bounded_legal (key_3 w) (allowed w').bounds (allowed w').bits in
-    (c.pre.0, c.pre.1, slot_below c.args.registry.now c.args.line [] _ (sym c.find_slot-empty.ensures ∙ c.in-At.is), short_name (key_3 w) legal, short_data (key_3 w) legal)
+    (c.requires.0, c.requires.1, slot_below c.args.registry.now c.args.line [] _ (sym c.find_slot-empty.ensures ∙ c.in-At.is), short_name (key_3 w) legal, short_data (key_3 w) legal)
 
 pub returns : goal.returns
 returns c =

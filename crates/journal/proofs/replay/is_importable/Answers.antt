@@ -19,12 +19,12 @@ abbrev key_3 : After-is_legal_data → Key
 key_3 s = key_from s.args.name.now s.args.bytes.now s.args.bits s.args.exported s.args.verified
 
 passes : (c : Else-not-is_legal) → legal_name key_name_most (key_2 c).name ≡ true
-passes c = sym c.is_legal.ensures ∙ not-false _ c.if-not-is_legal.false
+passes c = sym c.is_legal.ensures ∙ c.if-not-is_legal.false
 
 pub returns-then-not-is_legal : goal.returns-then-not-is_legal
 returns-then-not-is_legal c =
     let w = (goal.at.returns-then-not-is_legal c).Start in
-    rw (bad_name (key w) (sym c.is_legal.ensures ∙ not-true _ c.if-not-is_legal.true))
+    rw (bad_name (key w) (sym c.is_legal.ensures ∙ c.if-not-is_legal.true))
 
 data_part : (c : After-is_legal_data) → c.is_legal_data.result ≡ legal_data (key_3 c).bytes
 data_part c = c.is_legal_data.ensures c.args.bytes.now refl
@@ -33,10 +33,10 @@ pub returns-then-not-is_legal_data : goal.returns-then-not-is_legal_data
 returns-then-not-is_legal_data c =
     let w = (goal.at.returns-then-not-is_legal_data c).After-is_legal_data in
     let w' = (goal.at.returns-then-not-is_legal_data c).Else-not-is_legal in
-    rw (data_left (key_3 w) (passes w') ∙ sym (data_part w) ∙ not-true _ c.if-not-is_legal_data.true)
+    rw (data_left (key_3 w) (passes w') ∙ sym (data_part w) ∙ c.if-not-is_legal_data.true)
 
 pub returns : goal.returns
 returns c =
     let w = (goal.at.returns c).After-is_legal_data in
     let w' = (goal.at.returns c).Else-not-is_legal in
-    rw (data_left (key_3 w) (passes w') ∙ sym (data_part w) ∙ not-false _ c.if-not-is_legal_data.false) c.are_legal_bits.ensures
+    rw (data_left (key_3 w) (passes w') ∙ sym (data_part w) ∙ c.if-not-is_legal_data.false) c.are_legal_bits.ensures

@@ -17,13 +17,13 @@ there : (c : After-is_in_use)
     → (let v = c.args.value.now in act_in (record { tag = 3; value = v }) ≡ some (destroying (line_in v) (drop 1 v)))
 there c =
     let some_bytes = c.if-value-eq0.false in
-    destroy_there c.args.value.now c.pre.1 (omega arith)
+    destroy_there c.args.value.now c.requires.1 (omega arith)
 
 there_2 : (c : After-destroy_key)
     → (let v = c.args.value.now in act_in (record { tag = 3; value = v }) ≡ some (destroying (line_in v) (drop 1 v)))
 there_2 c =
     let some_bytes = c.if-value-eq0.false in
-    destroy_there c.args.value.now c.pre.1 (omega arith)
+    destroy_there c.args.value.now c.requires.1 (omega arith)
 
 at : (c : After-is_in_use) → c.wide.result ≡ get_or c.args.value.now 0 0
 at c = c.wide.ensures.0
@@ -44,7 +44,7 @@ done : (c : After-destroy_key)
 done c =
     
     
-    destroy_left c.args.registry.now c.args.value.now (there_2 c) (used_2 c ∙ not-false _ c.if-not-is_in_use.false) _ _
+    destroy_left c.args.registry.now c.args.value.now (there_2 c) (used_2 c ∙ c.if-not-is_in_use.false) _ _
     (destroy_is c.args.registry.now c.args.value.now _ (at_2 c) _ c.destroy_key.ensures)
 
 pub returns-then-value-eq0 : goal.returns-then-value-eq0
@@ -54,12 +54,12 @@ returns-then-value-eq0 c =
 pub returns-then-not-is_in_use : goal.returns-then-not-is_in_use
 returns-then-not-is_in_use c =
     let w = (goal.at.returns-then-not-is_in_use c).After-is_in_use in
-    destroy_unused c.args.registry.now c.args.value.now (there w) (used w ∙ not-true _ c.if-not-is_in_use.true)
+    destroy_unused c.args.registry.now c.args.value.now (there w) (used w ∙ c.if-not-is_in_use.true)
 
 pub destroy_key-requires : goal.destroy_key-requires
 destroy_key-requires c =
     let w = (goal.at.destroy_key-requires c).After-is_in_use in
-    (c.pre.0, below c.args.registry.now c.args.value.now _ (at w) _ c.is_in_use.ensures (not-false _ c.if-not-is_in_use.false))
+    (c.requires.0, below c.args.registry.now c.args.value.now _ (at w) _ c.is_in_use.ensures (c.if-not-is_in_use.false))
 
 pub returns-then-destroy_key : goal.returns-then-destroy_key
 returns-then-destroy_key c =

@@ -60,7 +60,7 @@ done c =
     
     
     let v : List ℕ = c.args.value.now in
-    import_left c.args.registry.now v (there_2 c) (used_2 c ∙ not-false _ c.if-not-is_in_use.false) _ _
+    import_left c.args.registry.now v (there_2 c) (used_2 c ∙ c.if-not-is_in_use.false) _ _
     (import_is c.args.registry.now v _ (at_2 c) _ (key_there v _ (name_at + c.wide-e.result) _ c.wide-e.ensures.0 refl c.read_u16-bits.ensures) _ c.import_key.ensures)
 
 pub returns-then-value-lt-NAME_AT : goal.returns-then-value-lt-NAME_AT
@@ -84,12 +84,12 @@ returns-then-value-e c =
 pub returns-then-not-is_in_use : goal.returns-then-not-is_in_use
 returns-then-not-is_in_use c =
     let w = (goal.at.returns-then-not-is_in_use c).After-is_in_use in
-    import_unused c.args.registry.now c.args.value.now (there w) (used w ∙ not-true _ c.if-not-is_in_use.true)
+    import_unused c.args.registry.now c.args.value.now (there w) (used w ∙ c.if-not-is_in_use.true)
 
 pub import_key-requires : goal.import_key-requires
 import_key-requires c =
     let w = (goal.at.import_key-requires c).After-is_in_use in
-    (c.pre.0, below c.args.registry.now c.args.value.now _ (at w) _ c.is_in_use.ensures (not-false _ c.if-not-is_in_use.false))
+    (c.requires.0, below c.args.registry.now c.args.value.now _ (at w) _ c.is_in_use.ensures (c.if-not-is_in_use.false))
 
 pub returns-then-import_key : goal.returns-then-import_key
 returns-then-import_key c =

@@ -54,14 +54,14 @@ returns-then-kept-count c =
 pub returns-then-is_whole : goal.returns-then-is_whole
 returns-then-is_whole c =
     let w = (goal.at.returns-then-is_whole c).After-is_whole in
-    state_whole (state w) c.if-state-ne-STATE_SIZE.left c.if-state-gt3.left (within w) (whole w ∙ c.if-is_whole.true)
+    state_whole (state w) c.if-state-ne-STATE_SIZE.false c.if-state-gt3.false (within w) (whole w ∙ c.if-is_whole.true)
 
 pub returns-then-count : goal.returns-then-count
 returns-then-count c =
     let w = (goal.at.returns-then-count c).After-is_whole in
     let count = c.read_u64-count.ensures in
     let t = c.if-count.true in
-    state_full (state w) c.if-state-ne-STATE_SIZE.left c.if-state-gt3.left (within w) (whole w ∙ c.if-is_whole.false) (omega arith)
+    state_full (state w) c.if-state-ne-STATE_SIZE.false c.if-state-gt3.false (within w) (whole w ∙ c.if-is_whole.false) (omega arith)
 
 pub returns : goal.returns
 returns c =
@@ -69,4 +69,4 @@ returns c =
     let n : ℕ = c.read_u64-count.result in
     c.all_zero.ensures
     ∙ ap (all is_zero) (lent (front_at + n) (state w) ∙ ap (λ (k : ℕ). drop (front_at + k) (state w)) c.read_u64-count.ensures)
-    ∙ state_zeros (state w) c.if-state-ne-STATE_SIZE.left c.if-state-gt3.left (within w) (whole w ∙ c.if-is_whole.false)
+    ∙ state_zeros (state w) c.if-state-ne-STATE_SIZE.false c.if-state-gt3.false (within w) (whole w ∙ c.if-is_whole.false)

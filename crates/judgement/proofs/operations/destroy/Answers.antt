@@ -10,12 +10,12 @@ use Rattle.judgement.proofs.operations.destroy.Goals as goal
 use Rattle.judgement.proofs.operations.destroy.Goals.{Else-not-is_legal}
 
 legal : (c : Else-not-is_legal) → legal_name key_name_most c.args.name.now ≡ true
-legal c = sym c.is_legal.ensures ∙ not-false _ c.if-not-is_legal.false
+legal c = sym c.is_legal.ensures ∙ c.if-not-is_legal.false
 
 pub returns-then-not-is_legal : goal.returns-then-not-is_legal
 returns-then-not-is_legal c body =
     rw c.refused.ensures
-    (refusal _ _ body PsaErrorInvalidArgument (bad_destroyed _ _ _ (sym c.is_legal.ensures ∙ not-true _ c.if-not-is_legal.true)))
+    (refusal _ _ body PsaErrorInvalidArgument (bad_destroyed _ _ _ (sym c.is_legal.ensures ∙ c.if-not-is_legal.true)))
 
 -- an own key
 pub returns-in-Own : goal.returns-in-Own

@@ -12,16 +12,16 @@ use Rattle.judgement.proofs.operations.export.Goals as goal
 use Rattle.judgement.proofs.operations.export.Goals.{Else-not-is_legal}
 
 legal : (c : Else-not-is_legal) → legal_name key_name_most c.args.name.now ≡ true
-legal c = sym c.is_legal.ensures ∙ not-false _ c.if-not-is_legal.false
+legal c = sym c.is_legal.ensures ∙ c.if-not-is_legal.false
 
 pub returns-then-not-is_legal : goal.returns-then-not-is_legal
 returns-then-not-is_legal c body =
     rw c.refused.ensures
-    (refusal _ _ body PsaErrorInvalidArgument (bad_exported _ _ _ (sym c.is_legal.ensures ∙ not-true _ c.if-not-is_legal.true)))
+    (refusal _ _ body PsaErrorInvalidArgument (bad_exported _ _ _ (sym c.is_legal.ensures ∙ c.if-not-is_legal.true)))
 
 pub find_key-place-requires : goal.find_key-place-requires
 find_key-place-requires c =
-    ((good_of c.args.registry.now c.pre.0).size, c.pre.1, c.pre.2)
+    ((good_of c.args.registry.now c.requires.0).size, c.requires.1, c.requires.2)
 
 pub returns-in-Nothing : goal.returns-in-Nothing
 returns-in-Nothing c body =
@@ -33,7 +33,7 @@ returns-in-Nothing c body =
 
 pub is_exportable-requires : goal.is_exportable-requires
 is_exportable-requires c =
-    (c.pre.0, c.pre.1, c.find_key-place.ensures.within)
+    (c.requires.0, c.requires.1, c.find_key-place.ensures.within)
 
 pub returns-then-not-is_exportable : goal.returns-then-not-is_exportable
 returns-then-not-is_exportable c body =
@@ -41,7 +41,7 @@ returns-then-not-is_exportable c body =
     let s = c.args in
     rw c.refused-then-not-is_exportable.ensures
     (refusal _ _ body PsaErrorNotPermitted
-    (not_exported s.registry.now s.list.now s.line s.name.now _ c.find_key-place.ensures (legal w) (not_nowhere _ c.in-Nothing.keys2) (sym c.is_exportable.ensures ∙ not-true _ c.if-not-is_exportable.true)))
+    (not_exported s.registry.now s.list.now s.line s.name.now _ c.find_key-place.ensures (legal w) (not_nowhere _ c.in-Nothing.keys2) (sym c.is_exportable.ensures ∙ c.if-not-is_exportable.true)))
 
 pub returns : goal.returns
 returns c body =
@@ -49,6 +49,6 @@ returns c body =
     let s = c.args in
     let at = c.find_key-place.ensures in
     let somewhere = not_nowhere _ c.in-Nothing.keys2 in
-    rw (c.counted.ensures, c.served.ensures, exported s.registry.now s.list.now s.line s.name.now _ at (legal w) somewhere (sym c.is_exportable.ensures ∙ not-false _ c.if-not-is_exportable.false))
+    rw (c.counted.ensures, c.served.ensures, exported s.registry.now s.list.now s.line s.name.now _ at (legal w) somewhere (sym c.is_exportable.ensures ∙ c.if-not-is_exportable.false))
     (counting s.registry.now s.list.now s.line s.name.now _ at (legal w) somewhere body _
     (listing _ _ body (Data _) (at_safe s.registry.now s.list.now s.line s.name.now _ at) refl))

@@ -48,13 +48,13 @@ abbrev slots : In-Nothing → List Entry
 slots s = slots_of s.args.registry.now s.args.line
 
 bounded : (c : Else-not-is_within_bounds) → within_bounds (key_in c.args.body.now c.args.key) ≡ true
-bounded c = sym c.is_within_bounds.ensures ∙ not-false _ c.if-not-is_within_bounds.false
+bounded c = sym c.is_within_bounds.ensures ∙ c.if-not-is_within_bounds.false
 
 bounded_2 : (c : Else-not-are_import_bits) → within_bounds (key_in c.args.body.now c.args.key) ≡ true
-bounded_2 c = sym c.is_within_bounds.ensures ∙ not-false _ c.if-not-is_within_bounds.false
+bounded_2 c = sym c.is_within_bounds.ensures ∙ c.if-not-is_within_bounds.false
 
 allowed : (c : Else-not-are_import_bits) → Taken import_bits (key (start c))
-allowed c = record { bounds = bounded_2 c; bits = sym c.are_import_bits.ensures ∙ not-false _ c.if-not-are_import_bits.false }
+allowed c = record { bounds = bounded_2 c; bits = sym c.are_import_bits.ensures ∙ c.if-not-are_import_bits.false }
 
 -- the place of the key of that name
 same : (c : After-find_key-same)
@@ -84,7 +84,7 @@ pub returns-then-not-is_within_bounds : goal.returns-then-not-is_within_bounds
 unfolding perform_import
 returns-then-not-is_within_bounds c =
     rw c.refused.ensures
-    (refusal _ _ _ PsaErrorInvalidArgument (out_of_bounds import_bits _ _ _ (sym c.is_within_bounds.ensures ∙ not-true _ c.if-not-is_within_bounds.true)))
+    (refusal _ _ _ PsaErrorInvalidArgument (out_of_bounds import_bits _ _ _ (sym c.is_within_bounds.ensures ∙ c.if-not-is_within_bounds.true)))
 
 pub returns-then-not-are_import_bits : goal.returns-then-not-are_import_bits
 unfolding perform_import
@@ -92,7 +92,7 @@ returns-then-not-are_import_bits c =
     let w = (goal.at.returns-then-not-are_import_bits c).Else-not-is_within_bounds in
     rw c.refused-then-not-are_import_bits.ensures
     (refusal _ _ _ PsaErrorNotSupported
-    (other_bits import_bits _ _ _ (bounded w) (sym c.are_import_bits.ensures ∙ not-true _ c.if-not-are_import_bits.true)))
+    (other_bits import_bits _ _ _ (bounded w) (sym c.are_import_bits.ensures ∙ c.if-not-are_import_bits.true)))
 
 pub returns-in_default : goal.returns-in_default
 unfolding perform_import
@@ -123,5 +123,5 @@ returns c =
     let s = start_3 w in
     let e = sym c.find_slot-empty.ensures ∙ c.in-At.is in
     filling _ _ _ _ (slot_below s.args.registry.now s.args.line [] _ e) _
-    (key_parts s.args.body.now s.args.key s.pre.3 (allowed w'))
+    (key_parts s.args.body.now s.args.key s.requires.3 (allowed w'))
     (imported import_bits _ _ _ (allowed w') (new w) _ e)

@@ -35,7 +35,7 @@ name_part_lem_2 c =
     c.is_legal.ensures ∙ ap (λ (m : ℕ). legal_name key_name_most (take m (drop v.start c.args.body.now))) n
 
 name_passes : (c : Else-not-is_legal) → legal_name key_name_most (key_2 c).name ≡ true
-name_passes c = sym (name_part_lem_2 c) ∙ not-false _ c.if-not-is_legal.false
+name_passes c = sym (name_part_lem_2 c) ∙ c.if-not-is_legal.false
 
 data_length_lem : (s : After-is_legal_data) → length (key_3 s).bytes ≡ s.args.key.bytes.len
 data_length_lem s = length_part s.args.body.now s.args.key.bytes.start s.args.key.bytes.len s.requires.1
@@ -43,7 +43,7 @@ data_length_lem s = length_part s.args.body.now s.args.key.bytes.start s.args.ke
 pub returns-then-not-is_legal : goal.returns-then-not-is_legal
 returns-then-not-is_legal c =
     let w = (goal.at.returns-then-not-is_legal c).After-is_legal in
-    sym (bad_name _ (sym (name_part_lem w) ∙ not-true _ c.if-not-is_legal.true))
+    sym (bad_name _ (sym (name_part_lem w) ∙ c.if-not-is_legal.true))
 
 data_part : (c : After-is_legal_data) → c.is_legal_data.result ≡ legal_data (key_3 c).bytes
 data_part c = c.is_legal_data.ensures (key_3 c).bytes (data_length_lem c)

@@ -15,23 +15,23 @@ use Rattle.judgement.proofs.signature.verify.Goals as goal
 use Rattle.judgement.proofs.signature.verify.Goals.{After-find_key-place, Else-not-is_legal}
 
 legal : (c : Else-not-is_legal) → legal_name key_name_most c.args.name.now ≡ true
-legal c = sym c.is_legal.ensures ∙ not-false _ c.if-not-is_legal.false
+legal c = sym c.is_legal.ensures ∙ c.if-not-is_legal.false
 
 -- what a function that reads the key wants
 there : (c : After-find_key-place)
     → (
     (well_formed_registry c.args.registry.now ≡ true) × (c.args.line.0 < line_count) × Within c.args.list.now c.find_key-place.result)
 there c =
-    (c.pre.0, c.pre.1, c.find_key-place.ensures.within)
+    (c.requires.0, c.requires.1, c.find_key-place.ensures.within)
 
 pub returns-then-not-is_legal : goal.returns-then-not-is_legal
 returns-then-not-is_legal c body =
     rw c.refused.ensures
-    (refusal _ _ body PsaErrorInvalidArgument (bad_verified _ _ _ (sym c.is_legal.ensures ∙ not-true _ c.if-not-is_legal.true) _ _))
+    (refusal _ _ body PsaErrorInvalidArgument (bad_verified _ _ _ (sym c.is_legal.ensures ∙ c.if-not-is_legal.true) _ _))
 
 pub find_key-place-requires : goal.find_key-place-requires
 find_key-place-requires c =
-    ((good_of c.args.registry.now c.pre.0).size, c.pre.1, c.pre.2)
+    ((good_of c.args.registry.now c.requires.0).size, c.requires.1, c.requires.2)
 
 pub returns-in-Nothing : goal.returns-in-Nothing
 returns-in-Nothing c body =

@@ -9,7 +9,7 @@ use Rattle.lookup.proofs.key.is_verifiable.Goals as goal
 pub is_verifiable-requires : goal.is_verifiable-requires
 unfolding Within
 is_verifiable-requires c =
-    (c.pre.0, c.pre.1, subst (Within c.args.list.now) c.in-Own.is c.pre.2)
+    (c.requires.0, c.requires.1, subst (Within c.args.list.now) c.in-Own.is c.requires.2)
 
 pub returns-in-Own : goal.returns-in-Own
 unfolding key_at

@@ -10,7 +10,7 @@ use Rattle.lookup.proofs.key.key_bits.Goals as goal
 pub key_bits-requires : goal.key_bits-requires
 unfolding Within
 key_bits-requires c =
-    (c.pre.0, c.pre.1, subst (Within c.args.list.now) c.in-Own.is c.pre.2)
+    (c.requires.0, c.requires.1, subst (Within c.args.list.now) c.in-Own.is c.requires.2)
 
 pub listed_bytes-requires : goal.listed_bytes-requires
 unfolding Within

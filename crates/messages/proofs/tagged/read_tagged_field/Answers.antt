@@ -37,10 +37,10 @@ whole_3 : (c : After-record_length-size) → is_whole (rest_3 c) ≡ c.is_whole.
 whole_3 c = let s = c.args in ap is_whole (sym (lent s.at s.body.now)) ∙ sym c.is_whole.ensures
 
 is_whole_lem : (c : Else-not-is_whole) → is_whole (rest_2 c) ≡ true
-is_whole_lem c = whole_2 c ∙ not-false _ c.if-not-is_whole.false
+is_whole_lem c = whole_2 c ∙ c.if-not-is_whole.false
 
 is_whole_lem_2 : (c : After-record_length-size) → is_whole (rest_3 c) ≡ true
-is_whole_lem_2 c = whole_3 c ∙ not-false _ c.if-not-is_whole.false
+is_whole_lem_2 c = whole_3 c ∙ c.if-not-is_whole.false
 
 room : (c : Else-not-is_whole) → record_length (rest_2 c) ≤ length (rest_2 c)
 room c = whole_room (rest_2 c) (is_whole_lem c)
@@ -66,7 +66,7 @@ pub returns-then-not-is_whole : goal.returns-then-not-is_whole
 unfolding field_placed
 returns-then-not-is_whole c =
     let w = (goal.at.returns-then-not-is_whole c).After-is_whole in
-    (rw (whole w ∙ not-true _ c.if-not-is_whole.true, field_placed), tt)
+    (rw (whole w ∙ c.if-not-is_whole.true, field_placed), tt)
 
 pub record_length-size-requires : goal.record_length-size-requires
 record_length-size-requires c = rw lent (omega (arith, room c))

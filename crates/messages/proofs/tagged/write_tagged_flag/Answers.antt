@@ -7,7 +7,7 @@ use borrow.Author.Rules.{rules}
 use Rattle.messages.proofs.tagged.write_tagged_flag.Goals as goal
 
 pub returns-then-not-value : goal.returns-then-not-value
-returns-then-not-value c = rw (not-true c.args.value c.if-not-value.true, tagged_none _ [] refl) (wrote_none c.args.out.now)
+returns-then-not-value c = rw (c.if-not-value.true, tagged_none _ [] refl) (wrote_none c.args.out.now)
 
 pub returns : goal.returns
-returns c = rw (not-false c.args.value c.if-not-value.false) c.write_tagged.ensures
+returns c = rw (c.if-not-value.false) c.write_tagged.ensures

@@ -22,11 +22,11 @@ apart c = slots_free_from c.args.line.now c.args.n c.requires.0 c.requires.1 c.r
 pub returns-then-not-are_slots : goal.returns-then-not-are_slots
 returns-then-not-are_slots c =
     let w = (goal.at.returns-then-not-are_slots c).Start in
-    sym (apart w ∙ rw (sym c.are_slots.ensures ∙ not-true _ c.if-not-are_slots.true))
+    sym (apart w ∙ rw (sym c.are_slots.ensures ∙ c.if-not-are_slots.true))
 
 pub returns : goal.returns
 returns c =
     let w = (goal.at.returns c).Start in
     c.all_zero_long.ensures
     ∙ ap (all is_zero) (lent (line_head + c.args.n * slot_size) c.args.line.now)
-    ∙ sym (apart w ∙ rw (sym c.are_slots.ensures ∙ not-false _ c.if-not-are_slots.false))
+    ∙ sym (apart w ∙ rw (sym c.are_slots.ensures ∙ c.if-not-are_slots.false))

@@ -26,12 +26,12 @@ loop-i-init c = (search rules, refl)
 pub returns-then-not-is_line : goal.returns-then-not-is_line
 returns-then-not-is_line c =
     let w = (goal.at.returns-then-not-is_line c).After-is_line in
-    sym (c.loop-i.invariant.1 ∙ blocks_fail well_formed_line line_size c.args.n c.args.registry.now (i w) c.loop-i-test.true (sym (tested w) ∙ not-true _ c.if-not-is_line.true))
+    sym (c.loop-i.invariant.1 ∙ blocks_fail well_formed_line line_size c.args.n c.args.registry.now (i w) c.loop-i-test.true (sym (tested w) ∙ c.if-not-is_line.true))
 
 pub loop-i-preserved : goal.loop-i-preserved
 loop-i-preserved c =
     let w = (goal.at.loop-i-preserved c).After-is_line in
-    (search rules, c.loop-i.invariant.1 ∙ blocks_pass well_formed_line line_size c.args.n c.args.registry.now (i w) c.loop-i-test.true (sym (tested w) ∙ not-false _ c.if-not-is_line.false))
+    (search rules, c.loop-i.invariant.1 ∙ blocks_pass well_formed_line line_size c.args.n c.args.registry.now (i w) c.loop-i-test.true (sym (tested w) ∙ c.if-not-is_line.false))
 
 pub returns : goal.returns
 returns c =

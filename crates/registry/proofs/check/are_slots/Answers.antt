@@ -33,12 +33,12 @@ loop-i-init c = (search rules, refl)
 pub returns-then-not-is_slot : goal.returns-then-not-is_slot
 returns-then-not-is_slot c =
     let w = (goal.at.returns-then-not-is_slot c).After-is_slot in
-    sym (c.loop-i.invariant.1 ∙ blocks_fail well_formed_slot slot_size c.args.n (slots w) (i w) c.loop-i-test.true (sym (tested w) ∙ not-true _ c.if-not-is_slot.true))
+    sym (c.loop-i.invariant.1 ∙ blocks_fail well_formed_slot slot_size c.args.n (slots w) (i w) c.loop-i-test.true (sym (tested w) ∙ c.if-not-is_slot.true))
 
 pub loop-i-preserved : goal.loop-i-preserved
 loop-i-preserved c =
     let w = (goal.at.loop-i-preserved c).After-is_slot in
-    (search rules, c.loop-i.invariant.1 ∙ blocks_pass well_formed_slot slot_size c.args.n (slots w) (i w) c.loop-i-test.true (sym (tested w) ∙ not-false _ c.if-not-is_slot.false))
+    (search rules, c.loop-i.invariant.1 ∙ blocks_pass well_formed_slot slot_size c.args.n (slots w) (i w) c.loop-i-test.true (sym (tested w) ∙ c.if-not-is_slot.false))
 
 pub returns : goal.returns
 returns c =

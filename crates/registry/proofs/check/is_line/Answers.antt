@@ -74,13 +74,13 @@ name_part_lem_4 c =
     c.is_legal.ensures ∙ ap (λ (n : ℕ). legal_name application_name_most (take n (drop 1 (bytes_5 c)))) k
 
 name_passes : (c : Else-not-is_legal) → legal_name application_name_most (name_in (bytes_2 c)) ≡ true
-name_passes c = sym (name_part_lem_2 c) ∙ not-false _ c.if-not-is_legal.false
+name_passes c = sym (name_part_lem_2 c) ∙ c.if-not-is_legal.false
 
 name_passes_2 : (c : Else-not-all_zero) → legal_name application_name_most (name_in (bytes_4 c)) ≡ true
-name_passes_2 c = sym (name_part_lem_3 c) ∙ not-false _ c.if-not-is_legal.false
+name_passes_2 c = sym (name_part_lem_3 c) ∙ c.if-not-is_legal.false
 
 name_passes_3 : (c : Else-not-are_all_slots) → legal_name application_name_most (name_in (bytes_5 c)) ≡ true
-name_passes_3 c = sym (name_part_lem_4 c) ∙ not-false _ c.if-not-is_legal.false
+name_passes_3 c = sym (name_part_lem_4 c) ∙ c.if-not-is_legal.false
 
 short : (c : Else-not-is_legal) → c.wide-n.result ≤ application_name_most
 short c =
@@ -132,19 +132,19 @@ unfolding well_formed_line
 rest1_3 c = rw (name_passes_3 c)
 
 rest2 : (c : Else-not-all_zero) → well_formed_line (bytes_4 (start2 c)) ≡ every (drop 2 (line_tests (bytes_4 (start2 c))))
-rest2 c = rest1_2 c ∙ rw (sym (behind_name_lem_2 c) ∙ not-false _ c.if-not-all_zero.false)
+rest2 c = rest1_2 c ∙ rw (sym (behind_name_lem_2 c) ∙ c.if-not-all_zero.false)
 
 rest2_2 : (c : Else-not-are_all_slots) → well_formed_line (bytes_5 (start2_2 c)) ≡ every (drop 2 (line_tests (bytes_5 (start2_2 c))))
-rest2_2 c = rest1_3 c ∙ rw (sym (behind_name_lem_3 c) ∙ not-false _ c.if-not-all_zero.false)
+rest2_2 c = rest1_3 c ∙ rw (sym (behind_name_lem_3 c) ∙ c.if-not-all_zero.false)
 
 rest3 : (c : Else-not-are_all_slots) → well_formed_line (bytes_5 (start3 c)) ≡ every (drop 3 (line_tests (bytes_5 (start3 c))))
-rest3 c = rest2_2 c ∙ rw (sym c.are_all_slots.ensures ∙ not-false _ c.if-not-are_all_slots.false)
+rest3 c = rest2_2 c ∙ rw (sym c.are_all_slots.ensures ∙ c.if-not-are_all_slots.false)
 
 pub returns-then-not-is_legal : goal.returns-then-not-is_legal
 unfolding well_formed_line
 returns-then-not-is_legal c =
     let w = (goal.at.returns-then-not-is_legal c).After-is_legal in
-    sym (rw (sym (name_part_lem w) ∙ not-true _ c.if-not-is_legal.true))
+    sym (rw (sym (name_part_lem w) ∙ c.if-not-is_legal.true))
 
 pub slice_bounds-all_zero-count : goal.slice_bounds-all_zero-count
 slice_bounds-all_zero-count c = omega (arith, short c)
@@ -156,7 +156,7 @@ pub returns-then-not-all_zero : goal.returns-then-not-all_zero
 returns-then-not-all_zero c =
     let w = (goal.at.returns-then-not-all_zero c).After-all_zero in
     let w' = (goal.at.returns-then-not-all_zero c).Else-not-is_legal in
-    sym (rest1 w' ∙ rw (sym (behind_name_lem w) ∙ not-true _ c.if-not-all_zero.true))
+    sym (rest1 w' ∙ rw (sym (behind_name_lem w) ∙ c.if-not-all_zero.true))
 
 pub are_all_slots-requires : goal.are_all_slots-requires
 are_all_slots-requires c =
@@ -166,7 +166,7 @@ are_all_slots-requires c =
 pub returns-then-not-are_all_slots : goal.returns-then-not-are_all_slots
 returns-then-not-are_all_slots c =
     let w = (goal.at.returns-then-not-are_all_slots c).Else-not-all_zero in
-    sym (rest2 w ∙ rw (sym c.are_all_slots.ensures ∙ not-true _ c.if-not-are_all_slots.true))
+    sym (rest2 w ∙ rw (sym c.are_all_slots.ensures ∙ c.if-not-are_all_slots.true))
 
 pub returns-then-free-lt2 : goal.returns-then-free-lt2
 returns-then-free-lt2 c =
@@ -177,7 +177,7 @@ returns-then-free-lt2 c =
 pub are_keys_distinct-requires : goal.are_keys_distinct-requires
 are_keys_distinct-requires c =
     let w = (goal.at.are_keys_distinct-requires c).Else-not-are_all_slots in
-    ((start3 w).requires, sym c.are_all_slots.ensures ∙ not-false _ c.if-not-are_all_slots.false)
+    ((start3 w).requires, sym c.are_all_slots.ensures ∙ c.if-not-are_all_slots.false)
 
 pub returns : goal.returns
 returns c =

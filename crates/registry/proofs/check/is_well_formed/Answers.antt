@@ -93,7 +93,7 @@ zeros_2 c =
     c.all_zero_long.ensures ∙ ap (all is_zero) (take_all (length b - a) (drop a b) short) ∙ ap (λ (n : ℕ). all is_zero (drop (n * line_size) b)) (used_3 c)
 
 rest2 : (c : Else-not-all_zero_long) → let b = bytes_5 (start_3 c) in well_formed_registry b ≡ every (drop 2 (registry_checks b))
-rest2 c = rest1_2 c ∙ rw (sym (zeros_2 c) ∙ not-false _ c.if-not-all_zero_long.false)
+rest2 c = rest1_2 c ∙ rw (sym (zeros_2 c) ∙ c.if-not-all_zero_long.false)
 
 lines : (c : After-are_lines) → let b = bytes_6 (start_4 c) in c.are_lines.result ≡ all well_formed_line (blocks (used_lines b) line_size b)
 lines c =
@@ -117,7 +117,7 @@ pub returns-then-not-all_zero_long : goal.returns-then-not-all_zero_long
 returns-then-not-all_zero_long c =
     let w = (goal.at.returns-then-not-all_zero_long c).Else-registry-ne-REGISTRY_SIZE in
     let w' = (goal.at.returns-then-not-all_zero_long c).After-all_zero_long in
-    sym (rest1 w ∙ rw (sym (zeros w') ∙ not-true _ c.if-not-all_zero_long.true))
+    sym (rest1 w ∙ rw (sym (zeros w') ∙ c.if-not-all_zero_long.true))
 
 pub are_lines-requires : goal.are_lines-requires
 are_lines-requires c =
@@ -128,11 +128,11 @@ pub returns-then-not-are_lines : goal.returns-then-not-are_lines
 returns-then-not-are_lines c =
     let w = (goal.at.returns-then-not-are_lines c).Else-not-all_zero_long in
     let w' = (goal.at.returns-then-not-are_lines c).After-are_lines in
-    sym (rest2 w ∙ rw (sym (lines w') ∙ not-true _ c.if-not-are_lines.true))
+    sym (rest2 w ∙ rw (sym (lines w') ∙ c.if-not-are_lines.true))
 
 pub returns : goal.returns
 unfolding block_names
 returns c =
     let w = (goal.at.returns c).Else-not-all_zero_long in
     let w' = (goal.at.returns c).After-are_lines in
-    c.are_distinct.ensures ∙ sym (rest2 w ∙ rw (sym (lines w') ∙ not-false _ c.if-not-are_lines.false) (and-true _))
+    c.are_distinct.ensures ∙ sym (rest2 w ∙ rw (sym (lines w') ∙ c.if-not-are_lines.false) (and-true _))

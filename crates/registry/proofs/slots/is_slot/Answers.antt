@@ -192,19 +192,19 @@ name_part_lem_6 c =
     c.is_legal.ensures ∙ ap (λ (n : ℕ). legal_name key_name_most (take n (drop 1 (block_11 c)))) k
 
 name_passes : (c : Else-not-is_legal) → legal_name key_name_most (name_in (block_3 (start2 c))) ≡ true
-name_passes c = sym (name_part_lem_2 c) ∙ not-false _ c.if-not-is_legal.false
+name_passes c = sym (name_part_lem_2 c) ∙ c.if-not-is_legal.false
 
 name_passes_2 : (c : Else-not-all_zero) → legal_name key_name_most (name_in (block_5 (start2_3 c))) ≡ true
-name_passes_2 c = sym (name_part_lem_3 c) ∙ not-false _ c.if-not-is_legal.false
+name_passes_2 c = sym (name_part_lem_3 c) ∙ c.if-not-is_legal.false
 
 name_passes_3 : (c : Else-not-is_legal_data) → legal_name key_name_most (name_in (block_7 (start2_5 c))) ≡ true
-name_passes_3 c = sym (name_part_lem_4 c) ∙ not-false _ c.if-not-is_legal.false
+name_passes_3 c = sym (name_part_lem_4 c) ∙ c.if-not-is_legal.false
 
 name_passes_4 : (c : Else-not-all_zero-2) → legal_name key_name_most (name_in (block_9 (start2_7 c))) ≡ true
-name_passes_4 c = sym (name_part_lem_5 c) ∙ not-false _ c.if-not-is_legal.false
+name_passes_4 c = sym (name_part_lem_5 c) ∙ c.if-not-is_legal.false
 
 name_passes_5 : (c : Else-not-are_legal_bits) → legal_name key_name_most (name_in (block_11 (start2_9 c))) ≡ true
-name_passes_5 c = sym (name_part_lem_6 c) ∙ not-false _ c.if-not-is_legal.false
+name_passes_5 c = sym (name_part_lem_6 c) ∙ c.if-not-is_legal.false
 
 rest2 : (c : Else-not-is_legal) → well_formed_slot (block_3 (start2 c)) ≡ every (drop 1 (key_tests (block_3 (start2 c))))
 rest2 c = rest1_2 c ∙ rw (name_passes c)
@@ -272,55 +272,55 @@ behind_name_lem_5 c =
     ∙ ap (λ (k : ℕ). all is_zero (take k (drop (1 + get_or b 0 0) b))) less
 
 rest3 : (c : Else-not-all_zero) → well_formed_slot (block_5 (start3 c)) ≡ every (drop 2 (key_tests (block_5 (start3 c))))
-rest3 c = rest2_2 c ∙ rw (sym (behind_name_lem_2 c) ∙ not-false _ c.if-not-all_zero.false)
+rest3 c = rest2_2 c ∙ rw (sym (behind_name_lem_2 c) ∙ c.if-not-all_zero.false)
 
 rest3_2 : (c : Else-not-is_legal_data) → well_formed_slot (block_7 (start3_3 c)) ≡ every (drop 2 (key_tests (block_7 (start3_3 c))))
-rest3_2 c = rest2_3 c ∙ rw (sym (behind_name_lem_3 c) ∙ not-false _ c.if-not-all_zero.false)
+rest3_2 c = rest2_3 c ∙ rw (sym (behind_name_lem_3 c) ∙ c.if-not-all_zero.false)
 
 rest3_3 : (c : Else-not-all_zero-2) → well_formed_slot (block_9 (start3_5 c)) ≡ every (drop 2 (key_tests (block_9 (start3_5 c))))
-rest3_3 c = rest2_4 c ∙ rw (sym (behind_name_lem_4 c) ∙ not-false _ c.if-not-all_zero.false)
+rest3_3 c = rest2_4 c ∙ rw (sym (behind_name_lem_4 c) ∙ c.if-not-all_zero.false)
 
 rest3_4 : (c : Else-not-are_legal_bits) → well_formed_slot (block_11 (start3_7 c)) ≡ every (drop 2 (key_tests (block_11 (start3_7 c))))
-rest3_4 c = rest2_5 c ∙ rw (sym (behind_name_lem_5 c) ∙ not-false _ c.if-not-all_zero.false)
+rest3_4 c = rest2_5 c ∙ rw (sym (behind_name_lem_5 c) ∙ c.if-not-all_zero.false)
 
 data_part : (c : After-is_legal_data) → c.is_legal_data.result ≡ legal_data (data_in (block_6 (start3_2 c)))
 data_part c =
     let b = start3_2 c in
     let n : ℕ = field data_length_at 2 (block_6 b) in
-    c.is_legal_data.ensures (replicate n 0) (length-replicate {A = ℕ} n 0 ∙ sym c.size_at-d.ensures.0) ∙ data_judged (block_6 b) b.pre
+    c.is_legal_data.ensures (replicate n 0) (length-replicate {A = ℕ} n 0 ∙ sym c.size_at-d.ensures.0) ∙ data_judged (block_6 b) b.requires
 
 data_part_2 : (c : Else-not-is_legal_data) → c.is_legal_data.result ≡ legal_data (data_in (block_7 (start3_3 c)))
 data_part_2 c =
     let b = start3_3 c in
     let n : ℕ = field data_length_at 2 (block_7 b) in
-    c.is_legal_data.ensures (replicate n 0) (length-replicate {A = ℕ} n 0 ∙ sym c.size_at-d.ensures.0) ∙ data_judged (block_7 b) b.pre
+    c.is_legal_data.ensures (replicate n 0) (length-replicate {A = ℕ} n 0 ∙ sym c.size_at-d.ensures.0) ∙ data_judged (block_7 b) b.requires
 
 data_part_3 : (c : Else-not-all_zero-2) → c.is_legal_data.result ≡ legal_data (data_in (block_9 (start3_5 c)))
 data_part_3 c =
     let b = start3_5 c in
     let n : ℕ = field data_length_at 2 (block_9 b) in
-    c.is_legal_data.ensures (replicate n 0) (length-replicate {A = ℕ} n 0 ∙ sym c.size_at-d.ensures.0) ∙ data_judged (block_9 b) b.pre
+    c.is_legal_data.ensures (replicate n 0) (length-replicate {A = ℕ} n 0 ∙ sym c.size_at-d.ensures.0) ∙ data_judged (block_9 b) b.requires
 
 data_part_4 : (c : Else-not-are_legal_bits) → c.is_legal_data.result ≡ legal_data (data_in (block_11 (start3_7 c)))
 data_part_4 c =
     let b = start3_7 c in
     let n : ℕ = field data_length_at 2 (block_11 b) in
-    c.is_legal_data.ensures (replicate n 0) (length-replicate {A = ℕ} n 0 ∙ sym c.size_at-d.ensures.0) ∙ data_judged (block_11 b) b.pre
+    c.is_legal_data.ensures (replicate n 0) (length-replicate {A = ℕ} n 0 ∙ sym c.size_at-d.ensures.0) ∙ data_judged (block_11 b) b.requires
 
 short_data : (c : Else-not-is_legal_data) → c.size_at-d.result ≤ data_most
 short_data c =
     let d : ℕ = c.size_at-d.result in
-    let legal = sym (c.is_legal_data.ensures (replicate d 0) (length-replicate {A = ℕ} d 0)) ∙ not-false _ c.if-not-is_legal_data.false in
+    let legal = sym (c.is_legal_data.ensures (replicate d 0) (length-replicate {A = ℕ} d 0)) ∙ c.if-not-is_legal_data.false in
     omega (arith, length-replicate {A = ℕ} d 0, legal_data_lem (replicate d 0) legal)
 
 rest4 : (c : Else-not-is_legal_data) → well_formed_slot (block_7 (start4 c)) ≡ every (drop 3 (key_tests (block_7 (start4 c))))
-rest4 c = rest3_2 c ∙ rw (sym (data_part_2 c) ∙ not-false _ c.if-not-is_legal_data.false)
+rest4 c = rest3_2 c ∙ rw (sym (data_part_2 c) ∙ c.if-not-is_legal_data.false)
 
 rest4_2 : (c : Else-not-all_zero-2) → well_formed_slot (block_9 (start4_3 c)) ≡ every (drop 3 (key_tests (block_9 (start4_3 c))))
-rest4_2 c = rest3_3 c ∙ rw (sym (data_part_3 c) ∙ not-false _ c.if-not-is_legal_data.false)
+rest4_2 c = rest3_3 c ∙ rw (sym (data_part_3 c) ∙ c.if-not-is_legal_data.false)
 
 rest4_3 : (c : Else-not-are_legal_bits) → well_formed_slot (block_11 (start4_5 c)) ≡ every (drop 3 (key_tests (block_11 (start4_5 c))))
-rest4_3 c = rest3_4 c ∙ rw (sym (data_part_4 c) ∙ not-false _ c.if-not-is_legal_data.false)
+rest4_3 c = rest3_4 c ∙ rw (sym (data_part_4 c) ∙ c.if-not-is_legal_data.false)
 
 behind_data_lem : (c : After-all_zero-3) → c.all_zero-3.result ≡ all is_zero (behind_data (block_8 (start4_2 c)))
 behind_data_lem c =
@@ -350,10 +350,10 @@ behind_data_lem_3 c =
     ∙ ap (λ (k : ℕ). all is_zero (take k (drop (data_at + field data_length_at 2 b) b))) less
 
 rest5 : (c : Else-not-all_zero-2) → well_formed_slot (block_9 (start5 c)) ≡ every (drop 4 (key_tests (block_9 (start5 c))))
-rest5 c = rest4_2 c ∙ rw (sym (behind_data_lem_2 c) ∙ not-false _ c.if-not-all_zero-2.false)
+rest5 c = rest4_2 c ∙ rw (sym (behind_data_lem_2 c) ∙ c.if-not-all_zero-2.false)
 
 rest5_2 : (c : Else-not-are_legal_bits) → well_formed_slot (block_11 (start5_3 c)) ≡ every (drop 4 (key_tests (block_11 (start5_3 c))))
-rest5_2 c = rest4_3 c ∙ rw (sym (behind_data_lem_3 c) ∙ not-false _ c.if-not-all_zero-2.false)
+rest5_2 c = rest4_3 c ∙ rw (sym (behind_data_lem_3 c) ∙ c.if-not-all_zero-2.false)
 
 bits : (c : After-are_legal_bits) → c.are_legal_bits.result ≡ legal_bits (field bits_at 2 (block_10 (start5_2 c)))
 bits c = c.are_legal_bits.ensures ∙ ap legal_bits c.size_at.ensures.0
@@ -362,7 +362,7 @@ bits_2 : (c : Else-not-are_legal_bits) → c.are_legal_bits.result ≡ legal_bit
 bits_2 c = c.are_legal_bits.ensures ∙ ap legal_bits c.size_at.ensures.0
 
 rest6 : (c : Else-not-are_legal_bits) → well_formed_slot (block_11 (start6 c)) ≡ every (drop 5 (key_tests (block_11 (start6 c))))
-rest6 c = rest5_2 c ∙ rw (sym (bits_2 c) ∙ not-false _ c.if-not-are_legal_bits.false)
+rest6 c = rest5_2 c ∙ rw (sym (bits_2 c) ∙ c.if-not-are_legal_bits.false)
 
 pub returns-then-n-eq0 : goal.returns-then-n-eq0
 returns-then-n-eq0 c = c.all_zero.ensures ∙ sym (free_slot _ (sym c.wide-n.ensures.0 ∙ c.if-n-eq0.true))
@@ -371,7 +371,7 @@ pub returns-then-not-is_legal : goal.returns-then-not-is_legal
 returns-then-not-is_legal c =
     let w = (goal.at.returns-then-not-is_legal c).Else-n-eq0 in
     let w' = (goal.at.returns-then-not-is_legal c).After-is_legal in
-    sym (rest1 w ∙ rw (sym (name_part_lem w') ∙ not-true _ c.if-not-is_legal.true))
+    sym (rest1 w ∙ rw (sym (name_part_lem w') ∙ c.if-not-is_legal.true))
 
 pub slice_bounds-all_zero-count : goal.slice_bounds-all_zero-count
 slice_bounds-all_zero-count c = omega (arith, short c)
@@ -383,13 +383,13 @@ pub returns-then-not-all_zero : goal.returns-then-not-all_zero
 returns-then-not-all_zero c =
     let w = (goal.at.returns-then-not-all_zero c).Else-not-is_legal in
     let w' = (goal.at.returns-then-not-all_zero c).After-all_zero-2 in
-    sym (rest2 w ∙ rw (sym (behind_name_lem w') ∙ not-true _ c.if-not-all_zero.true))
+    sym (rest2 w ∙ rw (sym (behind_name_lem w') ∙ c.if-not-all_zero.true))
 
 pub returns-then-not-is_legal_data : goal.returns-then-not-is_legal_data
 returns-then-not-is_legal_data c =
     let w = (goal.at.returns-then-not-is_legal_data c).Else-not-all_zero in
     let w' = (goal.at.returns-then-not-is_legal_data c).After-is_legal_data in
-    sym (rest3 w ∙ rw (sym (data_part w') ∙ not-true _ c.if-not-is_legal_data.true))
+    sym (rest3 w ∙ rw (sym (data_part w') ∙ c.if-not-is_legal_data.true))
 
 pub slice_bounds-all_zero-count-2 : goal.slice_bounds-all_zero-count-2
 slice_bounds-all_zero-count-2 c = omega (arith, short_data c)
@@ -401,13 +401,13 @@ pub returns-then-not-all_zero-2 : goal.returns-then-not-all_zero-2
 returns-then-not-all_zero-2 c =
     let w = (goal.at.returns-then-not-all_zero-2 c).Else-not-is_legal_data in
     let w' = (goal.at.returns-then-not-all_zero-2 c).After-all_zero-3 in
-    sym (rest4 w ∙ rw (sym (behind_data_lem w') ∙ not-true _ c.if-not-all_zero-2.true))
+    sym (rest4 w ∙ rw (sym (behind_data_lem w') ∙ c.if-not-all_zero-2.true))
 
 pub returns-then-not-are_legal_bits : goal.returns-then-not-are_legal_bits
 returns-then-not-are_legal_bits c =
     let w = (goal.at.returns-then-not-are_legal_bits c).Else-not-all_zero-2 in
     let w' = (goal.at.returns-then-not-are_legal_bits c).After-are_legal_bits in
-    sym (rest5 w ∙ rw (sym (bits w') ∙ not-true _ c.if-not-are_legal_bits.true))
+    sym (rest5 w ∙ rw (sym (bits w') ∙ c.if-not-are_legal_bits.true))
 
 pub returns-then-s-gt1 : goal.returns-then-s-gt1
 returns-then-s-gt1 c =

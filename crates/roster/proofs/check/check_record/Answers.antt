@@ -111,13 +111,13 @@ whole_test_4 c =
     sym (c.is_whole.ensures ∙ ap is_whole (lent c.args.at c.args.file.now))
 
 whole : (c : Else-not-is_whole) → is_whole (bytes_2 c) ≡ true
-whole c = whole_test_2 c ∙ not-false _ c.if-not-is_whole.false
+whole c = whole_test_2 c ∙ c.if-not-is_whole.false
 
 whole_2 : (c : After-shared_slice_known-2-1) → is_whole (bytes_3 c) ≡ true
-whole_2 c = whole_test_3 c ∙ not-false _ c.if-not-is_whole.false
+whole_2 c = whole_test_3 c ∙ c.if-not-is_whole.false
 
 whole_3 : (c : Else-bytes-ne1) → is_whole (bytes_4 c) ≡ true
-whole_3 c = whole_test_4 c ∙ not-false _ c.if-not-is_whole.false
+whole_3 c = whole_test_4 c ∙ c.if-not-is_whole.false
 
 some_bytes : (c : Else-not-is_whole) → 0 < length (bytes_2 c)
 some_bytes c = omega (arith, whole_room (bytes_2 c) (whole c))
@@ -163,7 +163,7 @@ legal_test_2 : (c : Else-not-is_legal) → legal_name application_name_most (val
 legal_test_2 c = sym (c.is_legal.ensures ∙ ap (legal_name application_name_most) (value_2 c))
 
 legal : (c : Else-not-is_legal) → legal_name application_name_most (value_in (bytes_6 (start3 c))) ≡ true
-legal c = legal_test_2 c ∙ not-false _ c.if-not-is_legal.false
+legal c = legal_test_2 c ∙ c.if-not-is_legal.false
 
 many : (s : Start) → length (names s) ≡ s.args.names.count
 many s = names_many s.args.file.now s.args.names s.requires.1
@@ -185,7 +185,7 @@ unfolding loaded_of
 returns-then-not-is_whole c =
     let w = (goal.at.returns-then-not-is_whole c).Start in
     let w' = (goal.at.returns-then-not-is_whole c).After-is_whole in
-    rw (fault_cut (names w) (bytes w') (whole_test w' ∙ not-true _ c.if-not-is_whole.true))
+    rw (fault_cut (names w) (bytes w') (whole_test w' ∙ c.if-not-is_whole.true))
 
 pub bounds-bytes-0 : goal.bounds-bytes-0
 bounds-bytes-0 c =
@@ -211,7 +211,7 @@ returns-then-not-is_legal c =
     let w' = (goal.at.returns-then-not-is_legal c).After-is_legal in
     let w2 = (goal.at.returns-then-not-is_legal c).Else-bytes-ne1 in
     let s = start2_2 w' in
-    rw (fault_name (names s) (bytes s) (whole_3 w2) (tag w2) (legal_test w' ∙ not-true _ c.if-not-is_legal.true))
+    rw (fault_name (names s) (bytes s) (whole_3 w2) (tag w2) (legal_test w' ∙ c.if-not-is_legal.true))
 
 pub returns-then-names-ge-LINES : goal.returns-then-names-ge-LINES
 unfolding loaded_of

@@ -53,7 +53,7 @@ returns-then-equal c =
     sym (ap not (c.loop-i.invariant.1 ∙ all_fail (differs_2 w) [] (all_names_3 w) (i_2 w) (there w') (compared w ∙ ap not c.if-equal.true)))
 
 pub overflow_add-i : goal.overflow_add-i
-overflow_add-i c = omega (arith, c.pre.few)
+overflow_add-i c = omega (arith, c.requires.few)
 
 pub loop-i-preserved : goal.loop-i-preserved
 loop-i-preserved c =

@@ -103,7 +103,7 @@ loop-at-preserved c =
     let more = names_more (file_3 c) l.names l.inv.0 (at_3 c) (few w) in
     rw (c.with_name-names.ensures, ahead c) (
       within_more (file_3 c) l.names l.inv.0 (at_3 c) (few w) (whole w),
-      ap (roster_from (file_3 c) (at_3 c + record_length (bytes_2 c))) more ∙ sym (roster_on (file_3 c) (at_3 c) (names_2 w) c.loop-at-test.taken (passed w)) ∙ l.inv.1,
+      ap (roster_from (file_3 c) (at_3 c + record_length (bytes_2 c))) more ∙ sym (roster_on (file_3 c) (at_3 c) (names_2 w) c.loop-at-test.true (passed w)) ∙ l.inv.1,
     )
 
 pub returns-in-Faulty : goal.returns-in-Faulty

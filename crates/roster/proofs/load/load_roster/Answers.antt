@@ -33,7 +33,7 @@ pub write_names-requires : goal.write_names-requires
 unfolding names
 write_names-requires c =
     let w = (goal.at.write_names-requires c).In-Good in
-    (c.if-registry-ne-REGISTRY_SIZE.left, c.check_roster-checked.ensures.within, (roster_legal (file_2 w) (names w) (good w)).legal)
+    (c.if-registry-ne-REGISTRY_SIZE.false, c.check_roster-checked.ensures.within, (roster_legal (file_2 w) (names w) (good w)).legal)
 
 pub returns-in-Good : goal.returns-in-Good
 unfolding load_roster roster_into names

@@ -83,7 +83,7 @@ write_line-requires c =
     )
 
 pub overflow_add-i : goal.overflow_add-i
-overflow_add-i c = omega (arith, c.pre.1.few, c.loop-i-test.taken)
+overflow_add-i c = omega (arith, c.requires.1.few, c.loop-i-test.true)
 
 pub loop-i-smaller : goal.loop-i-smaller
 loop-i-smaller c = omega (arith, c.loop-i-test.true)
@@ -96,7 +96,7 @@ loop-i-preserved c =
     let inv = c.loop-i.inv in
     let d : List ℕ = c.args.registry.now in
     let done : List ℕ = lines_of (names_3 w) (i_2 w) in (
-      omega (arith, c.loop-i-test.taken),
+      omega (arith, c.loop-i-test.true),
       (
         written w
             ∙ put_on done (line_of (name_2 w)) d (registry w) (i_2 w * line_size) (sym (reach w' (i_2 w) inv.0)) inv.1.0

@@ -80,10 +80,10 @@ returns c =
     let under : base w' < n = leb-false n (base w') (sym c.is_at_least.ensures ∙ c.if-is_at_least.false) in
     let below : x < n = rw (loaded w') at under in
     let ruled : powered (value_of p.new.acc) p.result ≡ square_and_multiply n x e = p.ensures ∙ ap (λ (v : ℕ). square_and_multiply n v e) (loaded w') in
-    let m : value_of p.new.acc ≡ rsavp1 n e x = ap (λ (q : Powered). q.power) ruled ∙ power_right n x e below c.pre.1.3 c.fits.e.fits in
+    let m : value_of p.new.acc ≡ rsavp1 n e x = ap (λ (q : Powered). q.power) ruled ∙ power_right n x e below c.requires.1.3 c.fits.e.fits in
     let told : c.equal.result ≡ eqb (rsavp1 n e x) (os2ip em) =
     c.equal.ensures ∙ ap (λ (v : ℕ). eqb v (value_of c.read_big_endian-2.new.dst)) m ∙ ap (λ (v : ℕ). eqb (rsavp1 n e x) v) c.read_big_endian-2.ensures in
     c.report_of-2.ensures
     ∙ ap (λ (o : Outcome). report o p.result) (c.outcome_of-outcome.ensures ∙ ap (λ (b : Bool). outcome_of b) told)
     ∙ ap (λ (z : ℕ). report (outcome_of (eqb (rsavp1 n e x) (os2ip em))) z) (ap (λ (q : Powered). q.count) ruled)
-    ∙ judged n e (size w) (hash w) (signature_2 w') c.if-hash-ne32.false c.if-signature-em.false below c.pre.1.2 em coded.ensures coded.auto.em (λ i. (c.slice_known-8-1.given i).fits)
+    ∙ judged n e (size w) (hash w) (signature_2 w') c.if-hash-ne32.false c.if-signature-em.false below c.requires.1.2 em coded.ensures coded.auto.em (λ i. (c.slice_known-8-1.given i).fits)

@@ -24,7 +24,7 @@ loaded k =
 pub check_signature-requires : goal.check_signature-requires
 check_signature-requires c =
     let w = (goal.at.check_signature-requires c).After-read_big_endian in
-    let b : number_in c.args.key.now c.args.modulus (size w) < 256 ^ size w = part_bound c.args.key.now c.args.modulus (size w) c.pre.1.2 (λ i. (c.shared_slice_known-1.given i).fits) in
+    let b : number_in c.args.key.now c.args.modulus (size w) < 256 ^ size w = part_bound c.args.key.now c.args.modulus (size w) c.requires.1.2 (λ i. (c.shared_slice_known-1.given i).fits) in
     let v : value_of c.read_big_endian.new.dst ≤ 256 ^ size w = rw (loaded w) (omega arith) in
     ((search rules, search rules, search rules, search rules, search rules), (search rules, search rules, v, search rules))
 

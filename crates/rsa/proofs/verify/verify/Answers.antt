@@ -82,15 +82,15 @@ sound_2 : (k : Else-not-has_bits) → Sound (key_2 k) (modulus_2 k) (size_2 k) (
 sound_2 k = key_sound (key_2 k) (octets_2 k) (modulus_2 k) (size_2 k) (exponent_2 k) (told_2 k)
 
 supported : (c : Else-not-are_supported_bits) → supported_bits (bits_2 c) ≡ true
-supported c = sym c.are_supported_bits.ensures ∙ not-false c.are_supported_bits.result c.if-not-are_supported_bits.false
+supported c = sym c.are_supported_bits.ensures ∙ c.if-not-are_supported_bits.false
 
 supported_2 : (c : Else-not-has_bits) → supported_bits (bits_3 c) ≡ true
-supported_2 c = sym c.are_supported_bits.ensures ∙ not-false c.are_supported_bits.result c.if-not-are_supported_bits.false
+supported_2 c = sym c.are_supported_bits.ensures ∙ c.if-not-are_supported_bits.false
 
 -- behind the tests: the modulus has so many bits, so that it is a zero byte and as many bytes
 
 of_bits : (c : Else-not-has_bits) → has_bits (number_in (key_2 c) (modulus_2 c) (size_2 c)) (bits_3 c) ≡ true
-of_bits c = sym c.has_bits.ensures ∙ not-false c.has_bits.result c.if-not-has_bits.false
+of_bits c = sym c.has_bits.ensures ∙ c.if-not-has_bits.false
 
 sized : (c : Else-not-has_bits) → (size_2 c ≡ bits_3 c / 8 + 1) × (get_or (key_2 c) (modulus_2 c) 0 ≡ 0)
 sized c =
@@ -107,7 +107,7 @@ returns-in_default c =
 pub returns-then-not-are_supported_bits : goal.returns-then-not-are_supported_bits
 returns-then-not-are_supported_bits c =
     let w = (goal.at.returns-then-not-are_supported_bits c).In-Valid in
-    let b : supported_bits (bits w) ≡ false = sym c.are_supported_bits.ensures ∙ not-true c.are_supported_bits.result c.if-not-are_supported_bits.true in
+    let b : supported_bits (bits w) ≡ false = sym c.are_supported_bits.ensures ∙ c.if-not-are_supported_bits.true in
     c.report_of-then-not-are_supported_bits.ensures ∙ other_bits (key w) (bits w) (hash w) (signature w) (modulus w) (size w) (exponent w) (told w) b
 
 pub has_bits-requires : goal.has_bits-requires
@@ -120,7 +120,7 @@ pub returns-then-not-has_bits : goal.returns-then-not-has_bits
 returns-then-not-has_bits c =
     let w = (goal.at.returns-then-not-has_bits c).In-Valid in
     let w' = (goal.at.returns-then-not-has_bits c).Else-not-are_supported_bits in
-    let h : has_bits (number_in (key w) (modulus w) (size w)) (bits_2 w') ≡ false = sym c.has_bits.ensures ∙ not-true c.has_bits.result c.if-not-has_bits.true in
+    let h : has_bits (number_in (key w) (modulus w) (size w)) (bits_2 w') ≡ false = sym c.has_bits.ensures ∙ c.if-not-has_bits.true in
     c.report_of-then-not-has_bits.ensures ∙ other_size (key w) (bits_2 w') (hash w) (signature w) (modulus w) (size w) (exponent w) (told w) (supported w') h
 
 pub overflow_add-modulus : goal.overflow_add-modulus

@@ -49,39 +49,39 @@ returns-then-not-is_unsigned c =
     let w = (goal.at.returns-then-not-is_unsigned c).In-Contents in
     let m : ℕ = c.args.modulus in
     let z : ℕ = c.args.size in
-    law.bad_integer (s w) (start w) (len w) m z c.if-start-len.false (sym c.is_unsigned.ensures ∙ not-true c.is_unsigned.result c.if-not-is_unsigned.true) ∙ ap (λ (e : Element). with_exponent (s w) m z e) (sym (told w))
+    law.bad_integer (s w) (start w) (len w) m z c.if-start-len.false (sym c.is_unsigned.ensures ∙ c.if-not-is_unsigned.true) ∙ ap (λ (e : Element). with_exponent (s w) m z e) (sym (told w))
 
 pub returns-then-len-gt5 : goal.returns-then-len-gt5
 returns-then-len-gt5 c =
     let w = (goal.at.returns-then-len-gt5 c).In-Contents in
     let m : ℕ = c.args.modulus in
     let z : ℕ = c.args.size in
-    law.too_long (s w) (start w) (len w) m z c.if-start-len.false (sym c.is_unsigned.ensures ∙ not-false c.is_unsigned.result c.if-not-is_unsigned.false) (λ i. (c.shared_slice_known-1.given i).fits) c.if-len-gt5.true ∙ ap (λ (e : Element). with_exponent (s w) m z e) (sym (told w))
+    law.too_long (s w) (start w) (len w) m z c.if-start-len.false (sym c.is_unsigned.ensures ∙ c.if-not-is_unsigned.false) (λ i. (c.shared_slice_known-1.given i).fits) c.if-len-gt5.true ∙ ap (λ (e : Element). with_exponent (s w) m z e) (sym (told w))
 
 pub returns-then-exponent-lt3 : goal.returns-then-exponent-lt3
 returns-then-exponent-lt3 c =
     let w = (goal.at.returns-then-exponent-lt3 c).In-Contents in
     let m : ℕ = c.args.modulus in
     let z : ℕ = c.args.size in
-    law.too_small (s w) (start w) (len w) m z c.if-start-len.false (sym c.is_unsigned.ensures ∙ not-false c.is_unsigned.result c.if-not-is_unsigned.false) (omega (arith, c.read_short-exponent.ensures.0, c.if-exponent-lt3.true)) ∙ ap (λ (e : Element). with_exponent (s w) m z e) (sym (told w))
+    law.too_small (s w) (start w) (len w) m z c.if-start-len.false (sym c.is_unsigned.ensures ∙ c.if-not-is_unsigned.false) (omega (arith, c.read_short-exponent.ensures.0, c.if-exponent-lt3.true)) ∙ ap (λ (e : Element). with_exponent (s w) m z e) (sym (told w))
 
 pub returns-then-exponent-gt4294967295 : goal.returns-then-exponent-gt4294967295
 returns-then-exponent-gt4294967295 c =
     let w = (goal.at.returns-then-exponent-gt4294967295 c).In-Contents in
     let m : ℕ = c.args.modulus in
     let z : ℕ = c.args.size in
-    law.too_large (s w) (start w) (len w) m z c.if-start-len.false (sym c.is_unsigned.ensures ∙ not-false c.is_unsigned.result c.if-not-is_unsigned.false) (omega (arith, c.read_short-exponent.ensures.0, c.if-exponent-lt3.false)) (omega (arith, c.read_short-exponent.ensures.0, c.if-exponent-gt4294967295.true)) ∙ ap (λ (e : Element). with_exponent (s w) m z e) (sym (told w))
+    law.too_large (s w) (start w) (len w) m z c.if-start-len.false (sym c.is_unsigned.ensures ∙ c.if-not-is_unsigned.false) (omega (arith, c.read_short-exponent.ensures.0, c.if-exponent-lt3.false)) (omega (arith, c.read_short-exponent.ensures.0, c.if-exponent-gt4294967295.true)) ∙ ap (λ (e : Element). with_exponent (s w) m z e) (sym (told w))
 
 pub returns-then-exponent-ne1 : goal.returns-then-exponent-ne1
 returns-then-exponent-ne1 c =
     let w = (goal.at.returns-then-exponent-ne1 c).In-Contents in
     let m : ℕ = c.args.modulus in
     let z : ℕ = c.args.size in
-    law.even (s w) (start w) (len w) m z c.if-start-len.false (sym c.is_unsigned.ensures ∙ not-false c.is_unsigned.result c.if-not-is_unsigned.false) (omega (arith, c.read_short-exponent.ensures.0, c.if-exponent-lt3.false)) (omega (arith, c.read_short-exponent.ensures.0, c.if-exponent-gt4294967295.false)) (λ e. c.if-exponent-ne1.true (ap (λ (x : ℕ). x % 2) c.read_short-exponent.ensures.0 ∙ e)) ∙ ap (λ (e : Element). with_exponent (s w) m z e) (sym (told w))
+    law.even (s w) (start w) (len w) m z c.if-start-len.false (sym c.is_unsigned.ensures ∙ c.if-not-is_unsigned.false) (omega (arith, c.read_short-exponent.ensures.0, c.if-exponent-lt3.false)) (omega (arith, c.read_short-exponent.ensures.0, c.if-exponent-gt4294967295.false)) (λ e. c.if-exponent-ne1.true (ap (λ (x : ℕ). x % 2) c.read_short-exponent.ensures.0 ∙ e)) ∙ ap (λ (e : Element). with_exponent (s w) m z e) (sym (told w))
 
 pub returns : goal.returns
 returns c =
     let w = (goal.at.returns c).In-Contents in
     let m : ℕ = c.args.modulus in
     let z : ℕ = c.args.size in
-    ap (λ (x : ℕ). Valid m z x) c.read_short-exponent.ensures.0 ∙ law.taken (s w) (start w) (len w) m z c.if-start-len.false (sym c.is_unsigned.ensures ∙ not-false c.is_unsigned.result c.if-not-is_unsigned.false) (omega (arith, c.read_short-exponent.ensures.0, c.if-exponent-lt3.false)) (omega (arith, c.read_short-exponent.ensures.0, c.if-exponent-gt4294967295.false)) (ap (λ (x : ℕ). x % 2) (sym c.read_short-exponent.ensures.0) ∙ c.if-exponent-ne1.false) ∙ ap (λ (e : Element). with_exponent (s w) m z e) (sym (told w))
+    ap (λ (x : ℕ). Valid m z x) c.read_short-exponent.ensures.0 ∙ law.taken (s w) (start w) (len w) m z c.if-start-len.false (sym c.is_unsigned.ensures ∙ c.if-not-is_unsigned.false) (omega (arith, c.read_short-exponent.ensures.0, c.if-exponent-lt3.false)) (omega (arith, c.read_short-exponent.ensures.0, c.if-exponent-gt4294967295.false)) (ap (λ (x : ℕ). x % 2) (sym c.read_short-exponent.ensures.0) ∙ c.if-exponent-ne1.false) ∙ ap (λ (e : Element). with_exponent (s w) m z e) (sym (told w))

@@ -39,7 +39,7 @@ is_modulus-requires c = (inside c, c.requires.1)
 pub returns-then-not-is_modulus : goal.returns-then-not-is_modulus
 returns-then-not-is_modulus c =
     let w = (goal.at.returns-then-not-is_modulus c).In-Contents in
-    law.bad_modulus (s w) (start w) (len w) (sym c.is_modulus.ensures ∙ not-true c.is_modulus.result c.if-not-is_modulus.true) ∙ ap (λ (e : Element). with_modulus (s w) e) (sym (told w))
+    law.bad_modulus (s w) (start w) (len w) (sym c.is_modulus.ensures ∙ c.if-not-is_modulus.true) ∙ ap (λ (e : Element). with_modulus (s w) e) (sym (told w))
 
 pub overflow_add-start : goal.overflow_add-start
 overflow_add-start c =
@@ -54,4 +54,4 @@ read_exponent-requires c =
 pub returns : goal.returns
 returns c =
     let w = (goal.at.returns c).In-Contents in
-    c.read_exponent.ensures ∙ law.good_modulus (s w) (start w) (len w) (sym c.is_modulus.ensures ∙ not-false c.is_modulus.result c.if-not-is_modulus.false) ∙ ap (λ (e : Element). with_modulus (s w) e) (sym (told w))
+    c.read_exponent.ensures ∙ law.good_modulus (s w) (start w) (len w) (sym c.is_modulus.ensures ∙ c.if-not-is_modulus.false) ∙ ap (λ (e : Element). with_modulus (s w) e) (sym (told w))

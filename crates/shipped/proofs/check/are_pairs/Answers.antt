@@ -130,7 +130,7 @@ abbrev turn2_4 : Else-is_repeated → Else-is_repeated
 turn2_4 c = c
 
 few : (c : Else-is_repeated) → length (keys_4 (turn2_4 c)) < listed_most
-few c = omega (arith, c.if-count-ge-LISTED_MOST.false, (turn2_4 c).before.loop.invariant.1.1.1.0)
+few c = omega (arith, c.if-count-ge-LISTED_MOST.false, (turn2_4 c).before.loop-at.invariant.1.1.1.0)
 
 abbrev turn3 : After-is_repeated → After-is_repeated
 turn3 c = turn2_3 c
@@ -185,7 +185,7 @@ more : (c : Else-is_repeated) → list_of (take (at_7 (turn c) + n c) (list_7 (t
 more c =
     let t = turn c in
     ap (λ (k : ℕ). list_of (take (at_7 t + k) (list_7 t))) (long c)
-    ∙ before_more (keys_4 t) (list_7 t) (at_7 t) (few c) (good_list (take (at_7 t) (list_7 t)) t.before.loop.inv.1.0) (there c) (fresh c)
+    ∙ before_more (keys_4 t) (list_7 t) (at_7 t) (few c) (good_list (take (at_7 t) (list_7 t)) t.before.loop-at.invariant.1.0) (there c) (fresh c)
 
 pub loop-at-init : goal.loop-at-init
 unfolding list_of
@@ -213,10 +213,10 @@ returns-then-count-ge-LISTED_MOST c =
     sym (list_bad (list_3 w) (sym (reads w') ∙ pairs_over (keys w') (bytes_3 w) (pair w) full))
 
 pub slice_bounds-value_in-count : goal.slice_bounds-value_in-count
-slice_bounds-value_in-count c = (turn2 c).before.loop.invariant.0
+slice_bounds-value_in-count c = (turn2 c).before.loop-at.invariant.0
 
 pub slice_bounds-value_in-start : goal.slice_bounds-value_in-start
-slice_bounds-value_in-start c = (turn2 c).before.loop.invariant.0
+slice_bounds-value_in-start c = (turn2 c).before.loop-at.invariant.0
 
 pub value_in-name-requires : goal.value_in-name-requires
 value_in-name-requires c =
@@ -227,12 +227,12 @@ value_in-name-requires c =
 pub slice_bounds-is_repeated-end : goal.slice_bounds-is_repeated-end
 slice_bounds-is_repeated-end c =
     let w = (goal.at.slice_bounds-is_repeated-end c).After-value_in-name in
-    sym (turn2_2 w).before.loop.invariant.1.1.1.1.room
+    sym (turn2_2 w).before.loop-at.invariant.1.1.1.1.room
 
 pub is_repeated-requires : goal.is_repeated-requires
 is_repeated-requires c =
     let w = (goal.at.is_repeated-requires c).After-value_in-name in
-    let inv = (turn2_2 w).before.loop.invariant in
+    let inv = (turn2_2 w).before.loop-at.invariant in
     (inv.0, inv.1.0, inv.1.1.1.1, c.mark_of-mark.ensures)
 
 pub returns-then-is_repeated : goal.returns-then-is_repeated
@@ -267,10 +267,10 @@ loop-at-preserved c =
     let all : keys_in x ≡ keys_4 t ++ (key ∷ []) = list_keys x (keys_4 t ++ (key ∷ [])) (more c) in
     let rest : drop (at_7 t + n c) (list_7 t) ≡ drop (pair_length (bytes_6 t)) (bytes_6 t)
     = ap (λ (k : ℕ). drop (at_7 t + k) (list_7 t)) (long c) ∙ sym (drop-drop (pair_length (bytes_6 t)) (at_7 t) (list_7 t)) in
-    let inv = t.before.loop.inv.1.1.1 in
-    let marked : Marked (keys_in x) (set t.before.loop.marks t.before.loop.count c.mark_of-mark.result)
-    = subst (λ (ks : List ListedKey). Marked ks (set t.before.loop.marks t.before.loop.count c.mark_of-mark.result)) (sym all)
-    (marked_more (keys_4 t) t.before.loop.marks inv.1 key t.before.loop.count c.mark_of-mark.result inv.0 c.if-count-ge-LISTED_MOST.false
+    let inv = t.before.loop-at.invariant.1.1.1 in
+    let marked : Marked (keys_in x) (set t.before.loop-at.marks t.before.loop-at.count c.mark_of-mark.result)
+    = subst (λ (ks : List ListedKey). Marked ks (set t.before.loop-at.marks t.before.loop-at.count c.mark_of-mark.result)) (sym all)
+    (marked_more (keys_4 t) t.before.loop-at.marks inv.1 key t.before.loop-at.count c.mark_of-mark.result inv.0 c.if-count-ge-LISTED_MOST.false
     (c.mark_of-mark.ensures ∙ ap mark_of (name_2 c))) in (
       within c,
       (
@@ -279,7 +279,7 @@ loop-at-preserved c =
           ap₂ (λ (l : List ℕ) (ks : List ListedKey). read_pairs l (whole ks)) rest all
               ∙ sym (pairs_on (keys_4 t) (bytes_6 t) (there c) (few c) (fresh c))
               ∙ reads t,
-          (omega (arith, ap length all, length-append (keys_4 t) (key ∷ []), t.before.loop.inv.1.1.1.0), marked),
+          (omega (arith, ap length all, length-append (keys_4 t) (key ∷ []), t.before.loop-at.invariant.1.1.1.0), marked),
         ),
       ),
     )

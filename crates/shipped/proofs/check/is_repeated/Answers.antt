@@ -40,11 +40,11 @@ returns-then-not-is_among c =
     let w = (goal.at.returns-then-not-is_among c).Start in
     let none : all (differs_from (mark_of c.args.name.now)) c.args.marks.now ≡ true
     = ap (λ (m : ℕ). all (differs_from m) c.args.marks.now) (sym c.requires.3)
-    ∙ not-false (all (differs_from c.args.mark) c.args.marks.now) (sym c.is_among.ensures ∙ not-true c.is_among.result c.if-not-is_among.true) in
+    ∙ not-false (all (differs_from c.args.mark) c.args.marks.now) (sym c.is_among.ensures ∙ c.if-not-is_among.true) in
     sym (ap not (unmarked_new (keys_in (before w)) c.args.marks.now c.requires.2 c.args.name.now none))
 
 pub slice_bounds-find_listed-end : goal.slice_bounds-find_listed-end
-slice_bounds-find_listed-end c = sym (length-take-le c.args.at c.args.list.now c.pre.0)
+slice_bounds-find_listed-end c = sym (length-take-le c.args.at c.args.list.now c.requires.0)
 
 pub returns-in-At : goal.returns-in-At
 unfolding data_found is_some

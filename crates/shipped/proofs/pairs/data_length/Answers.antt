@@ -44,16 +44,16 @@ abbrev start2_3 : After-is_legal_data → After-is_legal_data
 start2_3 c = c
 
 whole : (c : Else-not-is_whole) → is_whole (bytes c) ≡ true
-whole c = sym c.is_whole.ensures ∙ not-false _ c.if-not-is_whole.false
+whole c = sym c.is_whole.ensures ∙ c.if-not-is_whole.false
 
 whole_2 : (c : Else-bytes-ne2) → is_whole (bytes_2 c) ≡ true
-whole_2 c = sym c.is_whole.ensures ∙ not-false _ c.if-not-is_whole.false
+whole_2 c = sym c.is_whole.ensures ∙ c.if-not-is_whole.false
 
 whole_3 : (c : After-record_length-n) → is_whole (bytes_3 c) ≡ true
-whole_3 c = sym c.is_whole.ensures ∙ not-false _ c.if-not-is_whole.false
+whole_3 c = sym c.is_whole.ensures ∙ c.if-not-is_whole.false
 
 whole_4 : (c : After-is_legal_data) → is_whole (bytes_4 c) ≡ true
-whole_4 c = sym c.is_whole.ensures ∙ not-false _ c.if-not-is_whole.false
+whole_4 c = sym c.is_whole.ensures ∙ c.if-not-is_whole.false
 
 some_bytes : (c : Else-not-is_whole) → 0 < length (bytes c)
 some_bytes c = omega (arith, whole_room (bytes c) (whole c))
@@ -72,7 +72,7 @@ tag c = eq-eqb _ 2 (tag_test_2 c ∙ c.if-bytes-ne2.false)
 
 pub returns-then-not-is_whole : goal.returns-then-not-is_whole
 unfolding data_length is_data
-returns-then-not-is_whole c = rw (sym c.is_whole.ensures ∙ not-true _ c.if-not-is_whole.true)
+returns-then-not-is_whole c = rw (sym c.is_whole.ensures ∙ c.if-not-is_whole.true)
 
 pub bounds-bytes-0 : goal.bounds-bytes-0
 bounds-bytes-0 c =
@@ -107,11 +107,11 @@ unfolding data_length is_data
 returns-then-not-is_legal_data c =
     let w = (goal.at.returns-then-not-is_legal_data c).After-is_legal_data in
     let w' = (goal.at.returns-then-not-is_legal_data c).Else-bytes-ne2 in
-    rw (whole_4 w, tag w', sym (value w) ∙ not-true _ c.if-not-is_legal_data.true)
+    rw (whole_4 w, tag w', sym (value w) ∙ c.if-not-is_legal_data.true)
 
 pub returns : goal.returns
 unfolding data_length is_data
 returns c =
     let w = (goal.at.returns c).After-is_legal_data in
     let w' = (goal.at.returns c).Else-bytes-ne2 in
-    rw (whole_4 w, tag w', sym (value w) ∙ not-false _ c.if-not-is_legal_data.false) c.record_length-n.ensures
+    rw (whole_4 w, tag w', sym (value w) ∙ c.if-not-is_legal_data.false) c.record_length-n.ensures

@@ -36,10 +36,10 @@ abbrev start2_2 : After-is_legal → After-is_legal
 start2_2 c = c
 
 whole : (c : Else-not-is_whole) → is_whole (bytes c) ≡ true
-whole c = sym c.is_whole.ensures ∙ not-false _ c.if-not-is_whole.false
+whole c = sym c.is_whole.ensures ∙ c.if-not-is_whole.false
 
 whole_2 : (c : Else-bytes-ne1) → is_whole (bytes_2 c) ≡ true
-whole_2 c = sym c.is_whole.ensures ∙ not-false _ c.if-not-is_whole.false
+whole_2 c = sym c.is_whole.ensures ∙ c.if-not-is_whole.false
 
 some_bytes : (c : Else-not-is_whole) → 0 < length (bytes c)
 some_bytes c = omega (arith, whole_room (bytes c) (whole c))
@@ -58,7 +58,7 @@ tag c = eq-eqb _ 1 (tag_test_2 c ∙ c.if-bytes-ne1.false)
 
 pub returns-then-not-is_whole : goal.returns-then-not-is_whole
 unfolding name_length is_name
-returns-then-not-is_whole c = rw (sym c.is_whole.ensures ∙ not-true _ c.if-not-is_whole.true)
+returns-then-not-is_whole c = rw (sym c.is_whole.ensures ∙ c.if-not-is_whole.true)
 
 pub bounds-bytes-0 : goal.bounds-bytes-0
 bounds-bytes-0 c =
@@ -82,7 +82,7 @@ unfolding name_length is_name
 returns-then-not-is_legal c =
     let w = (goal.at.returns-then-not-is_legal c).Else-bytes-ne1 in
     let w' = (goal.at.returns-then-not-is_legal c).After-is_legal in
-    rw (whole_2 w, tag w, legal_test w' ∙ not-true _ c.if-not-is_legal.true)
+    rw (whole_2 w, tag w, legal_test w' ∙ c.if-not-is_legal.true)
 
 pub record_length-requires : goal.record_length-requires
 record_length-requires c =
@@ -95,4 +95,4 @@ unfolding name_length is_name
 returns c =
     let w = (goal.at.returns c).Else-bytes-ne1 in
     let w' = (goal.at.returns c).After-is_legal in
-    rw (whole_2 w, tag w, legal_test w' ∙ not-false _ c.if-not-is_legal.false) c.record_length.ensures
+    rw (whole_2 w, tag w, legal_test w' ∙ c.if-not-is_legal.false) c.record_length.ensures

@@ -20,7 +20,7 @@ returns-then-bytes-lt6 c = sym (ap frame_of (next_short _ c.if-bytes-lt6.true))
 
 pub returns-then-not-is_legal_start : goal.returns-then-not-is_legal_start
 returns-then-not-is_legal_start c =
-    sym (ap frame_of (next_bad _ c.if-bytes-lt6.false (sym c.is_legal_start.ensures ∙ not-true _ c.if-not-is_legal_start.true)))
+    sym (ap frame_of (next_bad _ c.if-bytes-lt6.false (sym c.is_legal_start.ensures ∙ c.if-not-is_legal_start.true)))
 
 -- what is known once the start is good: the header's length, and H
 record Good (s : List ℕ) (header : ℕ) : Type 0 where
@@ -30,7 +30,7 @@ record Good (s : List ℕ) (header : ℕ) : Type 0 where
 
 good : (c : After-header_length-header) → Good c.args.bytes.now c.header_length-header.result
 good c =
-    let legal = sym c.is_legal_start.ensures ∙ not-false _ c.if-not-is_legal_start.false in
+    let legal = sym c.is_legal_start.ensures ∙ c.if-not-is_legal_start.false in
     record { legal = legal; exact = c.header_length-header.ensures; least = legal_size _ legal }
 
 pub returns-then-bytes-header : goal.returns-then-bytes-header
