@@ -172,7 +172,7 @@ pub returns-then-free-lt2 : goal.returns-then-free-lt2
 returns-then-free-lt2 c =
     let w = (goal.at.returns-then-free-lt2 c).Else-not-are_all_slots in
     let f = c.free_from-free in
-    sym (rest3 w ∙ rw (distinct_free_from (slots_in (bytes (start3 w))) f.result c.if-free-lt2.true f.ensures.1))
+    sym (rest3 w ∙ rw (distinct_free_from (slots_in (bytes_5 w)) f.result c.if-free-lt2.true f.ensures.1))
 
 pub are_keys_distinct-requires : goal.are_keys_distinct-requires
 are_keys_distinct-requires c =

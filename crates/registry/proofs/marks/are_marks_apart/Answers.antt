@@ -85,21 +85,19 @@ marked c =
 
 
 
-abbrev turn : Else-is_repeated → Else-is_repeated
-turn c = c
 
 first_byte : (c : Else-is_repeated) → get_or (slot_2 c) 0 0 ≡ get_or (line_3 c) (at_3 c) 0
 first_byte c =
     ap (λ (l : List ℕ). get_or l 0 0) (there_2 c) ∙ get_or-take slot_size (drop (at_3 c) (line_3 c)) 0 0 (omega arith) ∙ get_or-drop (at_3 c) (line_3 c) 0 0
     ∙ ap (λ (k : ℕ). get_or (line_3 c) k 0) (add-zero (at_3 c))
 
-apart : (c : Else-is_repeated) → (get_or (slot_2 (turn c)) 0 0 ≡ 0 → ⊥) → all (differs_from (mark_of (slot_2 (turn c)))) (turn c).before.loop-i.marks ≡ true
+apart : (c : Else-is_repeated) → (get_or (slot_2 c) 0 0 ≡ 0 → ⊥) → all (differs_from (mark_of (slot_2 c))) c.loop-i.marks ≡ true
 apart c h =
-    let t = turn c in
+    let t = c in
     let named : eqb (get_or (line_3 t) (at_3 t) 0) 0 ≡ false = ne_eqb _ 0 (λ z. h (first_byte t ∙ z)) in
-    let others : Bool = all (differs_from c.mark_of-mark.result) t.before.loop-i.marks in
+    let others : Bool = all (differs_from c.mark_of-mark.result) t.loop-i.marks in
     let none : not others ≡ false = sym (ap (λ (b : Bool). not b && not others) named) ∙ sym c.is_repeated.ensures ∙ c.if-is_repeated.false in
-    ap (λ (m : ℕ). all (differs_from m) t.before.loop-i.marks) (sym (marked c)) ∙ not-false others none
+    ap (λ (m : ℕ). all (differs_from m) t.loop-i.marks) (sym (marked c)) ∙ not-false others none
 
 pub loop-i-init : goal.loop-i-init
 loop-i-init c = (omega arith, (refl, marked_none _ _))
@@ -134,30 +132,30 @@ pub returns-then-is_repeated : goal.returns-then-is_repeated
 returns-then-is_repeated c = λ e. absurd (false≢true e)
 
 pub offset_bounds-marks-i : goal.offset_bounds-marks-i
-offset_bounds-marks-i c = record { fits = omega (arith, (turn c).loop-i-test.true) }
+offset_bounds-marks-i c = record { fits = omega (arith, c.loop-i-test.true) }
 
 pub bounds-marks-i : goal.bounds-marks-i
-bounds-marks-i c = (turn c).loop-i-test.true
+bounds-marks-i c = c.loop-i-test.true
 
 pub overflow_add-i : goal.overflow_add-i
-overflow_add-i c = omega (arith, (turn c).loop-i-test.true)
+overflow_add-i c = omega (arith, c.loop-i-test.true)
 
 pub loop-i-smaller : goal.loop-i-smaller
-loop-i-smaller c = omega (arith, (turn c).loop-i-test.true)
+loop-i-smaller c = omega (arith, c.loop-i-test.true)
 
 pub loop-i-preserved : goal.loop-i-preserved
 loop-i-preserved c =
     let w = (goal.at.loop-i-preserved c).In-loop-i in
-    let t = turn c in
-    let l = t.before.loop in
+    let t = c in
+    let l = t.loop-i in
     let h : l.i < slot_count = t.loop-i-test.true in
     let few : l.i < length (slots_in (line_3 t)) = rw (length_blocks slot_size slot_count (drop line_head (line_3 t))) h in
-    let wide : l.i < length l.marks = rw l.inv.1.0 h in
+    let wide : l.i < length l.marks = rw l.invariant.1.0 h in
     let more : Marked (slots_in (line_3 t)) (set l.marks l.i (mark_of (slot_2 t))) (l.i + 1)
-    = marked_more (slots_in (line_3 t)) (all_sound t) l.marks l.i few wide l.inv.1.1 (apart c) in (
+    = marked_more (slots_in (line_3 t)) (all_sound w) l.marks l.i few wide l.invariant.1.1 (apart c) in (
       omega (arith, h),
       (
-        length-set l.marks l.i c.mark_of-mark.result ∙ l.inv.1.0,
+        length-set l.marks l.i c.mark_of-mark.result ∙ l.invariant.1.0,
         subst (λ (m : ℕ). Marked (slots_in (line_3 t)) (set l.marks l.i m) (l.i + 1)) (sym (marked c)) more,
       ),
     )

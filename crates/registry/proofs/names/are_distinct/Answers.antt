@@ -54,13 +54,13 @@ room_3 c = omega (arith, fits (i_3 c) c.args.count c.args.size c.loop-i-test.tru
 
 
 abbrev bytes : After-wide-n → List ℕ
-bytes c = (start c).args.s.now
+bytes c = c.args.s.now
 
 abbrev bytes_2 : Then-n-ne0 → List ℕ
-bytes_2 c = (start c).args.s.now
+bytes_2 c = c.args.s.now
 
 abbrev bytes_3 : After-is_among → List ℕ
-bytes_3 c = (start c).args.s.now
+bytes_3 c = c.args.s.now
 
 byte : (c : After-wide-n) → get_or (bytes c) (at_2 c) 0 < 256
 byte c = omega (arith, c.wide-n.ensures.0, c.wide-n.ensures.1)
@@ -76,45 +76,45 @@ within : (c : After-wide-n) → at_2 c + 1 + c.wide-n.result ≤ length (bytes c
 within c = omega (arith, room_2 c, c.wide-n.ensures.1)
 
 abbrev there : After-wide-n → List ℕ
-there c = name_in (block_at (start c).args.head (start c).args.size (bytes c) (i_2 c))
+there c = name_in (block_at c.args.head c.args.size (bytes c) (i_2 c))
 
 abbrev there_2 : Then-n-ne0 → List ℕ
-there_2 c = name_in (block_at (start c).args.head (start c).args.size (bytes_2 c) (i_3 c))
+there_2 c = name_in (block_at c.args.head c.args.size (bytes_2 c) (i_3 c))
 
 abbrev there_3 : After-is_among → List ℕ
-there_3 c = name_in (block_at (start c).args.head (start c).args.size (bytes_3 c) (i_4 c))
+there_3 c = name_in (block_at c.args.head c.args.size (bytes_3 c) (i_4 c))
 
 abbrev rest : After-wide-n → List (List ℕ)
-rest c = let a = (start c).args in drop (i_2 c + 1) (block_names a.head a.size a.count (bytes c))
+rest c = let a = c.args in drop (i_2 c + 1) (block_names a.head a.size a.count (bytes c))
 
 abbrev rest_2 : Then-n-ne0 → List (List ℕ)
-rest_2 c = let a = (start c).args in drop (i_3 c + 1) (block_names a.head a.size a.count (bytes_2 c))
+rest_2 c = let a = c.args in drop (i_3 c + 1) (block_names a.head a.size a.count (bytes_2 c))
 
 abbrev rest_3 : After-is_among → List (List ℕ)
-rest_3 c = let a = (start c).args in drop (i_4 c + 1) (block_names a.head a.size a.count (bytes_3 c))
+rest_3 c = let a = c.args in drop (i_4 c + 1) (block_names a.head a.size a.count (bytes_3 c))
 
 long : (c : After-wide-n) → length (there c) ≡ c.wide-n.result
 long c =
-    let a = (start c).args in
+    let a = c.args in
     name_length_lem a.size (bytes c) (at_2 c) (omega arith) (room_2 c) (byte c) ∙ sym c.wide-n.ensures.0
 
 long_2 : (c : Then-n-ne0) → length (there_2 c) ≡ c.wide-n.result
 long_2 c =
-    let a = (start c).args in
+    let a = c.args in
     name_length_lem a.size (bytes_2 c) (at_3 c) (omega arith) (room_3 c) (byte_2 c) ∙ sym c.wide-n.ensures.0
 
 -- the search was for the name of this block
 searched : (c : After-is_among) → c.is_among.result ≡ not (is_new (there_3 c) (rest_3 c))
 searched c =
-    let a = (start c).args in
+    let a = c.args in
     c.is_among.ensures
     ∙ ap (λ (x : List ℕ). not (is_new x (rest_3 c))) (name_lent a.size (bytes_3 c) (at_4 c) (omega arith) (byte_3 c) c.wide-n.ensures.0)
 
 named : (c : Then-n-ne0) → lone (there_2 c) (rest_2 c) ≡ is_new (there_2 c) (rest_2 c)
 named c = lone_named (there_2 c) (rest_2 c) (λ e. c.if-n-ne0.true (sym (long_2 c) ∙ e))
 
-again : (c : After-wide-n) → lone (there c) (rest c) ≡ true → let a = (start c).args in distinct (block_names a.head a.size a.count (bytes c)) ≡ distinct (rest c)
-again c e = let a = (start c).args in c.loop-i.invariant.1 ∙ distinct_pass a.head a.size a.count (bytes c) (i_2 c) c.loop-i-test.true e
+again : (c : After-wide-n) → lone (there c) (rest c) ≡ true → let a = c.args in distinct (block_names a.head a.size a.count (bytes c)) ≡ distinct (rest c)
+again c e = let a = c.args in c.loop-i.invariant.1 ∙ distinct_pass a.head a.size a.count (bytes c) (i_2 c) c.loop-i-test.true e
 
 pub loop-i-init : goal.loop-i-init
 loop-i-init c = (search rules, refl)
@@ -145,7 +145,7 @@ pub returns-then-is_among : goal.returns-then-is_among
 returns-then-is_among c =
     let w = (goal.at.returns-then-is_among c).After-is_among in
     let w' = (goal.at.returns-then-is_among c).Then-n-ne0 in
-    let a = (start c).args in
+    let a = c.args in
     let found : is_new (there_3 w) (rest_3 w) ≡ false = not-true _ (sym (searched w) ∙ c.if-is_among.true) in
     sym (c.loop-i.invariant.1 ∙ distinct_fail a.head a.size a.count (bytes_3 w) (i_4 w) c.loop-i-test.true (named w' ∙ found))
 

@@ -58,39 +58,39 @@ room_3 c = omega (arith, fits (block_4 c) c.args.count c.args.size c.if-count-ne
 
 
 abbrev name : After-wide → List ℕ
-name c = (start c).args.name.now
+name c = c.args.name.now
 
 abbrev name_2 : Else-wide-name → List ℕ
-name_2 c = (start c).args.name.now
+name_2 c = c.args.name.now
 
 abbrev name_3 : In-loop-k → List ℕ
-name_3 c = (start c).args.name.now
+name_3 c = c.args.name.now
 
 abbrev bytes : After-wide → List ℕ
-bytes c = (start c).args.s.now
+bytes c = c.args.s.now
 
 abbrev bytes_2 : Else-wide-name → List ℕ
-bytes_2 c = (start c).args.s.now
+bytes_2 c = c.args.s.now
 
 abbrev bytes_3 : In-loop-k → List ℕ
-bytes_3 c = (start c).args.s.now
+bytes_3 c = c.args.s.now
 
 abbrev names : After-wide → List (List ℕ)
-names c = block_names (start c).args.head (start c).args.size (start c).args.count (bytes c)
+names c = block_names c.args.head c.args.size c.args.count (bytes c)
 
 abbrev there : After-wide → List ℕ
-there c = name_in (block_at (start c).args.head (start c).args.size (bytes c) (block_2 c))
+there c = name_in (block_at c.args.head c.args.size (bytes c) (block_2 c))
 
 abbrev there_2 : In-loop-k → List ℕ
-there_2 c = name_in (block_at (start c).args.head (start c).args.size (bytes_3 c) (block_4 c))
+there_2 c = name_in (block_at c.args.head c.args.size (bytes_3 c) (block_4 c))
 
 byte : (c : After-wide) → get_or (bytes c) (at_2 c) 0 < 256
 byte c = omega (arith, c.wide.ensures.0, c.wide.ensures.1)
 
 -- a block that has another name is passed
-pass : (c : After-wide) → same (name c) (there c) ≡ false → index_from (name c) (drop (start c).args.from (names c)) (start c).args.from ≡ index_from (name c) (drop (block_2 c + 1) (names c)) (block_2 c + 1)
+pass : (c : After-wide) → same (name c) (there c) ≡ false → index_from (name c) (drop c.args.from (names c)) c.args.from ≡ index_from (name c) (drop (block_2 c + 1) (names c)) (block_2 c + 1)
 pass c e =
-    let a = (start c).args in
+    let a = c.args in
     c.scan.invariant.1 ∙ scan_skip a.head a.size a.count (bytes c) (name c) (block_2 c) c.if-count-next.false e
 
 
@@ -132,7 +132,7 @@ pub scan-preserved-then-wide-name : goal.scan-preserved-then-wide-name
 scan-preserved-then-wide-name c =
     let w = (goal.at.scan-preserved-then-wide-name c).After-wide in
     let w' = (goal.at.scan-preserved-then-wide-name c).Else-count-next in
-    let a = (start c).args in
+    let a = c.args in
     let len : length (there w) ≡ get_or (bytes w) (at_2 w) 0 = name_length_lem a.size (bytes w) (at_2 w) (omega arith) (room w') (byte w) in
     (search rules, pass w (same_lengths (name w) (there w) (λ e. c.if-wide-name.true (c.wide.ensures.0 ∙ sym len ∙ sym e))))
 
@@ -142,7 +142,7 @@ overflow_add-begin c = omega (arith, within c)
 pub loop-k-init : goal.loop-k-init
 loop-k-init c =
     let w = (goal.at.loop-k-init c).After-wide in
-    let a = (start c).args in
+    let a = c.args in
     let e : get_or (bytes_2 c) (at_3 c) 0 ≡ length (name_2 c) = sym c.wide.ensures.0 ∙ c.if-wide-name.false in
     let z : begin c + 0 ≡ begin c = omega arith in
     (search rules, rw (name_at_lem a.size (bytes_2 c) (at_3 c) (omega arith) (byte w), e, z))
@@ -174,7 +174,7 @@ returns-then-count-next c =
 pub returns-after-loop-k : goal.returns-after-loop-k
 returns-after-loop-k c =
     let w = (goal.at.returns-after-loop-k c).Else-wide-name in
-    let a = (start c).args in
+    let a = c.args in
     sym (c.scan.invariant.1
     ∙ scan_hit a.head a.size a.count (bytes_2 w) (name_2 w) (block_3 w) c.if-count-next.false
     (c.loop-k.invariant.1 ∙ same_end (name_2 w) (bytes_2 w) c.loop-k.k (begin w) (begin w + length (name_2 w)) c.loop-k-test.false (omega arith)))
