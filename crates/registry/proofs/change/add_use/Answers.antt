@@ -9,7 +9,6 @@ use Rattle.wire.proofs.ListLaws.{length_part}
 use Rattle.registry.specs.Slots.{used_slot, slot_size}
 use Rattle.registry.specs.Registry.{changed}
 use Rattle.registry.proofs.UsedLaws.{length_used}
-use borrow.Author.Rules.{rules}
 use Rattle.registry.proofs.change.add_use.Goals as goal
 
 pub returns : goal.returns

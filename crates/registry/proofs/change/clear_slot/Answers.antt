@@ -8,7 +8,6 @@ use Rattle.wire.specs.Lists.{put}
 use Rattle.wire.proofs.BufferLaws.{put_part}
 use Rattle.registry.specs.Slots.{free, slot_bytes, slot_size}
 use Rattle.registry.specs.Registry.{changed}
-use borrow.Author.Rules.{rules}
 use Rattle.registry.proofs.change.clear_slot.Goals as goal
 
 pub returns : goal.returns

@@ -8,7 +8,6 @@ use Rattle.registry.specs.Slots.{key_bytes, slot_size}
 use Rattle.registry.specs.code.Check.{key_from}
 use Rattle.registry.proofs.SlotLaws.{length_key}
 use Rattle.registry.specs.Registry.{changed}
-use borrow.Author.Rules.{rules}
 use Rattle.registry.proofs.change.fill_slot.Goals as goal
 
 pub returns : goal.returns

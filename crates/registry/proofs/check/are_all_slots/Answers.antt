@@ -7,8 +7,6 @@ use Rattle.registry.proofs.FreeLaws.{slots_free_from}
 use mathlib.Core.Path.{◌≡◌, sym, ap, ◌∙◌}
 use mathlib.Core.Bool.{◌&&◌}
 use Prim.Native.Nat.{◌+◌, ◌*◌}
-use borrow.Author.Rules.{rules}
-use borrow.Author.Tests.{not-true, not-false}
 use lib.ListN.{drop}
 use Rattle.registry.proofs.check.are_all_slots.Goals as goal
 use Rattle.registry.proofs.check.are_all_slots.Goals.{Start}

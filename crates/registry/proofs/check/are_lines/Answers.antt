@@ -1,12 +1,10 @@
-use Rattle.wire.specs.Lists.{all, blocks}
 use Rattle.wire.proofs.BlockLaws.{blocks_pass, blocks_fail, blocks_end}
 use Rattle.registry.specs.Registry.{line_size}
 use Rattle.registry.specs.code.Check.{well_formed_line}
 use mathlib.Core.Path.{◌≡◌, refl, sym, ap, ◌∙◌}
-use Prim.Native.Nat.{ℕ, ◌+◌, ◌*◌, ◌-◌, ◌≤◌}
+use Prim.Native.Nat.{ℕ, ◌+◌, ◌*◌, ◌-◌}
 use native.Mathlib.Omega.{arith}
 use borrow.Author.Rules.{rules}
-use borrow.Author.Tests.{not-true, not-false}
 use lib.ListN.{take, drop}
 use Rattle.registry.proofs.check.are_lines.Goals as goal
 use Rattle.registry.proofs.check.are_lines.Goals.{After-is_line}

@@ -1,13 +1,9 @@
 use Rattle.wire.specs.Lists.{all, blocks}
-use Rattle.wire.proofs.BlockLaws.{blocks_pass, blocks_fail, blocks_end}
 use Rattle.registry.specs.Registry.{line_size}
 use Rattle.registry.specs.code.Check.{well_formed_line}
-use mathlib.Core.Path.{◌≡◌, refl, sym, ap, ◌∙◌}
-use Prim.Native.Nat.{ℕ, ◌+◌, ◌*◌, ◌-◌, ◌≤◌}
-use native.Mathlib.Omega.{arith}
-use borrow.Author.Rules.{rules}
-use borrow.Author.Tests.{not-true, not-false}
-use lib.ListN.{take, drop}
+use mathlib.Core.Path.{◌≡◌}
+use Prim.Native.Nat.{◌-◌, ◌≤◌}
+use lib.ListN.{drop}
 use Rattle.registry.proofs.check.are_lines.Given as goal
 
 abbrev pub invariant-loop-i : goal.invariant-loop-i

@@ -1,14 +1,12 @@
-use Rattle.wire.specs.Lists.{all, blocks}
 use Rattle.wire.proofs.BlockLaws.{blocks_pass, blocks_fail, blocks_end}
 use Rattle.registry.specs.Slots.{slot_size, well_formed_slot}
 use Rattle.registry.specs.Registry.{line_head}
 use lib.Seq.{drop-drop}
 use mathlib.Core.Path.{◌≡◌, refl, sym, ap, ◌∙◌}
 use mathlib.Core.List.{List}
-use Prim.Native.Nat.{ℕ, ◌+◌, ◌*◌, ◌-◌, ◌≤◌}
+use Prim.Native.Nat.{ℕ, ◌+◌, ◌*◌, ◌-◌}
 use native.Mathlib.Omega.{arith}
 use borrow.Author.Rules.{rules}
-use borrow.Author.Tests.{not-true, not-false}
 use lib.ListN.{take, drop}
 use Rattle.registry.proofs.check.are_slots.Goals as goal
 use Rattle.registry.proofs.check.are_slots.Goals.{After-is_slot}

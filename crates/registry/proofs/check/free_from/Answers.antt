@@ -1,12 +1,8 @@
-use Rattle.wire.specs.Lists.{all}
 use Rattle.wire.proofs.BlockLaws.{blocks_end}
 use Rattle.registry.specs.Slots.{slot_size}
-use Rattle.registry.specs.Registry.{slot_count, line_head, slots_in}
+use Rattle.registry.specs.Registry.{slot_count, line_head}
 use Rattle.registry.specs.code.Check.{is_free}
 use Rattle.registry.proofs.FreeLaws.{free_before}
-use mathlib.Core.Path.{◌≡◌}
-use mathlib.Core.Bool.{true}
-use Prim.Native.Nat.{◌≤◌}
 use native.Mathlib.Omega.{arith}
 use borrow.Author.Rules.{rules}
 use lib.ListN.{drop}

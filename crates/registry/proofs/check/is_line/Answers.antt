@@ -3,7 +3,6 @@ use mathlib.Core.Path.{◌≡◌, sym, ap, ◌∙◌}
 use mathlib.Core.Bool.{true, and-true}
 use mathlib.Core.List.{List}
 use native.Mathlib.Omega.{arith}
-use borrow.Author.Tests.{not-true, not-false}
 use lib.ListN.{length, take, drop, get_or, length-take, length-drop}
 use Rattle.wire.specs.Lists.{all, every, is_zero}
 use Rattle.keys.specs.Names.{legal_name, application_name_most}
@@ -13,7 +12,6 @@ use Rattle.registry.specs.WellFormed.{zeros_behind_name}
 use Rattle.registry.specs.code.Check.{line_tests, well_formed_line}
 use Rattle.keys.proofs.NameLaws.{legal_short}
 use Rattle.registry.proofs.FreeLaws.{distinct_free_from}
-use borrow.Author.Rules.{rules}
 use Rattle.registry.proofs.check.is_line.Goals as goal
 use Rattle.registry.proofs.check.is_line.Goals.{After-all_zero, After-is_legal, Else-not-all_zero, Else-not-are_all_slots, Else-not-is_legal}
 

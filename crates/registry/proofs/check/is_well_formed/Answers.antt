@@ -2,8 +2,7 @@ use Prim.Native.Nat.{ℕ, ◌-◌, ◌*◌, ◌≤◌}
 use mathlib.Core.Path.{◌≡◌, sym, ap, ◌∙◌}
 use mathlib.Core.List.{List}
 use native.Mathlib.Omega.{arith}
-use borrow.Author.Rules.{rules}
-use borrow.Author.Tests.{eq-eqb, ne_eqb, not-true, not-false}
+use borrow.Author.Tests.{eq-eqb, ne_eqb}
 use lib.ListN.{length, drop, length-drop}
 use lib.Seq.{take_all}
 use mathlib.Core.Bool.{and-true}
@@ -18,26 +17,20 @@ use Rattle.registry.proofs.check.is_well_formed.Goals.{After-all_zero_long, Afte
 abbrev bytes : Start → List ℕ
 bytes c = c.args.registry.now
 
-
 abbrev bytes_2 : Else-registry-ne-REGISTRY_SIZE → List ℕ
 bytes_2 c = c.args.registry.now
-
 
 abbrev bytes_3 : After-scan-n → List ℕ
 bytes_3 c = c.args.registry.now
 
-
 abbrev bytes_4 : After-all_zero_long → List ℕ
 bytes_4 c = c.args.registry.now
-
 
 abbrev bytes_5 : Else-not-all_zero_long → List ℕ
 bytes_5 c = c.args.registry.now
 
-
 abbrev bytes_6 : After-are_lines → List ℕ
 bytes_6 c = c.args.registry.now
-
 
 abbrev start : After-scan-n → After-scan-n
 start c = c

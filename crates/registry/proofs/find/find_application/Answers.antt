@@ -1,7 +1,6 @@
 use mathlib.Core.Path.{sym}
 use native.Mathlib.Omega.{arith}
 use Rattle.registry.proofs.FindLaws.{nameless, application_there, application_missing}
-use borrow.Author.Rules.{rules}
 use Rattle.registry.proofs.find.find_application.Goals as goal
 
 pub returns-then-name-eq0 : goal.returns-then-name-eq0

@@ -7,7 +7,6 @@ use Rattle.registry.specs.Slots.{slot_size}
 use Rattle.registry.specs.Registry.{slot_count, line_head, line_size, line_at}
 use Rattle.registry.specs.code.Check.{block_names}
 use Rattle.registry.proofs.FindLaws.{slot_found_lem, slot_missing}
-use borrow.Author.Rules.{rules}
 use Rattle.registry.proofs.find.find_slot.Goals as goal
 use Rattle.registry.proofs.find.find_slot.Goals.{After-scan-n}
 

@@ -1,13 +1,12 @@
-use Prim.Native.Nat.{ℕ, ◌+◌, ◌-◌, ◌*◌, ◌≤◌, ◌<◌}
+use Prim.Native.Nat.{ℕ, ◌+◌, ◌*◌, ◌<◌}
 use mathlib.Core.Path.{◌≡◌, refl, sym, ap, ◌∙◌}
 use mathlib.Core.Bool.{false}
 use native.Mathlib.Omega.{arith}
 use borrow.Author.Rules.{rules}
 use lib.ListN.{take, drop, get_or}
 use Rattle.wire.specs.Lists.{same}
-use Rattle.registry.specs.Names.{name_in, index_from}
+use Rattle.registry.specs.Names.{name_in}
 use Rattle.registry.specs.Registry.{line_count, line_size}
-use Rattle.registry.specs.code.Check.{block_names}
 use Rattle.registry.proofs.BlockNameLaws.{block_at, scan_skip}
 use Rattle.registry.proofs.FindLaws.{other_front}
 use Rattle.registry.proofs.find.first_alike.Goals as goal

@@ -1,19 +1,13 @@
-use Prim.Native.Nat.{ℕ, ◌+◌, ◌-◌, ◌*◌, ◌≤◌, ◌<◌}
-use mathlib.Core.Path.{◌≡◌, refl, sym, ap, ◌∙◌}
-use mathlib.Core.Bool.{false}
-use native.Mathlib.Omega.{arith}
-use borrow.Author.Rules.{rules}
-use lib.ListN.{take, drop, get_or}
-use Rattle.wire.specs.Lists.{same}
-use Rattle.registry.specs.Names.{name_in, index_from}
+use Prim.Native.Nat.{◌-◌, ◌≤◌}
+use mathlib.Core.Path.{◌≡◌}
+use lib.ListN.{drop}
+use Rattle.registry.specs.Names.{index_from}
 use Rattle.registry.specs.Registry.{line_count, line_size}
 use Rattle.registry.specs.code.Check.{block_names}
-use Rattle.registry.proofs.BlockNameLaws.{block_at, scan_skip}
-use Rattle.registry.proofs.FindLaws.{other_front}
 use Rattle.registry.proofs.find.first_alike.Given as goal
 
 abbrev pub invariant-loop-i : goal.invariant-loop-i
-invariant-loop-i l =     (l.i ≤ line_count) × (index_from l.name (block_names 0 line_size line_count l.registry) 0 ≡ index_from l.name (drop l.i (block_names 0 line_size line_count l.registry)) l.i)
+invariant-loop-i l = (l.i ≤ line_count) × (index_from l.name (block_names 0 line_size line_count l.registry) 0 ≡ index_from l.name (drop l.i (block_names 0 line_size line_count l.registry)) l.i)
 
 abbrev pub decreases-loop-i : goal.decreases-loop-i
 decreases-loop-i l = line_count - l.i

@@ -1,12 +1,11 @@
-use Prim.Native.Nat.{ℕ, ◌+◌, ◌-◌, ◌*◌, ◌≤◌}
+use Prim.Native.Nat.{ℕ, ◌+◌, ◌-◌, ◌*◌}
 use mathlib.Core.Path.{◌≡◌, sym, ap₂, ◌∙◌}
 use native.Mathlib.Omega.{arith}
 use borrow.Author.Rules.{rules}
 use lib.ListN.{take, drop}
 use Rattle.wire.specs.Lists.{same}
-use Rattle.registry.specs.Names.{name_in, index_from}
+use Rattle.registry.specs.Names.{name_in}
 use Rattle.registry.specs.Registry.{line_count, line_size}
-use Rattle.registry.specs.code.Check.{block_names}
 use Rattle.registry.proofs.BlockNameLaws.{block_at, scan_skip, scan_hit, scan_end}
 use Rattle.registry.proofs.find.line_named.Goals as goal
 use Rattle.registry.proofs.find.line_named.Goals.{After-is_named}

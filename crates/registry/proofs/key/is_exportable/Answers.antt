@@ -7,7 +7,6 @@ use Rattle.registry.specs.Slots.{export_at, slot_size}
 use Rattle.registry.specs.Registry.{place}
 use Rattle.registry.proofs.KeyLaws.{export_there}
 use Rattle.registry.proofs.WellFormedLaws.{good_of}
-use borrow.Author.Rules.{rules}
 use Rattle.registry.proofs.key.is_exportable.Goals as goal
 use Rattle.registry.proofs.key.is_exportable.Goals.{Start}
 

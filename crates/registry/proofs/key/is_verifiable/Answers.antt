@@ -7,7 +7,6 @@ use Rattle.registry.specs.Slots.{verify_at, slot_size}
 use Rattle.registry.specs.Registry.{place}
 use Rattle.registry.proofs.KeyLaws.{verify_there}
 use Rattle.registry.proofs.WellFormedLaws.{good_of}
-use borrow.Author.Rules.{rules}
 use Rattle.registry.proofs.key.is_verifiable.Goals as goal
 use Rattle.registry.proofs.key.is_verifiable.Goals.{Start}
 

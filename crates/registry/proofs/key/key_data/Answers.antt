@@ -9,7 +9,6 @@ use Rattle.registry.specs.Slots.{data_length_at, data_at, slot_size}
 use Rattle.registry.specs.Registry.{place}
 use Rattle.registry.proofs.KeyLaws.{size_small, data_there}
 use Rattle.registry.proofs.WellFormedLaws.{good_of}
-use borrow.Author.Rules.{rules}
 use Rattle.registry.proofs.key.key_data.Goals as goal
 use Rattle.registry.proofs.key.key_data.Goals.{Start}
 

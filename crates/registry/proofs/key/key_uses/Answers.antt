@@ -7,7 +7,6 @@ use Rattle.registry.specs.Slots.{uses_at, slot_size}
 use Rattle.registry.specs.Registry.{place}
 use Rattle.registry.proofs.UseLaws.{uses_there}
 use Rattle.registry.proofs.WellFormedLaws.{good_of}
-use borrow.Author.Rules.{rules}
 use Rattle.registry.proofs.key.key_uses.Goals as goal
 use Rattle.registry.proofs.key.key_uses.Goals.{Start}
 

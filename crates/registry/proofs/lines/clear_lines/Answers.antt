@@ -7,7 +7,6 @@ use lib.Seq.{length-take-le}
 use Rattle.wire.specs.Lists.{padded, over}
 use Rattle.wire.proofs.BufferLaws.{zeros_on}
 use Rattle.registry.specs.Registry.{line_size}
-use borrow.Author.Rules.{rules}
 use Rattle.registry.proofs.lines.clear_lines.Goals as goal
 
 pub returns : goal.returns

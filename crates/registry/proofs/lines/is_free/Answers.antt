@@ -7,7 +7,6 @@ use lib.Dec.{eqb}
 use lib.ListN.{get_or, take, drop}
 use lib.Seq.{get_or-take, get_or-drop}
 use Rattle.registry.specs.Slots.{slot_size}
-use borrow.Author.Rules.{rules}
 use Rattle.registry.proofs.lines.is_free.Goals as goal
 
 pub returns : goal.returns

@@ -5,7 +5,6 @@ use native.Mathlib.Omega.{arith}
 use Rattle.registry.specs.Registry.{line_size}
 use Rattle.registry.proofs.BlockNameLaws.{name_lent}
 use Rattle.registry.proofs.LineLaws.{name_there}
-use borrow.Author.Rules.{rules}
 use Rattle.registry.proofs.lines.line_name.Goals as goal
 
 pub returns : goal.returns

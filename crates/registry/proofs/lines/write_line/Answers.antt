@@ -6,7 +6,6 @@ use Rattle.wire.specs.Lists.{put}
 use Rattle.wire.proofs.BufferLaws.{put_part}
 use Rattle.registry.specs.Registry.{line_size}
 use Rattle.registry.proofs.LineLaws.{line_long}
-use borrow.Author.Rules.{rules}
 use Rattle.registry.proofs.lines.write_line.Goals as goal
 
 pub returns : goal.returns

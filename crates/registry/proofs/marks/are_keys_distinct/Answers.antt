@@ -1,5 +1,4 @@
 use mathlib.Core.Path.{sym}
-use borrow.Author.Rules.{rules}
 use Rattle.registry.specs.code.Check.{block_names}
 use Rattle.registry.proofs.marks.are_keys_distinct.Goals as goal
 

@@ -4,7 +4,6 @@ use mathlib.Core.Bool.{Bool, true, false, false≢true, not, ◌&&◌}
 use mathlib.Core.List.{List, [], map}
 use native.Mathlib.Nat.{add-zero}
 use native.Mathlib.Omega.{arith}
-use borrow.Author.Rules.{rules}
 use borrow.Author.Tests.{ne_eqb, not-false}
 use lib.ListN.{length, take, drop, set, get_or, length-set, length-drop}
 use lib.Seq.{drop-drop, get_or-take, get_or-drop, take_all}
@@ -69,10 +68,8 @@ slot_2 c = get_or (slots_in (line_3 c)) (i_3 c) []
 there : (c : After-mark_of-mark) → slot c ≡ take slot_size (drop (at_2 c) (line_2 c))
 there c = block_at_lem slot_size slot_count (drop line_head (line_2 c)) (i_2 c) c.loop-i-test.true ∙ ap (take slot_size) (drop-drop (i_2 c * slot_size) line_head (line_2 c))
 
-
 there_2 : (c : Else-is_repeated) → slot_2 c ≡ take slot_size (drop (at_3 c) (line_3 c))
 there_2 c = block_at_lem slot_size slot_count (drop line_head (line_3 c)) (i_3 c) c.loop-i-test.true ∙ ap (take slot_size) (drop-drop (i_3 c * slot_size) line_head (line_3 c))
-
 
 marked : (c : Else-is_repeated) → c.mark_of-mark.result ≡ mark_of (slot_2 c)
 marked c =
@@ -82,9 +79,6 @@ marked c =
     ∙ ap mark_in (sym (ap name_part (there_2 c) ∙ part_of_part data_length_at 0 slot_size (drop (at_3 c) (line_3 c)) (omega arith)))
 
 -- ---- a slot that is passed
-
-
-
 
 first_byte : (c : Else-is_repeated) → get_or (slot_2 c) 0 0 ≡ get_or (line_3 c) (at_3 c) 0
 first_byte c =

@@ -1,5 +1,4 @@
 use mathlib.Core.Path.{ap₂, ◌∙◌}
-use borrow.Author.Rules.{rules}
 use Rattle.keys.specs.code.Marks.{mixed}
 use Rattle.registry.specs.code.Check.{mark_in}
 use Rattle.registry.proofs.marks.mark_of.Goals as goal

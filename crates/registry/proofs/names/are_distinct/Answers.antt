@@ -6,7 +6,7 @@ use Rattle.registry.proofs.BlockNameLaws.{fits, block_at, name_lent, name_length
 use mathlib.Core.Path.{◌≡◌, refl, sym, ap, ◌∙◌}
 use mathlib.Core.List.{List}
 use mathlib.Core.Bool.{true, false, not}
-use Prim.Native.Nat.{ℕ, ◌+◌, ◌*◌, ◌-◌, ◌≤◌, ◌<◌}
+use Prim.Native.Nat.{ℕ, ◌+◌, ◌*◌, ◌≤◌, ◌<◌}
 use native.Mathlib.Omega.{arith}
 use borrow.Author.Rules.{rules}
 use borrow.Author.Tests.{not-true, not-false}
@@ -41,17 +41,11 @@ at_4 c = c.args.head + i_4 c * c.args.size
 room : (c : In-loop-i) → at c + c.args.size ≤ length c.args.s.now
 room c = omega (arith, fits (i c) c.args.count c.args.size c.loop-i-test.true)
 
-
-
 room_2 : (c : After-wide-n) → at_2 c + c.args.size ≤ length c.args.s.now
 room_2 c = omega (arith, fits (i_2 c) c.args.count c.args.size c.loop-i-test.true)
 
-
-
 room_3 : (c : Then-n-ne0) → at_3 c + c.args.size ≤ length c.args.s.now
 room_3 c = omega (arith, fits (i_3 c) c.args.count c.args.size c.loop-i-test.true)
-
-
 
 abbrev bytes : After-wide-n → List ℕ
 bytes c = c.args.s.now

@@ -1,4 +1,4 @@
-use Prim.Native.Nat.{ℕ, ◌+◌, ◌*◌, ◌-◌, ◌≤◌, ◌<◌}
+use Prim.Native.Nat.{ℕ, ◌+◌, ◌*◌, ◌≤◌, ◌<◌}
 use mathlib.Core.Path.{◌≡◌, refl, sym, ap, ◌∙◌}
 use mathlib.Core.Bool.{Bool, not, ◌&&◌}
 use mathlib.Core.List.{List}
@@ -25,10 +25,8 @@ at_3 c = c.args.head + c.loop-i.i * c.args.size
 room : (c : In-loop-i) → at c + c.args.size ≤ length c.args.s.now
 room c = omega (arith, fits c.loop-i.i c.args.count c.args.size c.loop-i-test.true)
 
-
 room_2 : (c : After-wide) → at_2 c + c.args.size ≤ length c.args.s.now
 room_2 c = omega (arith, fits c.loop-i.i c.args.count c.args.size c.loop-i-test.true)
-
 
 within : (c : After-wide) → at_2 c + 1 + c.wide.result ≤ length c.args.s.now
 within c = omega (arith, room_2 c, c.wide.ensures.1)
@@ -39,7 +37,6 @@ turn : (c : After-equal)
     is_new a.name.now (drop a.from (block_names a.head a.size a.count a.s.now))
     ≡ not c.equal.result && is_new a.name.now (drop (c.loop-i.i + 1) (block_names a.head a.size a.count a.s.now))
 turn c =
-    
     let a = c.args in
     let names = block_names a.head a.size a.count a.s.now in
     let byte : get_or a.s.now (at_3 c) 0 < 256 = omega (arith, c.wide.ensures.0, c.wide.ensures.1) in

@@ -43,19 +43,13 @@ at_4 c = c.args.head + block_4 c * c.args.size
 room : (c : Else-count-next) → at c + c.args.size ≤ length c.args.s.now
 room c = omega (arith, fits (block c) c.args.count c.args.size c.if-count-next.false)
 
-
-
 -- the block lies within the slice
 room_2 : (c : Else-wide-name) → at_3 c + c.args.size ≤ length c.args.s.now
 room_2 c = omega (arith, fits (block_3 c) c.args.count c.args.size c.if-count-next.false)
 
-
-
 -- the block lies within the slice
 room_3 : (c : In-loop-k) → at_4 c + c.args.size ≤ length c.args.s.now
 room_3 c = omega (arith, fits (block_4 c) c.args.count c.args.size c.if-count-next.false)
-
-
 
 abbrev name : After-wide → List ℕ
 name c = c.args.name.now
@@ -92,8 +86,6 @@ pass : (c : After-wide) → same (name c) (there c) ≡ false → index_from (na
 pass c e =
     let a = c.args in
     c.scan.invariant.1 ∙ scan_skip a.head a.size a.count (bytes c) (name c) (block_2 c) c.if-count-next.false e
-
-
 
 abbrev begin : Else-wide-name → ℕ
 begin c = at_3 c + 1

@@ -6,7 +6,6 @@ use Rattle.wire.specs.Numbers.{little_endian_of}
 use Rattle.wire.proofs.BufferLaws.{put_part}
 use Rattle.wire.proofs.NumberLaws.{length_number}
 use Rattle.registry.specs.Slots.{uses_at, uses_in, used, used_slot}
-use borrow.Author.Rules.{rules}
 use Rattle.registry.proofs.slots.count_use.Goals as goal
 
 pub returns : goal.returns

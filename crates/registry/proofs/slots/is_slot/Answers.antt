@@ -12,8 +12,7 @@ use mathlib.Core.List.{List}
 use mathlib.Core.Bool.{true, and-true}
 use Prim.Native.Nat.{ℕ, ◌+◌, ◌-◌, ◌≤◌}
 use native.Mathlib.Omega.{arith}
-use borrow.Author.Rules.{rules}
-use borrow.Author.Tests.{le-leb, lt-leb, not-true, not-false}
+use borrow.Author.Tests.{le-leb, lt-leb}
 use lib.ListN.{take, drop, get_or, replicate, length-replicate}
 use Rattle.registry.proofs.slots.is_slot.Goals as goal
 use Rattle.registry.proofs.slots.is_slot.Goals.{After-all_zero-2, After-all_zero-3, After-are_legal_bits, After-is_legal, After-is_legal_data, Else-n-eq0, Else-not-all_zero, Else-not-all_zero-2, Else-not-are_legal_bits, Else-not-is_legal, Else-not-is_legal_data}
@@ -21,46 +20,35 @@ use Rattle.registry.proofs.slots.is_slot.Goals.{After-all_zero-2, After-all_zero
 abbrev block : Else-n-eq0 → List ℕ
 block c = c.args.s.now
 
-
 abbrev block_2 : After-is_legal → List ℕ
 block_2 c = c.args.s.now
-
 
 abbrev block_3 : Else-not-is_legal → List ℕ
 block_3 c = c.args.s.now
 
-
 abbrev block_4 : After-all_zero-2 → List ℕ
 block_4 c = c.args.s.now
-
 
 abbrev block_5 : Else-not-all_zero → List ℕ
 block_5 c = c.args.s.now
 
-
 abbrev block_6 : After-is_legal_data → List ℕ
 block_6 c = c.args.s.now
-
 
 abbrev block_7 : Else-not-is_legal_data → List ℕ
 block_7 c = c.args.s.now
 
-
 abbrev block_8 : After-all_zero-3 → List ℕ
 block_8 c = c.args.s.now
-
 
 abbrev block_9 : Else-not-all_zero-2 → List ℕ
 block_9 c = c.args.s.now
 
-
 abbrev block_10 : After-are_legal_bits → List ℕ
 block_10 c = c.args.s.now
 
-
 abbrev block_11 : Else-not-are_legal_bits → List ℕ
 block_11 c = c.args.s.now
-
 
 abbrev start2 : Else-not-is_legal → Else-not-is_legal
 start2 c = c

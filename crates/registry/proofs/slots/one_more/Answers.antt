@@ -1,4 +1,3 @@
-use borrow.Author.Rules.{rules}
 use borrow.Author.Tests.{lt-ltb, le-ltb}
 use Rattle.registry.specs.Slots.{uses_most, used}
 use Rattle.registry.proofs.slots.one_more.Goals as goal

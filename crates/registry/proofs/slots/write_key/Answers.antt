@@ -6,13 +6,12 @@ use Rattle.keys.specs.Key.{data_most}
 use Rattle.keys.specs.Names.{key_name_most}
 use Rattle.registry.specs.Slots.{data_length_at, data_at, bits_at, export_at, verify_at, uses_at, slot_size, flag, key_bytes}
 use Rattle.registry.proofs.WrittenLaws.{Written, start, put_byte_of, put_part_of, part_length, whole}
-use mathlib.Core.Path.{◌≡◌, refl, sym, ap, ◌∙◌}
+use mathlib.Core.Path.{◌≡◌, refl, ap, ◌∙◌}
 use mathlib.Core.List.{List, [], ◌∷◌, ◌++◌}
 use Prim.Native.Nat.{ℕ, ◌%◌}
 use native.Mathlib.Omega.{arith}
 use lib.ListN.{length, set, replicate}
 use borrow.Rule.Slice.PartMut.{put_mid}
-use borrow.Author.Rules.{rules}
 use Rattle.registry.proofs.slots.write_key.Goals as goal
 use Rattle.registry.proofs.slots.write_key.Goals.{After-clear, After-flag_byte, After-flag_byte-2, After-write_padded, After-write_padded-2, After-write_u16, After-write_u16-2, Start}
 
@@ -167,34 +166,26 @@ s1_8 c = set c.args.slot.now 0 (length c.args.name.now % 256)
 w1 : (c : Start) → Written slot_size (s1 c) (p1 c) 1
 w1 c = put_byte_of (start slot_size c.args.slot.now c.requires.0) (length c.args.name.now) (omega arith) (omega arith)
 
-
 w1_2 : (c : After-write_padded) → Written slot_size (s1_2 c) (p1_2 c) 1
 w1_2 c = put_byte_of (start slot_size c.args.slot.now c.requires.0) (length c.args.name.now) (omega arith) (omega arith)
-
 
 w1_3 : (c : After-write_u16) → Written slot_size (s1_3 c) (p1_3 c) 1
 w1_3 c = put_byte_of (start slot_size c.args.slot.now c.requires.0) (length c.args.name.now) (omega arith) (omega arith)
 
-
 w1_4 : (c : After-write_padded-2) → Written slot_size (s1_4 c) (p1_4 c) 1
 w1_4 c = put_byte_of (start slot_size c.args.slot.now c.requires.0) (length c.args.name.now) (omega arith) (omega arith)
-
 
 w1_5 : (c : After-write_u16-2) → Written slot_size (s1_5 c) (p1_5 c) 1
 w1_5 c = put_byte_of (start slot_size c.args.slot.now c.requires.0) (length c.args.name.now) (omega arith) (omega arith)
 
-
 w1_6 : (c : After-flag_byte) → Written slot_size (s1_6 c) (p1_6 c) 1
 w1_6 c = put_byte_of (start slot_size c.args.slot.now c.requires.0) (length c.args.name.now) (omega arith) (omega arith)
-
 
 w1_7 : (c : After-flag_byte-2) → Written slot_size (s1_7 c) (p1_7 c) 1
 w1_7 c = put_byte_of (start slot_size c.args.slot.now c.requires.0) (length c.args.name.now) (omega arith) (omega arith)
 
-
 w1_8 : (c : After-clear) → Written slot_size (s1_8 c) (p1_8 c) 1
 w1_8 c = put_byte_of (start slot_size c.args.slot.now c.requires.0) (length c.args.name.now) (omega arith) (omega arith)
-
 
 abbrev s2 : After-write_padded → List ℕ
 s2 c = put_mid 1 key_name_most (s1_2 c) c.write_padded.new.dst

@@ -1,5 +1,4 @@
 use Rattle.wire.proofs.BufferLaws.{zeros_on}
-use borrow.Author.Rules.{rules}
 use Rattle.registry.proofs.slots.write_padded.Goals as goal
 
 pub returns : goal.returns
