@@ -117,75 +117,53 @@ pair c = pair_told (bytes_3 c) _ (size_2 c) c.if-n-eq0.false
 pair_2 : (c : Else-is_repeated) → is_pair (bytes_6 c) ≡ true
 pair_2 c = pair_told (bytes_6 c) _ (size_3 c) c.if-n-eq0.false
 
-abbrev turn2 : Else-count-ge-LISTED_MOST → Else-count-ge-LISTED_MOST
-turn2 c = c
-
-abbrev turn2_2 : After-value_in-name → After-value_in-name
-turn2_2 c = c
-
-abbrev turn2_3 : After-is_repeated → After-is_repeated
-turn2_3 c = c
-
-abbrev turn2_4 : Else-is_repeated → Else-is_repeated
-turn2_4 c = c
-
-few : (c : Else-is_repeated) → length (keys_4 (turn2_4 c)) < listed_most
-few c = omega (arith, c.if-count-ge-LISTED_MOST.false, (turn2_4 c).before.loop-at.invariant.1.1.1.0)
-
-abbrev turn3 : After-is_repeated → After-is_repeated
-turn3 c = turn2_3 c
-
-abbrev turn3_2 : Else-is_repeated → Else-is_repeated
-turn3_2 c = turn2_4 c
+few : (c : Else-is_repeated) → length (keys_4 c) < listed_most
+few c = omega (arith, c.if-count-ge-LISTED_MOST.false, c.loop-at.invariant.1.1.1.0)
 
 -- the name
-name : (c : After-is_repeated) → let t = turn2_3 c in c.value_in-name.result.now ≡ value_in (bytes_5 t)
-name c = let t = turn2_3 c in c.value_in-name.ensures ∙ ap value_in (lent (at_6 t) (list_6 t))
+name : (c : After-is_repeated) → let t = c in c.value_in-name.result.now ≡ value_in (bytes_5 t)
+name c = let t = c in c.value_in-name.ensures ∙ ap value_in (lent (at_6 t) (list_6 t))
 
 -- the name
-name_2 : (c : Else-is_repeated) → let t = turn2_4 c in c.value_in-name.result.now ≡ value_in (bytes_6 t)
-name_2 c = let t = turn2_4 c in c.value_in-name.ensures ∙ ap value_in (lent (at_7 t) (list_7 t))
+name_2 : (c : Else-is_repeated) → let t = c in c.value_in-name.result.now ≡ value_in (bytes_6 t)
+name_2 c = let t = c in c.value_in-name.ensures ∙ ap value_in (lent (at_7 t) (list_7 t))
 
-new : (c : After-is_repeated) → let t = turn3 c in is_new (value_in (bytes_5 t)) (names_of (keys_3 t)) ≡ not c.is_repeated.result
+new : (c : After-is_repeated) → let t = c in is_new (value_in (bytes_5 t)) (names_of (keys_3 t)) ≡ not c.is_repeated.result
 new c =
-    let t = turn3 c in
+    let t = c in
     not_across _ _
     (sym (c.is_repeated.ensures ∙ ap (λ (v : List ℕ). not (is_new v (names_of (keys_3 t)))) (name c)))
 
-new_2 : (c : Else-is_repeated) → let t = turn3_2 c in is_new (value_in (bytes_6 t)) (names_of (keys_4 t)) ≡ not c.is_repeated.result
+new_2 : (c : Else-is_repeated) → let t = c in is_new (value_in (bytes_6 t)) (names_of (keys_4 t)) ≡ not c.is_repeated.result
 new_2 c =
-    let t = turn3_2 c in
+    let t = c in
     not_across _ _
     (sym (c.is_repeated.ensures ∙ ap (λ (v : List ℕ). not (is_new v (names_of (keys_4 t)))) (name_2 c)))
 
 -- ---- a pair is taken
 
 
-abbrev turn : Else-is_repeated → Else-is_repeated
-turn c = turn3_2 c
-
-
 abbrev n : Else-is_repeated → ℕ
 n c = c.pair_length-n.result
 
-long : (c : Else-is_repeated) → n c ≡ pair_length (bytes_6 (turn c))
+long : (c : Else-is_repeated) → n c ≡ pair_length (bytes_6 c)
 long c = size_3 c
 
-there : (c : Else-is_repeated) → is_pair (bytes_6 (turn c)) ≡ true
+there : (c : Else-is_repeated) → is_pair (bytes_6 c) ≡ true
 there c = pair_2 c
 
-within : (c : Else-is_repeated) → at_7 (turn c) + n c ≤ length (list_7 (turn c))
-within c = omega (arith, long c, pair_room (bytes_6 (turn c)) (there c), length-drop (at_7 (turn c)) (list_7 (turn c)))
+within : (c : Else-is_repeated) → at_7 c + n c ≤ length (list_7 c)
+within c = omega (arith, long c, pair_room (bytes_6 c) (there c), length-drop (at_7 c) (list_7 c))
 
-fresh : (c : Else-is_repeated) → is_new (value_in (bytes_6 (turn c))) (names_of (keys_4 (turn c))) ≡ true
+fresh : (c : Else-is_repeated) → is_new (value_in (bytes_6 c)) (names_of (keys_4 c)) ≡ true
 fresh c = new_2 c ∙ ap not c.if-is_repeated.false
 
 -- the list up to the next pair
-more : (c : Else-is_repeated) → list_of (take (at_7 (turn c) + n c) (list_7 (turn c))) ≡ some (keys_4 (turn c) ++ (key_in (bytes_6 (turn c)) ∷ []))
+more : (c : Else-is_repeated) → list_of (take (at_7 c + n c) (list_7 c)) ≡ some (keys_4 c ++ (key_in (bytes_6 c) ∷ []))
 more c =
-    let t = turn c in
+    let t = c in
     ap (λ (k : ℕ). list_of (take (at_7 t + k) (list_7 t))) (long c)
-    ∙ before_more (keys_4 t) (list_7 t) (at_7 t) (few c) (good_list (take (at_7 t) (list_7 t)) t.before.loop-at.invariant.1.0) (there c) (fresh c)
+    ∙ before_more (keys_4 t) (list_7 t) (at_7 t) (few c) (good_list (take (at_7 t) (list_7 t)) t.loop-at.invariant.1.0) (there c) (fresh c)
 
 pub loop-at-init : goal.loop-at-init
 unfolding list_of
@@ -209,14 +187,14 @@ pub returns-then-count-ge-LISTED_MOST : goal.returns-then-count-ge-LISTED_MOST
 returns-then-count-ge-LISTED_MOST c =
     let w = (goal.at.returns-then-count-ge-LISTED_MOST c).Else-n-eq0 in
     let w' = (goal.at.returns-then-count-ge-LISTED_MOST c).In-loop-at in
-    let full : listed_most ≤ length (keys w') = omega (arith, c.if-count-ge-LISTED_MOST.true, c.loop-at.inv.1.1.1.0) in
+    let full : listed_most ≤ length (keys w') = omega (arith, c.if-count-ge-LISTED_MOST.true, c.loop-at.invariant.1.1.1.0) in
     sym (list_bad (list_3 w) (sym (reads w') ∙ pairs_over (keys w') (bytes_3 w) (pair w) full))
 
 pub slice_bounds-value_in-count : goal.slice_bounds-value_in-count
-slice_bounds-value_in-count c = (turn2 c).before.loop-at.invariant.0
+slice_bounds-value_in-count c = c.loop-at.invariant.0
 
 pub slice_bounds-value_in-start : goal.slice_bounds-value_in-start
-slice_bounds-value_in-start c = (turn2 c).before.loop-at.invariant.0
+slice_bounds-value_in-start c = c.loop-at.invariant.0
 
 pub value_in-name-requires : goal.value_in-name-requires
 value_in-name-requires c =
@@ -227,12 +205,12 @@ value_in-name-requires c =
 pub slice_bounds-is_repeated-end : goal.slice_bounds-is_repeated-end
 slice_bounds-is_repeated-end c =
     let w = (goal.at.slice_bounds-is_repeated-end c).After-value_in-name in
-    sym (turn2_2 w).before.loop-at.invariant.1.1.1.1.room
+    sym w.loop-at.invariant.1.1.1.1.room
 
 pub is_repeated-requires : goal.is_repeated-requires
 is_repeated-requires c =
     let w = (goal.at.is_repeated-requires c).After-value_in-name in
-    let inv = (turn2_2 w).before.loop-at.invariant in
+    let inv = w.loop-at.invariant in
     (inv.0, inv.1.0, inv.1.1.1.1, c.mark_of-mark.ensures)
 
 pub returns-then-is_repeated : goal.returns-then-is_repeated
@@ -240,8 +218,7 @@ returns-then-is_repeated c =
     let w = (goal.at.returns-then-is_repeated c).After-is_repeated in
     let w' = (goal.at.returns-then-is_repeated c).In-loop-at in
     let w2 = (goal.at.returns-then-is_repeated c).Else-n-eq0 in
-    let t = turn3 w in
-    sym (list_bad (list t) (sym (reads t) ∙ pairs_repeated (keys t) (bytes t) (pair w2) (new w ∙ ap not c.if-is_repeated.true)))
+    sym (list_bad (list w') (sym (reads w') ∙ pairs_repeated (keys w') (bytes w') (pair w2) (new w ∙ ap not c.if-is_repeated.true)))
 
 pub offset_bounds-marks-count : goal.offset_bounds-marks-count
 offset_bounds-marks-count c = record { fits = omega (arith, c.if-count-ge-LISTED_MOST.false) }
@@ -256,21 +233,21 @@ pub overflow_add-at : goal.overflow_add-at
 overflow_add-at c = omega (arith, within c)
 
 pub loop-at-smaller : goal.loop-at-smaller
-loop-at-smaller c = omega (arith, within c, long c, pair_long (bytes_6 (turn c)) (there c))
+loop-at-smaller c = omega (arith, within c, long c, pair_long (bytes_6 c) (there c))
 
 pub loop-at-preserved : goal.loop-at-preserved
 loop-at-preserved c =
     let w = (goal.at.loop-at-preserved c).In-loop-at in
-    let t = turn c in
+    let t = c in
     let x : List ℕ = take (at_7 t + n c) (list_7 t) in
     let key : ListedKey = key_in (bytes_6 t) in
     let all : keys_in x ≡ keys_4 t ++ (key ∷ []) = list_keys x (keys_4 t ++ (key ∷ [])) (more c) in
     let rest : drop (at_7 t + n c) (list_7 t) ≡ drop (pair_length (bytes_6 t)) (bytes_6 t)
     = ap (λ (k : ℕ). drop (at_7 t + k) (list_7 t)) (long c) ∙ sym (drop-drop (pair_length (bytes_6 t)) (at_7 t) (list_7 t)) in
-    let inv = t.before.loop-at.invariant.1.1.1 in
-    let marked : Marked (keys_in x) (set t.before.loop-at.marks t.before.loop-at.count c.mark_of-mark.result)
-    = subst (λ (ks : List ListedKey). Marked ks (set t.before.loop-at.marks t.before.loop-at.count c.mark_of-mark.result)) (sym all)
-    (marked_more (keys_4 t) t.before.loop-at.marks inv.1 key t.before.loop-at.count c.mark_of-mark.result inv.0 c.if-count-ge-LISTED_MOST.false
+    let inv = t.loop-at.invariant.1.1.1 in
+    let marked : Marked (keys_in x) (set t.loop-at.marks t.loop-at.count c.mark_of-mark.result)
+    = subst (λ (ks : List ListedKey). Marked ks (set t.loop-at.marks t.loop-at.count c.mark_of-mark.result)) (sym all)
+    (marked_more (keys_4 t) t.loop-at.marks inv.1 key t.loop-at.count c.mark_of-mark.result inv.0 c.if-count-ge-LISTED_MOST.false
     (c.mark_of-mark.ensures ∙ ap mark_of (name_2 c))) in (
       within c,
       (
@@ -278,8 +255,8 @@ loop-at-preserved c =
         (
           ap₂ (λ (l : List ℕ) (ks : List ListedKey). read_pairs l (whole ks)) rest all
               ∙ sym (pairs_on (keys_4 t) (bytes_6 t) (there c) (few c) (fresh c))
-              ∙ reads t,
-          (omega (arith, ap length all, length-append (keys_4 t) (key ∷ []), t.before.loop-at.invariant.1.1.1.0), marked),
+              ∙ reads w,
+          (omega (arith, ap length all, length-append (keys_4 t) (key ∷ []), t.loop-at.invariant.1.1.1.0), marked),
         ),
       ),
     )

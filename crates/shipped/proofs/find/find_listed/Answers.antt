@@ -174,7 +174,7 @@ returns-then-equal c =
     let b = begins (keys_3 w' ++ (key_in (bytes_4 w) ∷ [])) (keys_in (list_4 w)) (drop (pair_length (bytes_4 w)) (bytes_4 w)) (rest w2) in
     let found : listed_named (name w) (keys_in (list_4 w)) ≡ some (key_in (bytes_4 w))
     = ap (listed_named (name w)) b.1
-    ∙ named_here (name w) (keys_3 w') b.0 (key_in (bytes_4 w)) c.loop-at.inv.1.1.1 (compared w ∙ c.if-equal.true) in
+    ∙ named_here (name w) (keys_3 w') b.0 (key_in (bytes_4 w)) c.loop-at.invariant.1.1.1 (compared w ∙ c.if-equal.true) in
     record {
       bytes = ap some (data_there (list_4 w) (at_4 w) _ _ (first_2 w') (second w')) ∙ sym (ap data_of found);
       within = omega (arith, end w', within w2);
@@ -204,7 +204,7 @@ loop-at-preserved c =
         keys_3 w' ++ (key ∷ []),
         (
           ap (λ (l : List ℕ). read_pairs l (whole (keys_3 w' ++ (key ∷ [])))) (ap (λ (k : ℕ). drop k (list_4 w)) (end w') ∙ sym (drop-drop (pair_length (bytes_4 w)) (at_4 w) (list_4 w))) ∙ rest w2,
-          new_more (name w) (keys_3 w') key c.loop-at.inv.1.1.1 (compared w ∙ c.if-equal.false),
+          new_more (name w) (keys_3 w') key c.loop-at.invariant.1.1.1 (compared w ∙ c.if-equal.false),
         ),
       ),
     )
