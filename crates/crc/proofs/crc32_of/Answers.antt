@@ -1,7 +1,6 @@
 use mathlib.Core.Path.{ap}
 use Prim.Native.Nat.{ℕ}
 use lib.Bits.{bit_xor}
-use borrow.Author.Rules.{rules}
 use Rattle.crc.specs.Crc.{all_ones, crc32}
 use Rattle.crc.proofs.crc32_of.Goals as goal
 

@@ -1,5 +1,5 @@
 use mathlib.Core.Path.{◌≡◌, refl, sym, ap, ◌∙◌}
-use Prim.Native.Nat.{ℕ, ◌+◌, ◌-◌, ◌≤◌, ◌<◌}
+use Prim.Native.Nat.{ℕ, ◌+◌, ◌≤◌, ◌<◌}
 use mathlib.Core.List.{List}
 use native.Mathlib.Numerals.{add-one}
 use lib.ListN.{length, drop, get_or, drop_of_length-le}
@@ -16,7 +16,7 @@ loop-i-preserved c =
     let l = c.loop-i in
     let bytes : List ℕ = c.args.bytes.now in
     let i : ℕ = l.i in
-    let kept : ℕ = l.auto in
+    let kept : ℕ = l.kept in
     let more : i < length bytes = search rules in
     let next : register_after kept (drop i bytes) ≡ register_after (shift_byte kept (get_or bytes i 0)) (drop (i + 1) bytes)
     = (rw (add-one, drop-cons bytes i 0 more) (unfold register_after in refl)) in
@@ -26,7 +26,7 @@ pub returns : goal.returns
 returns c =
     let bytes : List ℕ = c.args.bytes.now in
     let i : ℕ = c.loop-i.i in
-    let kept : ℕ = c.loop-i.auto in
+    let kept : ℕ = c.loop-i.kept in
     let end : length bytes ≤ i = search rules in
     let none_left : kept ≡ register_after kept (drop i bytes) = (rw (drop_of_length-le bytes end) (unfold register_after in refl)) in
     none_left ∙ c.loop-i.invariant.1
