@@ -40,6 +40,7 @@ module _ (format : Format) (law : Lawful format) where
   output_back opcode nothing of_destroy fits = body_back [] (λ m. nothing) (omega arith) fits
   output_back opcode (exported data') of_export fits = body_back (message_of (exported data')) (λ m. exported (octets_of (value_at m 1))) (omega arith) fits
   output_back opcode nothing of_verify fits = body_back [] (λ m. nothing) (omega arith) fits
+  output_back opcode (offset at) answers fits = elim answers [ ]
 
   pub offset_back : (at : ℕ) → AllFit format (message_of (offset at)) → offset_of format (output_bytes format (offset at)) ≡ some (offset at)
   unfolding offset_of output_bytes

@@ -14,41 +14,25 @@ use Rattle.messages.specs.declared.tagged.TaggedField.{TaggedField}
 use Rattle.messages.specs.declared.tagged.TaggedField.TheVariants.{At}
 use Rattle.messages.proofs.TaggedPlacedLaws.{scan, begins, ends, breaks, goes_on, falls}
 use Rattle.messages.proofs.tagged.read_tagged.Goals as goal
-use Rattle.messages.proofs.tagged.read_tagged.Goals.{In-At-2}
-
-is_field : (c : In-At-2)
-    → (let a = c.args in 
-    field_in a.body.now a.schema (At c.in-At.number c.in-At.value c.in-At.next) ≡ field_placed a.schema a.body.now c.loop-at.at)
-is_field c = let a = c.args in ap (field_in a.body.now a.schema) (sym c.in-At.is) ∙ c.read_tagged_field.ensures.0
-
-within : (c : In-At-2)
-    → (let a = c.args in 
-    FieldWithin (length a.body.now) c.loop-at.at a.schema (At c.in-At.number c.in-At.value c.in-At.next))
-within c =
-    let a = c.args in
-    subst (λ (f : TaggedField). FieldWithin (length a.body.now) c.loop-at.at a.schema f) c.in-At.is c.read_tagged_field.ensures.1
 
 pub loop-at-init : goal.loop-at-init
 loop-at-init c = rw c.all_absent-m.ensures (λ kinds is few no-lists. begins kinds few no-lists _ is _, record { in1 = omega arith; in2 = omega arith; in3 = omega arith; in4 = omega arith; in5 = omega arith })
 
 pub returns-then-number-last : goal.returns-then-number-last
 returns-then-number-last c =
-    let w = (goal.at.returns-then-number-last c).In-At-2 in
     let l = c.loop-at in
-    (λ kinds is few no-lists. sym (falls kinds few no-lists _ is _ l.at l.last l.m c.loop-at-test.true _ _ _ (within w).0 (is_field w) c.if-number-last.true) ∙ l.invariant.0 kinds is few no-lists, omega arith)
+    (λ kinds is few no-lists. sym (falls kinds few no-lists _ is _ l.at l.last l.m c.loop-at-test.true _ _ _ c.in-At.ensures.1.0 c.in-At.ensures.0 c.if-number-last.true) ∙ l.invariant.0 kinds is few no-lists, omega arith)
 
 pub loop-at-smaller : goal.loop-at-smaller
 loop-at-smaller c =
-    let w = (goal.at.loop-at-smaller c).In-At-2 in
-    omega (arith, (within w).2)
+    omega (arith, c.in-At.ensures.1.2)
 
 pub loop-at-preserved : goal.loop-at-preserved
 loop-at-preserved c =
-    let w = (goal.at.loop-at-preserved c).In-At-2 in
     let l = c.loop-at in
     rw c.with_value-m.ensures (
-      λ kinds is few no-lists. sym (goes_on kinds few no-lists _ is _ l.at l.last l.m c.loop-at-test.true _ _ _ (within w).0 (is_field w) c.if-number-last.false) ∙ l.invariant.0 kinds is few no-lists,
-      with_value_in _ l.m _ _ l.invariant.1 (within w).1,
+      λ kinds is few no-lists. sym (goes_on kinds few no-lists _ is _ l.at l.last l.m c.loop-at-test.true _ _ _ c.in-At.ensures.1.0 c.in-At.ensures.0 c.if-number-last.false) ∙ l.invariant.0 kinds is few no-lists,
+      with_value_in _ l.m _ _ l.invariant.1 c.in-At.ensures.1.1,
     )
 
 pub returns-in-Unreadable : goal.returns-in-Unreadable

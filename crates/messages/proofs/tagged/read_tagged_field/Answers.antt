@@ -82,7 +82,7 @@ value_as-requires c =
 pub overflow_add-result : goal.overflow_add-result
 overflow_add-result c =
     let w = (goal.at.overflow_add-result c).After-record_length-size in
-    omega (arith, within w, c.well_formed_lem)
+    omega (arith, within w, c.well_formed)
 
 pub returns-in-At : goal.returns-in-At
 returns-in-At c =

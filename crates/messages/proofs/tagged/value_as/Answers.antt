@@ -32,7 +32,7 @@ number_there c =
 
 byte_there : (c : Else-len-ne1) → (get_or (part_2 c) 0 0 ≡ get_or c.args.body.now c.args.start 0)
 byte_there c =
-    ap (λ (n : ℕ). get_or (take n (drop c.start c.body.now)) 0 0) c.if-len-ne1.false ∙ first_of c.body.now c.start
+    ap (λ (n : ℕ). get_or (take n (drop c.args.start c.args.body.now)) 0 0) c.if-len-ne1.false ∙ first_of c.args.body.now c.args.start
 
 pub returns-then-len-lt1 : goal.returns-then-len-lt1
 unfolding bind

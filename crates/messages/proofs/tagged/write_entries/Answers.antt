@@ -62,7 +62,7 @@ copy_into-size-requires c =
 pub overflow_add-at : goal.overflow_add-at
 overflow_add-at c =
     let w = (goal.at.overflow_add-at c).In-loop-i in
-    omega (arith, room w, c.copy_into-size.ensures.count, c.well_formed_lem)
+    omega (arith, room w, c.copy_into-size.ensures.count, c.well_formed)
 
 pub loop-i-preserved : goal.loop-i-preserved
 loop-i-preserved c =
