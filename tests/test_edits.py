@@ -25,8 +25,8 @@ def missing(root):
 
 
 def untold(root):
-    """The edits whose first line is no sentence."""
-    return [edit.stem for edit in edits(root) if not re.match(r"(?!file:|old:|new:)\S.* .*\.\n", edit.read_text())]
+    """The edits whose first line is no comment that is a sentence: rt check names a line that is neither read nor a comment."""
+    return [edit.stem for edit in edits(root) if not re.match(r"# \S.* .*\.\n", edit.read_text())]
 
 
 def fault(edit):
@@ -74,7 +74,7 @@ class Faults(unittest.TestCase):
         self.addCleanup(folder.cleanup)
         self.root = Path(folder.name)
         self.write("crates/a/src/x.rt", "first: 7\nsecond: 7\n")
-        self.write("crates/a/must-fail/good.edit", "The first is eight.\nfile: src/x.rt\nold: first: 7\nnew: first: 8\n")
+        self.write("crates/a/must-fail/good.edit", "# The first is eight.\nfile: src/x.rt\nold: first: 7\nnew: first: 8\n")
         self.write("docs/PAGE.md", "See `a/must-fail/good`.\n")
 
     def write(self, name, text):
@@ -95,17 +95,24 @@ class Faults(unittest.TestCase):
 
     def test_first_lines_that_say_nothing(self):
         rest = "file: src/x.rt\nold: second: 7\nnew: second: 8\n"
-        lines = {"bare": "", "empty": "\n", "word": "Wrong.\n", "unended": "The second is eight\n", "said": "The second is eight.\n"}
+        lines = {
+            "bare": "",
+            "empty": "\n",
+            "word": "# Wrong.\n",
+            "unended": "# The second is eight\n",
+            "unmarked": "The second is eight.\n",
+            "said": "# The second is eight.\n",
+        }
         for name, line in lines.items():
             self.edit(name, line + rest)
-        self.assertEqual(untold(self.root), ["bare", "empty", "unended", "word"])
+        self.assertEqual(untold(self.root), ["bare", "empty", "unended", "unmarked", "word"])
 
     def test_texts_that_stand_nowhere_or_twice(self):
-        self.edit("absent", "It is nine.\nfile: src/x.rt\nold: third: 7\nnew: third: 9\n")
-        self.edit("twice", "It is nine.\nfile: src/x.rt\nold: : 7\nnew: : 9\n")
-        self.edit("undone", "It is nine.\nfile: src/x.rt\nold: first: 7\nnew: 9\nold: 9\nnew: first: 7\n")
-        self.edit("astray", "It is nine.\nfile: src/y.rt\nold: first: 7\nnew: 9\n")
-        self.edit("blank", "It is nine.\n")
+        self.edit("absent", "# It is nine.\nfile: src/x.rt\nold: third: 7\nnew: third: 9\n")
+        self.edit("twice", "# It is nine.\nfile: src/x.rt\nold: : 7\nnew: : 9\n")
+        self.edit("undone", "# It is nine.\nfile: src/x.rt\nold: first: 7\nnew: 9\nold: 9\nnew: first: 7\n")
+        self.edit("astray", "# It is nine.\nfile: src/y.rt\nold: first: 7\nnew: 9\n")
+        self.edit("blank", "# It is nine.\n")
         self.assertEqual(
             unfit(self.root),
             [
