@@ -30,8 +30,8 @@ to_pkgconfig = $(DESTDIR)$(pkgconfigdir)
 to_man = $(DESTDIR)$(mandir)
 
 built := target/staticlib/libabi.a target/staticlib/libclient_abi.a target/bin/bill target/bin/audit_program
-# A folder is newer when a file of it is gone.
-sources := crates.txt $(shell find crates -name '*.rt' -o -name '*.antt' -o -type d)
+# A folder is newer when a file of it is gone. In out/ is what rt makes of them.
+sources := crates.txt $(shell find crates/*/* -name out -prune -o \( -name '*.rt' -o -name '*.antt' -o -type d \) -print)
 
 # What stands below PREFIX is said in its terms, so that pkg-config can move it.
 below_prefix = $(patsubst $(PREFIX)/%,$${prefix}/%,$(1))
@@ -39,18 +39,16 @@ fill_in = sed -e 's|@PREFIX@|$(PREFIX)|' -e 's|@LIBDIR@|$(call below_prefix,$(li
 	-e 's|@INCLUDEDIR@|$(call below_prefix,$(includedir))|' -e 's|@VERSION@|$(version)|'
 
 .PHONY: all install uninstall absolute
-# Two runs of rt would write one target/.
+# Two runs of rt would build what is below both.
 .NOTPARALLEL:
 
 all: $(built)
 
-# rt leaves alone what has not changed: the file is as new as what it was made from.
+# rt proves again only what has changed.
 target/staticlib/lib%.a: $(sources)
-	./prove staticlib $*
-	touch $@
+	./prove $*
 target/bin/%: $(sources)
-	./prove check $*
-	touch $@
+	./prove $*
 
 absolute:
 	@case '$(PREFIX)' in /*) ;; *) echo 'make: PREFIX has to begin with /' >&2; exit 1 ;; esac
