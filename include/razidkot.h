@@ -1,5 +1,5 @@
 /*
- * The key service for C: target/staticlib/libabi.a, which `rt staticlib abi` writes (x86-64, System V).
+ * The key service for C: target/staticlib/libabi.a, which `./prove abi` writes (x86-64, System V).
  * The archive allocates nothing, keeps nothing between calls and needs no library but C's. All memory is the caller's.
  * docs/LAYOUT.md has the layouts of registry and connection memory, of the list, and of the journal and its reader's
  * state; document 01 is the requirements paper, document 02 the requests after it.

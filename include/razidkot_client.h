@@ -1,5 +1,5 @@
 /*
- * The key service's client for C: target/staticlib/libclient_abi.a, which `rt staticlib client_abi` writes (x86-64,
+ * The key service's client for C: target/staticlib/libclient_abi.a, which `./prove client_abi` writes (x86-64,
  * System V). It writes requests and reads their responses; the bytes between are sent by the caller. It needs no part of
  * the service, allocates nothing, keeps nothing between calls and needs no library but C's. All memory is the caller's.
  * docs/LAYOUT.md has the layout of a reader's state; documents 01 and 02 are the requirements papers. It stands alone or

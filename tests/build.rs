@@ -1,4 +1,4 @@
-//! Links the compiled leaves, the archive that `rt staticlib probe` writes.
+//! Links the compiled leaves, the archive that `./prove probe` writes.
 
 use std::path::Path;
 
@@ -7,7 +7,7 @@ fn main() {
     let archive = folder.join("libprobe.a");
     println!("cargo::rerun-if-changed={}", archive.display());
     if !archive.exists() {
-        println!("cargo::error=target/staticlib/libprobe.a is missing: run `rt staticlib probe`");
+        println!("cargo::error=target/staticlib/libprobe.a is missing: run `./prove probe`");
         return;
     }
     println!("cargo::rustc-link-search=native={}", folder.display());

@@ -10,7 +10,7 @@ import unittest
 from pathlib import Path
 
 REPOSITORY = Path(__file__).resolve().parent.parent
-# What rt has built: make takes it as it is, whatever its age, and proves nothing.
+# What ./prove has built: make takes it as it is, whatever its age, and proves nothing.
 BUILT = [
     "target/staticlib/libabi.a",
     "target/staticlib/libclient_abi.a",

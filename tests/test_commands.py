@@ -9,17 +9,32 @@ from pathlib import Path
 
 REPOSITORY = Path(__file__).resolve().parent.parent
 # All that the scripts run; no rt and no cargo but the test's own.
-TOOLS = "bash cat cp dirname ls mkdir mktemp rm sed sh sha256sum tee".split()
+TOOLS = "awk bash cat cmp cp dirname grep ls mkdir mktemp mv rm sed sh sha256sum tee".split()
+# Of a program all that rt says is on standard error.
 PROVES = """
-echo "library std: modules loaded=0 checked=0"
+[ "$1" = lib ] || exec 3>&1 >&2
+echo "rt: chose --jobs 2 for wire"
 echo "fn wire::bytes::clear: proved"
-echo "rt: wire proved (33 s)"
+echo "logic=proved functions=1 sum=09"
 echo "a note" >&2
-echo "rt: bill proved (unchanged since it was last proved)"
 """
-WRITES = "echo 'rt: target/staticlib/libabi.a has the functions of abi that are marked'"
-LINES = "wire proved (33 s)\nbill proved (unchanged since it was last proved)\n"
-FAILS = PROVES + 'echo "rt: service NOT PROVED (exit 1, 3 s)"\nexit 3\n'
+# rt runs a program that it has built, and ends with that program's status.
+RUNS = PROVES + """
+[ "$*" = run ] || exit 1
+echo "rt: nothing has changed since the last proved build, by out/bill.stamp, so nothing is checked now" >&2
+echo "rt: running out/bill; to give it other input, run that file yourself" >&2
+[ "$(cat)" = "" ] || exit 1
+echo "usage: bill" >&3
+exit 2
+"""
+WRITES = """
+[ "$*" = lib ] && [ "${PWD%/crates/abi}" != "$PWD" ] || exit 2
+echo "rt: chose --jobs 2 for abi"
+echo "logic=proved functions=2 sum=09"
+mkdir -p out && echo archive >out/libabi.a
+"""
+LINES = "wire proved\nbill proved (unchanged since it was last proved)\n"
+FAILS = PROVES + 'echo "fn service::call: not proved"\nexit 3\n'
 
 
 class Commands(unittest.TestCase):
@@ -54,36 +69,67 @@ class Commands(unittest.TestCase):
 
 
 class Prove(Commands):
+    def setUp(self):
+        super().setUp()
+        for name in ["crates/bill/src/main.rt", "crates/bill/out/bill", "crates/abi/src/lib.rt", "crates/wire/src/lib.rt"]:
+            file = self.root / name
+            file.parent.mkdir(parents=True, exist_ok=True)
+            file.write_text(name)
+
     def test_a_short_line_for_each_crate_and_nothing_on_standard_output(self):
-        self.on_path("rt", PROVES)
-        self.assertEqual(self.run_script("prove", "check", "bill"), (0, "", LINES))
+        self.on_path("rt", RUNS)
+        self.assertEqual(self.run_script("prove", "bill"), (0, "", LINES))
+        self.assertEqual((self.root / "target/bin/bill").read_text(), "crates/bill/out/bill")
 
     def test_the_words_are_rts(self):
-        self.on_path("rt", '[ "$*" = "staticlib abi" ] || exit 2\n' + WRITES)
-        said = "target/staticlib/libabi.a proved and written\n"
-        self.assertEqual(self.run_script("prove", "staticlib", "abi"), (0, "", said))
+        self.on_path("rt", PROVES + WRITES)
+        said = "wire proved\nabi proved\ntarget/staticlib/libabi.a written\n"
+        self.assertEqual(self.run_script("prove", "abi"), (0, "", said))
+        self.assertEqual((self.root / "target/staticlib/libabi.a").read_text(), "archive\n")
+        self.assertEqual((self.root / "target/log/abi.say").read_text().count("logic=proved"), 2)
+
+    def test_crates_one_after_the_other(self):
+        self.on_path("rt", f'if [ "$1" = run ]; then {RUNS} fi\n{WRITES}')
+        status, out, err = self.run_script("prove", "bill", "abi")
+        self.assertEqual((status, out), (0, ""))
+        self.assertEqual(err, LINES + "abi proved\ntarget/staticlib/libabi.a written\n")
+
+    def test_a_library_leaves_no_file(self):
+        self.on_path("rt", PROVES)
+        self.assertEqual(self.run_script("prove", "wire"), (0, "", "wire proved\n"))
+        self.assertFalse((self.root / "target/staticlib").exists())
 
     def test_all_of_it_when_it_fails(self):
         self.on_path("rt", FAILS)
-        status, out, err = self.run_script("prove", "check", "bill")
-        self.assertEqual((status, out), (3, ""))
-        self.assertTrue(err.startswith(LINES + "library std"), err)
-        for line in ["fn wire::bytes::clear: proved\n", "a note\n", "rt: service NOT PROVED (exit 1, 3 s)\n"]:
-            self.assertIn(line, err)
+        for crate in ["bill", "abi"]:
+            status, out, err = self.run_script("prove", crate)
+            self.assertEqual((status, out), (3, ""))
+            self.assertTrue(err.startswith("wire proved\nrt: chose"), err)
+            for line in ["fn wire::bytes::clear: proved\n", "a note\n", "fn service::call: not proved\n"]:
+                self.assertIn(line, err)
+            self.assertFalse((self.root / "target/staticlib").exists() or (self.root / "target/bin").exists())
 
     def test_no_toolchain(self):
-        status, out, err = self.run_script("prove", "check", "bill")
+        status, out, err = self.run_script("prove", "bill")
         self.assertEqual((status, out), (2, ""))
         self.assertIn("rt, is not on the path", err)
+
+    def test_no_such_crate(self):
+        self.on_path("rt", PROVES)
+        status, out, err = self.run_script("prove", "service")
+        self.assertEqual((status, out, err), (2, "", "prove: there is no crate service\n"))
+        self.assertEqual(self.run_script("prove")[0], 2)
 
 
 class Bill(Commands):
     def setUp(self):
         super().setUp()
-        self.program(self.root / "target/bin/bill", 'echo "taken 1 of $1, $2 and $3"')
+        (self.root / "crates/bill/src").mkdir(parents=True)
+        (self.root / "crates/bill/src/main.rt").touch()
+        self.program(self.root / "crates/bill/out/bill", 'echo "taken 1 of $1, $2 and $3"')
 
     def test_the_programs_output_alone(self):
-        self.on_path("rt", PROVES)
+        self.on_path("rt", RUNS)
         status, out, err = self.run_script("bill", "a roster", "stream", "list")
         self.assertEqual((status, out), (0, "taken 1 of a roster, stream and list\n"))
         self.assertTrue(err.endswith(LINES), err)
@@ -92,7 +138,7 @@ class Bill(Commands):
         self.on_path("rt", FAILS)
         status, out, err = self.run_script("bill", "roster", "stream", "list")
         self.assertEqual((status, out), (3, ""))
-        self.assertIn("NOT PROVED", err)
+        self.assertIn("fn service::call: not proved", err)
 
     def test_anything_but_three_files_is_bad_usage(self):
         self.on_path("rt", PROVES)
@@ -104,14 +150,11 @@ class Bill(Commands):
 
 
 class Unproved(Commands):
-    """rt try runs on the files of a copied crate; this one compares what it was given."""
+    """rt try runs on copies of the files that it is handed."""
 
     def setUp(self):
         super().setUp()
-        for name in ["crates/bill/src/main.rt", "crates/bill/data/old", "crates.txt"]:
-            file = self.root / name
-            file.parent.mkdir(parents=True, exist_ok=True)
-            file.write_text(name)
+        (self.root / "crates/bill").mkdir(parents=True)
         (self.root / "roster").write_text("names")
         (self.root / "shipped").write_text("keys")
         self.files = [self.root / "roster", self.root / "no-stream", self.root / "shipped"]
@@ -123,17 +166,23 @@ class Unproved(Commands):
         return self.run_script("bill", "--unproved", *self.files)
 
     def test_the_second_programs_bill_that_the_tried_program_prints_too(self):
-        data = "crates/bill/data"
-        given = f"cat {data}/roster {data}/list crates/bill/stdout crates/bill/args; ls {data}"
-        expected = "nameskeystaken 0\nroster\nstream\nlist\nlist\nroster"
-        status, out, err = self.said(f'[ "$*" = "try bill" ] && [ "$({given})" = "{expected}" ]')
+        words = 'try --data roster=$r --data list=$l -- roster stream list'
+        takes = f'r=${{3#roster=}} l=${{5#list=}}; [ "$*" = "{words}" ] && [ "$(cat $r $l)" = nameskeys ]'
+        where = '[ "${PWD%/crates/bill}" != "$PWD" ]'
+        status, out, err = self.said(f"{takes} && {where} && echo taken 0 && echo run=ended >&2")
         self.assertEqual((status, out), (0, "taken 0\n"))
         self.assertIn("NOT PROVED: this is the bill of the second program", err)
         self.assertIn("compiled here without proof, prints the same", err)
-        self.assertEqual((self.root / "crates/bill/data/old").read_text(), "crates/bill/data/old")
+        self.assertEqual(list((self.root / "crates/bill").iterdir()), [])
+
+    def test_a_tried_program_that_prints_another_bill(self):
+        status, out, err = self.said("echo taken 1")
+        self.assertEqual((status, out), (1, ""))
+        self.assertIn("taken 1\ntaken 0\n", err)
+        self.assertIn("does not print the same", err)
 
     def test_programs_that_differ_print_no_bill(self):
-        status, out, err = self.said("echo FAIL: at byte 0; exit 1")
+        status, out, err = self.said("echo taken 0; echo FAIL: at byte 0 >&2; exit 1")
         self.assertEqual((status, out), (1, ""))
         self.assertIn("FAIL: at byte 0", err)
         self.assertIn("does not print the same", err)

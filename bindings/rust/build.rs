@@ -1,7 +1,7 @@
 //! Links the compiled, proved archive of this crate. It is looked for in this order:
 //!
 //! 1. in the folder that the environment variable `RAZIDKOT_LIB_DIR` names, if it is set;
-//! 2. in the repository, if the crate stands in it: `rt staticlib` writes it there;
+//! 2. in the repository, if the crate stands in it: `./prove` writes it there;
 //! 3. where pkg-config says that the crate's own version is installed.
 //!
 //! The crates of the service and of the client have this same file, and their manifests tell them
@@ -92,7 +92,7 @@ impl Archive {
         })
     }
 
-    /// Under the name that it is installed by, or under that which `rt staticlib` gives it.
+    /// Under the name that it is installed by, or under that which the repository gives it.
     fn in_lib_dir(&self, folder: &Path) -> Result<Found, String> {
         // From here and from the linker's folder it would be two.
         if folder.is_relative() {
@@ -112,7 +112,7 @@ impl Archive {
         let name = &self.rattle_crate;
         let found = Self::found(&repository.join("target/staticlib"), name);
         found.ok_or_else(|| {
-            format!("target/staticlib/lib{name}.a is missing: run `rt staticlib {name}`")
+            format!("target/staticlib/lib{name}.a is missing: run `./prove {name}`")
         })
     }
 

@@ -4,7 +4,7 @@
  * is in the same program and stands for the other end of a socket: send_bytes and receive_bytes are all that a socket
  * would change.
  *
- *   rt staticlib abi && rt staticlib client_abi
+ *   ./prove abi client_abi
  *   cc -std=c99 -Iinclude -o client examples/c/client.c target/staticlib/libclient_abi.a target/staticlib/libabi.a
  */
 #include "razidkot.h"

@@ -3,7 +3,7 @@
  * chunks, one of a key that was imported and one of a key in the list, and prints what came back. Then it starts again
  * from its journal, and exports the imported key once more.
  *
- *   rt staticlib abi
+ *   ./prove abi
  *   cc -std=c99 -Iinclude -o keys examples/c/keys.c target/staticlib/libabi.a
  */
 #include "razidkot.h"

@@ -9,12 +9,12 @@ use std::process::{Command, Output, Stdio};
 use std::thread;
 use std::time::Duration;
 
-/// What `rt check bill` writes.
+/// What `./prove bill` writes.
 const PROGRAM: &str = concat!(env!("CARGO_MANIFEST_DIR"), "/../target/bin/bill");
 
 fn program() -> Command {
     let is_there = Path::new(PROGRAM).exists();
-    assert!(is_there, "target/bin/bill is missing: run `rt check bill`");
+    assert!(is_there, "target/bin/bill is missing: run `./prove bill`");
     Command::new(PROGRAM)
 }
 

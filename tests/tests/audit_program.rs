@@ -14,7 +14,7 @@ use std::fs;
 use std::path::{Path, PathBuf};
 use std::process::Command;
 
-/// What `rt check audit_program` writes.
+/// What `./prove audit_program` writes.
 const PROGRAM: &str = concat!(env!("CARGO_MANIFEST_DIR"), "/../target/bin/audit_program");
 const FILES: [&str; 5] = ["roster", "list", "journal", "requests", "responses"];
 
@@ -23,7 +23,7 @@ fn printed(arguments: &[impl AsRef<OsStr>]) -> String {
     let is_there = Path::new(PROGRAM).exists();
     assert!(
         is_there,
-        "{PROGRAM} is missing: run `rt check audit_program`"
+        "{PROGRAM} is missing: run `./prove audit_program`"
     );
     let output = Command::new(PROGRAM).args(arguments).output();
     let output = output.expect("a program that can be run");

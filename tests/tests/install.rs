@@ -61,7 +61,7 @@ fn install_and_uninstall_have_the_same_files() {
     install(scratch.path());
     assert_eq!(files_below(scratch.path()), expected_files());
     for (built, installed) in BUILT {
-        let bytes = |path: PathBuf| fs::read(path).expect("a file that rt wrote");
+        let bytes = |path: PathBuf| fs::read(path).expect("a file that ./prove wrote");
         let same = bytes(repository().join(built)) == bytes(scratch.path().join(installed));
         assert!(same, "{installed} is not {built}");
     }

@@ -3,7 +3,7 @@
 //! with another. It prints what came back. It reads from any stream; here the service is in the same
 //! program (`stream.rs`) and stands for a socket.
 //!
-//!     rt staticlib abi && rt staticlib client_abi && cargo run --quiet -p razidkot-client-example
+//!     ./prove abi client_abi && cargo run --quiet -p razidkot-client-example
 
 mod client;
 mod series;

@@ -3,7 +3,7 @@
 //! prints what came back. Then it starts again from its journal, and exports the imported key once
 //! more.
 //!
-//!     rt staticlib abi && cargo run --quiet -p razidkot-example
+//!     ./prove abi && cargo run --quiet -p razidkot-example
 
 use razidkot::{raw, Buffers, Connection, Journal, JournalReader, List, Registry, Service};
 use razidkot::{LEAST_JOURNAL_BUFFER, LEAST_RESPONSE_BUFFER};

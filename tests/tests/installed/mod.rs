@@ -1,4 +1,4 @@
-//! `make install` and `make uninstall`, on what `rt` has built.
+//! `make install` and `make uninstall`, on what `./prove` has built.
 // Each test file has need of some of it.
 #![allow(dead_code)]
 
@@ -6,7 +6,7 @@ use super::programs::{printed, repository};
 use std::path::Path;
 use std::process::Command;
 
-/// Where each file that `rt` writes is installed.
+/// Where each file that `./prove` writes is installed.
 pub const BUILT: [(&str, &str); 4] = [
     ("target/staticlib/libabi.a", "lib/librazidkot.a"),
     (
@@ -17,7 +17,7 @@ pub const BUILT: [(&str, &str); 4] = [
     ("target/bin/audit_program", "bin/razidkot-audit"),
 ];
 
-/// `make` with these words, on what `rt` has built, whatever its age.
+/// `make` with these words, on what `./prove` has built, whatever its age.
 pub fn make(words: &[String]) {
     let mut make = Command::new("make");
     make.current_dir(repository()).arg("--silent").args(words);
