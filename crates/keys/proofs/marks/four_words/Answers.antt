@@ -1,4 +1,3 @@
-use borrow.Author.Rules.{rules}
 use Rattle.keys.specs.code.Marks.{four_words}
 use Rattle.keys.proofs.marks.four_words.Goals as goal
 

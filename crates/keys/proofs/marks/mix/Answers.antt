@@ -1,5 +1,4 @@
 use mathlib.Core.Path.{refl}
-use borrow.Author.Rules.{rules}
 use Rattle.keys.specs.code.Marks.{mixed}
 use Rattle.keys.proofs.marks.mix.Goals as goal
 

@@ -1,11 +1,5 @@
-use Prim.Native.Nat.{◌≤◌, ◌-◌}
-use mathlib.Core.Path.{◌≡◌, refl, ◌∙◌}
-use mathlib.Core.Bool.{◌&&◌}
+use mathlib.Core.Path.{refl, ◌∙◌}
 use native.Mathlib.Omega.{arith}
-use borrow.Author.Rules.{rules}
-use lib.Dec.{eqb}
-use lib.ListN.{length, drop}
-use Rattle.wire.specs.Lists.{all}
 use Rattle.wire.proofs.BitLaws.{or_more, or_all}
 use Rattle.keys.specs.Names.{is_name_byte}
 use Rattle.keys.proofs.names.are_name_bytes.Goals as goal

@@ -1,10 +1,6 @@
-use Prim.Native.Nat.{◌≤◌, ◌-◌}
-use mathlib.Core.Path.{◌≡◌, refl, ◌∙◌}
-use mathlib.Core.Bool.{◌&&◌}
+use mathlib.Core.Path.{refl, ◌∙◌}
 use native.Mathlib.Omega.{arith}
-use lib.Dec.{eqb}
-use lib.ListN.{length, drop}
-use Rattle.wire.specs.Lists.{all, is_zero}
+use Rattle.wire.specs.Lists.{is_zero}
 use Rattle.wire.proofs.BitLaws.{or_more, or_all}
 use Rattle.wire.proofs.bytes.all_zero.Goals as goal
 

@@ -1,11 +1,9 @@
 use Prim.Native.Nat.{◌≤◌, ◌-◌}
-use mathlib.Core.Path.{◌≡◌, refl, ◌∙◌}
+use mathlib.Core.Path.{◌≡◌}
 use mathlib.Core.Bool.{◌&&◌}
-use native.Mathlib.Omega.{arith}
 use lib.Dec.{eqb}
 use lib.ListN.{length, drop}
 use Rattle.wire.specs.Lists.{all, is_zero}
-use Rattle.wire.proofs.BitLaws.{or_more, or_all}
 use Rattle.wire.proofs.bytes.all_zero.Given as goal
 
 abbrev pub invariant-loop-i : goal.invariant-loop-i

@@ -10,7 +10,6 @@ use lib.ListN.{length, take, drop}
 use Rattle.wire.specs.Lists.{all, is_zero}
 use Rattle.wire.proofs.BitLaws.{or_zero}
 use Rattle.wire.proofs.ListLaws.{all_covered, ends_fail}
-use borrow.Author.Rules.{rules}
 use Rattle.wire.proofs.bytes.all_zero_long.Goals as goal
 
 -- the test of the first and the last 16 bytes

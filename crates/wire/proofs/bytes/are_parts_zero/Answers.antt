@@ -6,7 +6,6 @@ use native.Mathlib.Omega.{arith}
 use lib.ListN.{take, drop}
 use Rattle.wire.specs.Lists.{all, is_zero}
 use Rattle.wire.proofs.ListLaws.{all_twice}
-use borrow.Author.Rules.{rules}
 use Rattle.wire.proofs.bytes.are_parts_zero.Goals as goal
 
 -- the second part's halves

@@ -1,10 +1,6 @@
-use Prim.Native.Nat.{◌≤◌, ◌-◌}
-use mathlib.Core.Path.{◌≡◌, refl, sym, ◌∙◌}
-use mathlib.Core.Bool.{◌&&◌}
+use mathlib.Core.Path.{refl, sym, ◌∙◌}
 use native.Mathlib.Omega.{arith}
-use lib.Dec.{eqb}
-use lib.ListN.{length}
-use Rattle.wire.proofs.BitLaws.{rests_zero, or_four, or_four_end}
+use Rattle.wire.proofs.BitLaws.{or_four, or_four_end}
 use Rattle.wire.proofs.bytes.join_four.Goals as goal
 
 pub loop-i-init : goal.loop-i-init

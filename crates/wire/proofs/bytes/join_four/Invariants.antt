@@ -1,10 +1,9 @@
 use Prim.Native.Nat.{◌≤◌, ◌-◌}
-use mathlib.Core.Path.{◌≡◌, refl, sym, ◌∙◌}
+use mathlib.Core.Path.{◌≡◌}
 use mathlib.Core.Bool.{◌&&◌}
-use native.Mathlib.Omega.{arith}
 use lib.Dec.{eqb}
 use lib.ListN.{length}
-use Rattle.wire.proofs.BitLaws.{rests_zero, or_four, or_four_end}
+use Rattle.wire.proofs.BitLaws.{rests_zero}
 use Rattle.wire.proofs.bytes.join_four.Given as goal
 
 abbrev pub invariant-loop-i : goal.invariant-loop-i

@@ -7,7 +7,6 @@ use Rattle.wire.specs.Numbers.{field}
 use Rattle.wire.specs.Request.{request_of}
 use Rattle.wire.specs.code.Header.{header_of}
 use Rattle.wire.proofs.NumberLaws.{field_byte}
-use borrow.Author.Rules.{rules}
 use Rattle.wire.proofs.header.read_header.Goals as goal
 
 pub returns : goal.returns

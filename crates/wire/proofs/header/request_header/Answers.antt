@@ -4,7 +4,6 @@ use mathlib.Core.List.{List, [], ◌∷◌}
 use lib.ListN.{get_or}
 use Rattle.wire.specs.Numbers.{little_endian_of}
 use Rattle.wire.specs.Request.{magic_number, header_least, request_header}
-use borrow.Author.Rules.{rules}
 use Rattle.wire.proofs.header.request_header.Goals as goal
 
 -- the parts of the array, each by the bytes of its number

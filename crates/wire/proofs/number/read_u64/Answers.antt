@@ -2,7 +2,6 @@ use Prim.Native.Nat.{ℕ}
 use mathlib.Core.List.{List}
 use native.Mathlib.Omega.{arith}
 use Rattle.wire.proofs.NumberLaws.{field_split}
-use borrow.Author.Rules.{rules}
 use Rattle.wire.proofs.number.read_u64.Goals as goal
 
 pub returns : goal.returns

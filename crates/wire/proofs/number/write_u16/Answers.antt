@@ -4,7 +4,6 @@ use mathlib.Core.List.{List, [], ◌∷◌}
 use native.Mathlib.Omega.{arith}
 use lib.ListN.{length, get_or, set}
 use Rattle.wire.specs.Numbers.{little_endian_of}
-use borrow.Author.Rules.{rules}
 use Rattle.wire.proofs.number.write_u16.Goals as goal
 
 two : (l : List ℕ) (a b : ℕ) → length l ≡ 2 → set (set l 0 a) 1 b ≡ a ∷ b ∷ []

@@ -4,7 +4,6 @@ use mathlib.Core.List.{List, [], ◌∷◌}
 use native.Mathlib.Omega.{arith}
 use lib.ListN.{length, get_or, set}
 use Rattle.wire.specs.Numbers.{little_endian_of}
-use borrow.Author.Rules.{rules}
 use Rattle.wire.proofs.number.write_u32.Goals as goal
 
 four : (l : List ℕ) (x y z w : ℕ) → length l ≡ 4 → set (set (set (set l 0 x) 1 y) 2 z) 3 w ≡ x ∷ y ∷ z ∷ w ∷ []

@@ -6,7 +6,6 @@ use lib.ListN.{get_or}
 use Rattle.wire.specs.Numbers.{field}
 use Rattle.wire.specs.Response.{response_of}
 use Rattle.wire.proofs.NumberLaws.{field_byte}
-use borrow.Author.Rules.{rules}
 use Rattle.wire.proofs.response.read_response.Goals as goal
 
 pub returns : goal.returns

@@ -5,7 +5,6 @@ use lib.ListN.{get_or}
 use Rattle.wire.specs.Numbers.{little_endian_of}
 use Rattle.wire.specs.Request.{magic_number}
 use Rattle.wire.specs.Response.{response_header_size, response_header}
-use borrow.Author.Rules.{rules}
 use Rattle.wire.proofs.response.response_header.Goals as goal
 
 -- the parts of the array, each by the bytes of its number
