@@ -1,17 +1,16 @@
-use Prim.Native.Nat.{ℕ, ◌+◌, ◌-◌, ◌≤◌, ◌<◌}
+use Prim.Native.Nat.{ℕ, ◌+◌, ◌≤◌, ◌<◌}
 use mathlib.Core.Path.{◌≡◌, refl, sym, ap, ap₂, ◌∙◌, subst}
 use mathlib.Core.Bool.{true, not}
 use mathlib.Core.Option.{some}
 use mathlib.Core.List.{List, [], ◌∷◌, ◌++◌}
 use native.Mathlib.Omega.{arith}
-use borrow.Author.Rules.{rules}
 use lib.ListN.{length, take, drop, set, length-drop, length-append}
 use lib.Seq.{drop-drop}
 use Rattle.wire.proofs.TestLaws.{not_across}
 use Rattle.wire.proofs.BufferLaws.{lent}
 use Rattle.keys.specs.Names.{is_new}
 use Rattle.records.specs.Records.{value_in, is_whole}
-use Rattle.shipped.specs.Shipped.{ListedKey, names_of, listed_most, whole, list_of, well_formed_list, keys_in}
+use Rattle.shipped.specs.Shipped.{ListedKey, names_of, listed_most, whole, list_of, keys_in}
 use Rattle.shipped.specs.code.Pairs.{is_pair, pair_length, key_in}
 use Rattle.shipped.specs.code.Marks.{mark_of, Marked}
 use Rattle.shipped.proofs.PairLaws.{read_pairs, pair_told, pair_not, pair_long, pair_room, pair_whole, pairs_none, pairs_over, pairs_repeated, pairs_on}
@@ -102,14 +101,11 @@ reads c = c.loop-at.invariant.1.1.0
 size : (c : After-pair_length-n) → c.pair_length-n.result ≡ pair_length (bytes_2 c)
 size c = c.pair_length-n.ensures ∙ ap pair_length (lent (at_2 c) (list_2 c))
 
-
 size_2 : (c : Else-n-eq0) → c.pair_length-n.result ≡ pair_length (bytes_3 c)
 size_2 c = c.pair_length-n.ensures ∙ ap pair_length (lent (at_3 c) (list_3 c))
 
-
 size_3 : (c : Else-is_repeated) → c.pair_length-n.result ≡ pair_length (bytes_6 c)
 size_3 c = c.pair_length-n.ensures ∙ ap pair_length (lent (at_7 c) (list_7 c))
-
 
 pair : (c : Else-n-eq0) → is_pair (bytes_3 c) ≡ true
 pair c = pair_told (bytes_3 c) _ (size_2 c) c.if-n-eq0.false
@@ -141,7 +137,6 @@ new_2 c =
     (sym (c.is_repeated.ensures ∙ ap (λ (v : List ℕ). not (is_new v (names_of (keys_4 t)))) (name_2 c)))
 
 -- ---- a pair is taken
-
 
 abbrev n : Else-is_repeated → ℕ
 n c = c.pair_length-n.result

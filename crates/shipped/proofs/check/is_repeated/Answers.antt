@@ -2,8 +2,7 @@ use mathlib.Core.Path.{◌≡◌, sym, ap, ◌∙◌}
 use mathlib.Core.Bool.{true, not}
 use mathlib.Core.List.{List}
 use Prim.Native.Nat.{ℕ}
-use borrow.Author.Rules.{rules}
-use borrow.Author.Tests.{not-true, not-false}
+use borrow.Author.Tests.{not-false}
 use lib.ListN.{take}
 use lib.Seq.{length-take-le}
 use Rattle.wire.specs.Choice.{is_some}
@@ -22,14 +21,12 @@ use Rattle.shipped.proofs.check.is_repeated.Goals.{After-find_listed, Start}
 abbrev before : Start → List ℕ
 before c = take c.args.at c.args.list.now
 
-
 abbrev before_2 : After-find_listed → List ℕ
 before_2 c = take c.args.at c.args.list.now
 
-
 -- what was found says whether the name is new
 new : (c : After-find_listed) (found : Listed) → c.find_listed.result ≡ found
-    → 
+    →
     not (is_new c.args.name.now (names_of (keys_in (before_2 c)))) ≡ not (not (is_some (data_found (before_2 c) found)))
 new c found e =
     ap not (finds_new (before_2 c) c.args.name.now c.find_listed.result c.find_listed.ensures

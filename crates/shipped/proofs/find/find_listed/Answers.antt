@@ -4,7 +4,6 @@ use mathlib.Core.Bool.{true}
 use mathlib.Core.Option.{some}
 use mathlib.Core.List.{List, [], ◌∷◌, ◌++◌}
 use native.Mathlib.Omega.{arith}
-use borrow.Author.Rules.{rules}
 use lib.ListN.{length, take, drop, length-drop}
 use lib.Seq.{drop-drop}
 use Rattle.wire.specs.Lists.{same}
@@ -93,16 +92,11 @@ rest c = next_on (keys c) (keys_in (list c)) (bytes c) c.loop-at.invariant.1.1.0
 within : (c : In-loop-at) → at c + pair_length (bytes c) ≤ length (list c)
 within c = omega (arith, pair_room (bytes c) (pair c), length-drop (at c) (list c))
 
-
 first : (c : After-record_length-n) → c.record_length-n.result ≡ record_length (bytes_2 c)
 first c = c.record_length-n.ensures ∙ ap record_length (lent (at_2 c) (list_2 c))
 
-
-
 first_2 : (c : After-record_length-len) → c.record_length-n.result ≡ record_length (bytes_3 c)
 first_2 c = c.record_length-n.ensures ∙ ap record_length (lent (at_3 c) (list_3 c))
-
-
 
 second : (c : After-record_length-len) → c.record_length-len.result ≡ record_length (behind (bytes_3 c))
 second c =

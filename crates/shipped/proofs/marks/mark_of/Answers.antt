@@ -1,5 +1,4 @@
 use mathlib.Core.Path.{ap₂, ◌∙◌}
-use borrow.Author.Rules.{rules}
 use borrow.Author.Tests.{lt-ltb, le-ltb}
 use Rattle.keys.specs.code.Marks.{mixed}
 use Rattle.shipped.specs.code.Marks.{mark_of}

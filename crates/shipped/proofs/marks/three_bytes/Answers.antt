@@ -1,4 +1,3 @@
-use borrow.Author.Rules.{rules}
 use borrow.Author.Tests.{eq-eqb, ne_eqb}
 use Rattle.shipped.specs.code.Marks.{three_bytes}
 use Rattle.shipped.proofs.marks.three_bytes.Goals as goal

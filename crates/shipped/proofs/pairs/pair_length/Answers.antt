@@ -3,7 +3,6 @@ use mathlib.Core.Path.{◌≡◌, sym, ap, ap₂, ◌∙◌}
 use mathlib.Core.Bool.{true, false, and-false}
 use mathlib.Core.List.{List}
 use native.Mathlib.Omega.{arith}
-use borrow.Author.Rules.{rules}
 use lib.ListN.{length, drop, length-drop}
 use Rattle.wire.proofs.BufferLaws.{lent}
 use Rattle.records.specs.Records.{record_length}
@@ -15,18 +14,14 @@ use Rattle.shipped.proofs.pairs.pair_length.Goals.{After-data_length-d, Else-d-e
 abbrev bytes : Start → List ℕ
 bytes c = c.args.bytes.now
 
-
 abbrev bytes_2 : Else-n-eq0 → List ℕ
 bytes_2 c = c.args.bytes.now
-
 
 abbrev bytes_3 : After-data_length-d → List ℕ
 bytes_3 c = c.args.bytes.now
 
-
 abbrev bytes_4 : Else-d-eq0 → List ℕ
 bytes_4 c = c.args.bytes.now
-
 
 name : (c : Else-n-eq0) → is_name (bytes_2 c) ≡ true
 name c = name_told (bytes_2 c) _ c.name_length-n.ensures c.if-n-eq0.false
