@@ -50,46 +50,6 @@ bytes_6 c = drop c.args.at c.args.file.now
 abbrev bytes_7 : After-is_repeated → List ℕ
 bytes_7 c = drop c.args.at c.args.file.now
 
--- the entry, from behind each test that passed
-
-abbrev start2 : Else-bytes-ne1 → Else-bytes-ne1
-start2 c = c
-
--- the entry, from behind each test that passed
-
-abbrev start2_2 : After-is_legal → After-is_legal
-start2_2 c = c
-
--- the entry, from behind each test that passed
-
-abbrev start2_3 : Else-not-is_legal → Else-not-is_legal
-start2_3 c = c
-
--- the entry, from behind each test that passed
-
-abbrev start2_4 : Else-names-ge-LINES → Else-names-ge-LINES
-start2_4 c = c
-
--- the entry, from behind each test that passed
-
-abbrev start2_5 : After-is_repeated → After-is_repeated
-start2_5 c = c
-
-abbrev start3 : Else-not-is_legal → Else-not-is_legal
-start3 c = start2_3 c
-
-abbrev start3_2 : Else-names-ge-LINES → Else-names-ge-LINES
-start3_2 c = start2_4 c
-
-abbrev start3_3 : After-is_repeated → After-is_repeated
-start3_3 c = start2_5 c
-
-abbrev start4 : Else-names-ge-LINES → Else-names-ge-LINES
-start4 c = start3_2 c
-
-abbrev start4_2 : After-is_repeated → After-is_repeated
-start4_2 c = start3_3 c
-
 -- what each test says of the record
 whole_test : (c : After-is_whole) → is_whole (bytes c) ≡ c.is_whole.result
 whole_test c =
@@ -138,31 +98,31 @@ tag_test_2 : (c : Else-bytes-ne1) →
 tag_test_2 c =
     field_byte 0 (bytes_4 c) (some_bytes_3 c) ∙ sym (ap (λ (l : List ℕ). get_or l 0 0) (lent c.args.at c.args.file.now))
 
-tag : (c : Else-bytes-ne1) → eqb (field 0 1 (bytes_4 (start2 c))) 1 ≡ true
+tag : (c : Else-bytes-ne1) → eqb (field 0 1 (bytes_4 c)) 1 ≡ true
 tag c = eq-eqb _ 1 (tag_test_2 c ∙ c.if-bytes-ne1.false)
 
-value : (c : After-is_legal) → c.value_in-name.result.now ≡ value_in (bytes_5 (start2_2 c))
+value : (c : After-is_legal) → c.value_in-name.result.now ≡ value_in (bytes_5 c)
 value c =
-    let s = start2_2 c in
+    let s = c in
     c.value_in-name.ensures ∙ ap value_in (lent s.args.at s.args.file.now)
 
-value_2 : (c : Else-not-is_legal) → c.value_in-name.result.now ≡ value_in (bytes_6 (start2_3 c))
+value_2 : (c : Else-not-is_legal) → c.value_in-name.result.now ≡ value_in (bytes_6 c)
 value_2 c =
-    let s = start2_3 c in
+    let s = c in
     c.value_in-name.ensures ∙ ap value_in (lent s.args.at s.args.file.now)
 
-value_3 : (c : After-is_repeated) → c.value_in-name.result.now ≡ value_in (bytes_7 (start2_5 c))
+value_3 : (c : After-is_repeated) → c.value_in-name.result.now ≡ value_in (bytes_7 c)
 value_3 c =
-    let s = start2_5 c in
+    let s = c in
     c.value_in-name.ensures ∙ ap value_in (lent s.args.at s.args.file.now)
 
-legal_test : (c : After-is_legal) → legal_name application_name_most (value_in (bytes_5 (start2_2 c))) ≡ c.is_legal.result
+legal_test : (c : After-is_legal) → legal_name application_name_most (value_in (bytes_5 c)) ≡ c.is_legal.result
 legal_test c = sym (c.is_legal.ensures ∙ ap (legal_name application_name_most) (value c))
 
-legal_test_2 : (c : Else-not-is_legal) → legal_name application_name_most (value_in (bytes_6 (start2_3 c))) ≡ c.is_legal.result
+legal_test_2 : (c : Else-not-is_legal) → legal_name application_name_most (value_in (bytes_6 c)) ≡ c.is_legal.result
 legal_test_2 c = sym (c.is_legal.ensures ∙ ap (legal_name application_name_most) (value_2 c))
 
-legal : (c : Else-not-is_legal) → legal_name application_name_most (value_in (bytes_6 (start3 c))) ≡ true
+legal : (c : Else-not-is_legal) → legal_name application_name_most (value_in (bytes_6 c)) ≡ true
 legal c = legal_test_2 c ∙ c.if-not-is_legal.false
 
 many : (s : Start) → length (names s) ≡ s.args.names.count
@@ -171,12 +131,12 @@ many s = names_many s.args.file.now s.args.names s.requires.1
 many_2 : (s : Else-names-ge-LINES) → length (names_2 s) ≡ s.args.names.count
 many_2 s = names_many s.args.file.now s.args.names s.requires.1
 
-room : (c : Else-names-ge-LINES) → leb line_count (length (names_2 (start4 c))) ≡ false
-room c = lt-leb line_count (length (names_2 (start4 c))) (rw (many_2 (start4 c)) c.if-names-ge-LINES.false)
+room : (c : Else-names-ge-LINES) → leb line_count (length (names_2 c)) ≡ false
+room c = lt-leb line_count (length (names_2 c)) (rw (many_2 c) c.if-names-ge-LINES.false)
 
-absent_test : (c : After-is_repeated) → let s = start4_2 c in is_new (value_in (bytes_7 s)) (names_3 s) ≡ not c.is_repeated.result
+absent_test : (c : After-is_repeated) → let s = c in is_new (value_in (bytes_7 s)) (names_3 s) ≡ not c.is_repeated.result
 absent_test c =
-    let s = start4_2 c in
+    let s = c in
     let v = value_3 c in
     not_across _ _ (sym (c.is_repeated.ensures ∙ ap (λ (n : List ℕ). not (is_new n (names_3 s))) v))
 
@@ -201,7 +161,7 @@ returns-then-bytes-ne1 c =
 
 pub value_in-name-requires : goal.value_in-name-requires
 value_in-name-requires c =
-    let s = start2 c in
+    let s = c in
     ap is_whole (lent s.args.at s.args.file.now) ∙ whole_3 c
 
 pub returns-then-not-is_legal : goal.returns-then-not-is_legal
@@ -210,8 +170,9 @@ returns-then-not-is_legal c =
     let w = (goal.at.returns-then-not-is_legal c).Start in
     let w' = (goal.at.returns-then-not-is_legal c).After-is_legal in
     let w2 = (goal.at.returns-then-not-is_legal c).Else-bytes-ne1 in
-    let s = start2_2 w' in
-    rw (fault_name (names s) (bytes s) (whole_3 w2) (tag w2) (legal_test w' ∙ c.if-not-is_legal.true))
+    let ns = names_at c.args.file.now c.args.names in
+    let b = drop c.args.at c.args.file.now in
+    rw (fault_name ns b (whole_3 w2) (tag w2) (legal_test w' ∙ c.if-not-is_legal.true))
 
 pub returns-then-names-ge-LINES : goal.returns-then-names-ge-LINES
 unfolding loaded_of
@@ -219,8 +180,9 @@ returns-then-names-ge-LINES c =
     let w = (goal.at.returns-then-names-ge-LINES c).Start in
     let w' = (goal.at.returns-then-names-ge-LINES c).Else-not-is_legal in
     let w2 = (goal.at.returns-then-names-ge-LINES c).Else-bytes-ne1 in
-    let s = start3 w' in
-    rw (fault_ninth (names s) (bytes s) (whole_3 w2) (tag w2) (legal w') (le-leb line_count (length (names s)) (rw (many s) c.if-names-ge-LINES.true)))
+    let ns = names_at c.args.file.now c.args.names in
+    let b = drop c.args.at c.args.file.now in
+    rw (fault_ninth ns b (whole_3 w2) (tag w2) (legal w') (le-leb line_count (length ns) (rw (names_many c.args.file.now c.args.names c.requires.1) c.if-names-ge-LINES.true)))
 
 pub returns-then-is_repeated : goal.returns-then-is_repeated
 unfolding loaded_of
@@ -229,9 +191,9 @@ returns-then-is_repeated c =
     let w' = (goal.at.returns-then-is_repeated c).Else-bytes-ne1 in
     let w2 = (goal.at.returns-then-is_repeated c).Else-not-is_legal in
     let w3 = (goal.at.returns-then-is_repeated c).Else-names-ge-LINES in
-    let s = start4_2 w in
-    
-    rw (fault_repeated (names s) (bytes s) (whole_3 w') (tag w') (legal w2) (room w3) (absent_test w ∙ ap not c.if-is_repeated.true))
+    let ns = names_at c.args.file.now c.args.names in
+    let b = drop c.args.at c.args.file.now in
+    rw (fault_repeated ns b (whole_3 w') (tag w') (legal w2) (room w3) (absent_test w ∙ ap not c.if-is_repeated.true))
 
 pub returns : goal.returns
 unfolding loaded_of
@@ -240,6 +202,6 @@ returns c =
     let w' = (goal.at.returns c).Else-bytes-ne1 in
     let w2 = (goal.at.returns c).Else-not-is_legal in
     let w3 = (goal.at.returns c).Else-names-ge-LINES in
-    let s = start4_2 w in
-    
-    rw (fault_none (names s) (bytes s) (whole_3 w') (tag w') (legal w2) (room w3) (absent_test w ∙ ap not c.if-is_repeated.false))
+    let ns = names_at c.args.file.now c.args.names in
+    let b = drop c.args.at c.args.file.now in
+    rw (fault_none ns b (whole_3 w') (tag w') (legal w2) (room w3) (absent_test w ∙ ap not c.if-is_repeated.false))

@@ -67,11 +67,11 @@ within c = omega (arith, whole_room (bytes c) (whole c), length-drop (at_2 c) (f
 few : (c : In-Good) → c.loop-at.names.count < line_count
 few c =
     let l = c.loop-at in
-    rw (← names_many (file_2 c) l.names l.inv.0) (passed_room (names_2 c) (bytes c) (passed c))
+    rw (← names_many (file_2 c) l.names l.invariant.0) (passed_room (names_2 c) (bytes c) (passed c))
 
 
 ahead : (c : After-record_length-at) → c.record_length-at.result ≡ record_length (bytes_2 c)
-ahead c = c.record_length-at.ensures ∙ ap record_length (lent (at_3 (turn c)) (file_3 (turn c)))
+ahead c = c.record_length-at.ensures ∙ ap record_length (lent (at_3 c) (file_3 c))
 
 pub loop-at-init : goal.loop-at-init
 unfolding roster_of names_at
@@ -100,10 +100,10 @@ pub loop-at-preserved : goal.loop-at-preserved
 loop-at-preserved c =
     let w = (goal.at.loop-at-preserved c).In-Good in
     let l = c.loop-at in
-    let more = names_more (file_3 c) l.names l.inv.0 (at_3 c) (few w) in
+    let more = names_more (file_3 c) l.names l.invariant.0 (at_3 c) (few w) in
     rw (c.with_name-names.ensures, ahead c) (
-      within_more (file_3 c) l.names l.inv.0 (at_3 c) (few w) (whole w),
-      ap (roster_from (file_3 c) (at_3 c + record_length (bytes_2 c))) more ∙ sym (roster_on (file_3 c) (at_3 c) (names_2 w) c.loop-at-test.true (passed w)) ∙ l.inv.1,
+      within_more (file_3 c) l.names l.invariant.0 (at_3 c) (few w) (whole w),
+      ap (roster_from (file_3 c) (at_3 c + record_length (bytes_2 c))) more ∙ sym (roster_on (file_3 c) (at_3 c) (names_2 w) c.loop-at-test.true (passed w)) ∙ l.invariant.1,
     )
 
 pub returns-in-Faulty : goal.returns-in-Faulty

@@ -93,7 +93,7 @@ loop-i-preserved c =
     let w = (goal.at.loop-i-preserved c).After-write_line in
     let w' = (goal.at.loop-i-preserved c).Start in
     let w2 = (goal.at.loop-i-preserved c).In-loop-i in
-    let inv = c.loop-i.inv in
+    let inv = c.loop-i.invariant in
     let d : List ℕ = c.args.registry.now in
     let done : List ℕ = lines_of (names_3 w) (i_2 w) in (
       omega (arith, c.loop-i-test.true),
