@@ -3,8 +3,7 @@ use mathlib.Core.Path.{◌≡◌, sym, ap, ◌∙◌}
 use mathlib.Core.Bool.{true, false, not}
 use mathlib.Core.List.{List}
 use native.Mathlib.Omega.{arith}
-use borrow.Author.Rules.{rules}
-use borrow.Author.Tests.{le-leb, lt-leb, eq-eqb, ne_eqb, not-true, not-false}
+use borrow.Author.Tests.{le-leb, lt-leb, eq-eqb, ne_eqb}
 use lib.Dec.{leb, eqb}
 use lib.ListN.{length, take, drop, get_or}
 use Rattle.wire.specs.Numbers.{field}
@@ -88,12 +87,12 @@ some_bytes_2 c = omega (arith, whole_room (bytes_3 c) (whole_2 c))
 some_bytes_3 : (c : Else-bytes-ne1) → 0 < length (bytes_4 c)
 some_bytes_3 c = omega (arith, whole_room (bytes_4 c) (whole_3 c))
 
-tag_test : (c : After-shared_slice_known-2-1) → 
+tag_test : (c : After-shared_slice_known-2-1) →
     field 0 1 (bytes_3 c) ≡ get_or (take (length c.args.file.now - c.args.at) (bytes_3 c)) 0 0
 tag_test c =
     field_byte 0 (bytes_3 c) (some_bytes_2 c) ∙ sym (ap (λ (l : List ℕ). get_or l 0 0) (lent c.args.at c.args.file.now))
 
-tag_test_2 : (c : Else-bytes-ne1) → 
+tag_test_2 : (c : Else-bytes-ne1) →
     field 0 1 (bytes_4 c) ≡ get_or (take (length c.args.file.now - c.args.at) (bytes_4 c)) 0 0
 tag_test_2 c =
     field_byte 0 (bytes_4 c) (some_bytes_3 c) ∙ sym (ap (λ (l : List ℕ). get_or l 0 0) (lent c.args.at c.args.file.now))

@@ -1,13 +1,12 @@
-use Prim.Native.Nat.{ℕ, ◌-◌, ◌≤◌, ◌<◌}
+use Prim.Native.Nat.{ℕ, ◌≤◌, ◌<◌}
 use mathlib.Core.Path.{◌≡◌, refl, sym, ap, ◌∙◌}
 use mathlib.Core.Bool.{Bool, not}
 use mathlib.Core.List.{List, []}
 use native.Mathlib.Omega.{arith}
 use borrow.Author.Rules.{rules}
-use lib.ListN.{length, drop, get_or}
+use lib.ListN.{length, get_or}
 use Rattle.wire.specs.Lists.{same}
 use Rattle.wire.proofs.ListLaws.{all_pass, all_fail, all_end}
-use Rattle.keys.specs.Names.{is_new}
 use Rattle.roster.specs.code.Check.{names_at}
 use Rattle.roster.proofs.LoadLaws.{names_many}
 use Rattle.roster.proofs.check.is_repeated.Goals as goal

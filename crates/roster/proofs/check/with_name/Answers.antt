@@ -1,5 +1,4 @@
 use mathlib.Core.Path.{refl}
-use borrow.Author.Rules.{rules}
 use Rattle.roster.specs.code.Check.{with_name}
 use Rattle.roster.proofs.check.with_name.Goals as goal
 

@@ -1,17 +1,16 @@
-use Prim.Native.Nat.{ℕ, ◌+◌, ◌-◌, ◌≤◌, ◌<◌}
+use Prim.Native.Nat.{ℕ, ◌+◌, ◌≤◌, ◌<◌}
 use mathlib.Core.Path.{◌≡◌, refl, sym, ap, ◌∙◌}
 use mathlib.Core.Bool.{true}
 use mathlib.Core.Option.{none}
 use mathlib.Core.List.{List}
 use native.Mathlib.Omega.{arith}
-use borrow.Author.Rules.{rules}
 use lib.ListN.{length, drop, length-drop}
 use Rattle.wire.proofs.BufferLaws.{lent}
 use Rattle.registry.specs.Registry.{line_count}
 use Rattle.records.specs.Records.{record_length, is_whole}
 use Rattle.records.proofs.RecordLaws.{whole_room}
 use Rattle.roster.specs.Roster.{roster_of}
-use Rattle.roster.specs.code.Check.{fault_in, names_at, Within, roster_in}
+use Rattle.roster.specs.code.Check.{fault_in, names_at, roster_in}
 use Rattle.roster.proofs.LoadLaws.{passed_whole, passed_room, loaded_good, loaded_faulty, roster_from, roster_end, roster_fault, roster_on, names_many, names_more, within_more}
 use Rattle.roster.proofs.load.check_roster.Goals as goal
 use Rattle.roster.proofs.load.check_roster.Goals.{After-record_length-at, In-Good, In-loop-at}
@@ -42,14 +41,10 @@ names_2 c = names_at (file_2 c) c.loop-at.names
 
 -- ---- a record without a fault
 
-
-
 abbrev bytes : In-Good → List ℕ
 bytes c = drop (at_2 c) (file_2 c)
 
 -- ---- a record without a fault
-
-
 
 abbrev bytes_2 : After-record_length-at → List ℕ
 bytes_2 c = drop (at_3 c) (file_3 c)
@@ -68,7 +63,6 @@ few : (c : In-Good) → c.loop-at.names.count < line_count
 few c =
     let l = c.loop-at in
     rw (← names_many (file_2 c) l.names l.invariant.0) (passed_room (names_2 c) (bytes c) (passed c))
-
 
 ahead : (c : After-record_length-at) → c.record_length-at.result ≡ record_length (bytes_2 c)
 ahead c = c.record_length-at.ensures ∙ ap record_length (lent (at_3 c) (file_3 c))

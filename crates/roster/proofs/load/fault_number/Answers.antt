@@ -1,5 +1,4 @@
 use Rattle.roster.specs.Roster.{fault_number}
-use borrow.Author.Rules.{rules}
 use Rattle.roster.proofs.load.fault_number.Goals as goal
 
 pub returns-in-WrongMemorySize : goal.returns-in-WrongMemorySize

@@ -1,7 +1,6 @@
 use mathlib.Core.Path.{◌≡◌}
 use mathlib.Core.List.{List}
 use Prim.Native.Nat.{ℕ}
-use borrow.Author.Rules.{rules}
 use borrow.Author.Tests.{eq-eqb, ne_eqb}
 use Rattle.roster.specs.Roster.{applications, roster_into, roster_of, load_roster}
 use Rattle.roster.specs.code.Check.{names_at}
@@ -13,10 +12,8 @@ use Rattle.roster.proofs.load.load_roster.Goals.{After-check_roster-checked, In-
 abbrev file : After-check_roster-checked → List ℕ
 file c = c.args.file.now
 
-
 abbrev file_2 : In-Good → List ℕ
 file_2 c = c.args.file.now
-
 
 names : In-Good → List (List ℕ)
 names c = names_at (file_2 c) c.check_roster-checked.result.names

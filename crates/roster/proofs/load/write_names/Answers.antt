@@ -1,4 +1,4 @@
-use Prim.Native.Nat.{ℕ, ◌-◌, ◌*◌, ◌≤◌, ◌<◌}
+use Prim.Native.Nat.{ℕ, ◌*◌, ◌≤◌, ◌<◌}
 use mathlib.Core.Path.{◌≡◌, refl, sym, ap, ◌∙◌}
 use mathlib.Core.Bool.{true}
 use mathlib.Core.List.{List, [], map, flatten}
@@ -36,8 +36,6 @@ many_2 c = names_many c.args.file.now c.args.names c.requires.1
 reach : (c : Start) (i : ℕ) → i ≤ c.args.names.count → length (lines_of (names c) i) ≡ i * line_size
 reach c i h = lines_long (names c) i c.requires.2 (rw (many c) h)
 
-
-
 abbrev i : In-loop-i → ℕ
 i c = c.loop-i.i
 
@@ -59,8 +57,6 @@ there c = rw (many_2 c) c.loop-i-test.true
 legal : (c : In-loop-i) → is_legal (name c) ≡ true
 legal c = all_at is_legal [] (names_2 c) (i c) (there c) c.requires.2
 
-
-
 -- the registry as it comes back
 written : (c : After-write_line) → c.write_line.new.registry ≡ put (registry c) (i_2 c * line_size) (line_of (name_2 c))
 written c =
@@ -75,8 +71,7 @@ name_at-requires c = (c.requires.1, c.loop-i-test.true)
 
 pub write_line-requires : goal.write_line-requires
 write_line-requires c =
-    let w = (goal.at.write_line-requires c).In-loop-i in
-    (
+    let w = (goal.at.write_line-requires c).In-loop-i in (
       c.loop-i.invariant.1.1 ∙ c.requires.0,
       omega (arith, c.requires.1.few, c.loop-i-test.true),
       rw c.name_at.ensures (legal_short application_name_most (name w) (legal w)),
@@ -106,8 +101,6 @@ loop-i-preserved c =
     )
 
 -- ---- behind the loop
-
-
 
 pub clear_lines-requires : goal.clear_lines-requires
 clear_lines-requires c =
