@@ -3,15 +3,15 @@ use Prim.Native.Nat.{ℕ, zero, suc, ◌+◌, ◌-◌, ◌/◌, ◌%◌, ◌^◌
 use native.Mathlib.Omega.{arith}
 use native.Mathlib.Decide.{dec_lt}
 use native.Mathlib.Numerals.{sub-one}
-use mathlib.Core.Path.{◌≡◌, refl, sym, ap, subst, ◌∙◌}
+use mathlib.Core.Path.{◌≡◌, refl, ap, ◌∙◌}
 use mathlib.Core.Bool.{Bool, true, false}
 use mathlib.Core.List.{List}
 use lib.ListN.{length, get_or, take}
 use lib.Seq.{length-take-le, get_or-take}
 use lib.Dec.{ltb, leb, eqb}
-use borrow.Author.Tests.{lt-ltb, le-leb, ltb-true, leb-true}
+use borrow.Author.Tests.{lt-ltb, le-leb, leb-true}
 use Rattle.wire.specs.Choice.{if◌then◌else◌}
-use Rattle.wire.specs.Scan.{on, out, follow}
+use Rattle.wire.specs.Scan.{follow}
 use Rattle.wire.proofs.TestLaws.{either}
 use Rattle.protobuf.specs.Varint.{below, varint_of, varint_at}
 use Rattle.protobuf.specs.Field.{varint_then, number_at, fixed_at, span_at, content_at, field_at}

@@ -1,11 +1,8 @@
 use Prim.Native.Nat.{◌-◌}
-use mathlib.Core.Path.{◌≡◌, sym, ◌∙◌}
-use native.Mathlib.Omega.{arith}
-use borrow.Author.Rules.{rules}
+use mathlib.Core.Path.{◌≡◌}
 use lib.ListN.{length}
 use Rattle.fields.specs.code.Fields.{all_absent}
 use Rattle.protobuf.specs.code.Body.{body_at}
-use Rattle.protobuf.proofs.BodyLaws as laws
 use Rattle.protobuf.proofs.body.read_fields.Given as goal
 
 abbrev pub invariant-loop-at : goal.invariant-loop-at

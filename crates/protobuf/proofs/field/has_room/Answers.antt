@@ -3,22 +3,18 @@ use Prim.Native.Nat.{◌+◌}
 use borrow.Author.Tests.{le-leb, lt-leb}
 use native.Mathlib.Omega.{arith}
 use mathlib.Core.Path.{sym}
-use borrow.Author.Rules.{rules}
 use Rattle.protobuf.proofs.field.has_room.Goals as goal
 
--- src/lib.rt:104:9
 pub returns-then-s-at : goal.returns-then-s-at
 returns-then-s-at c =
     let a = c.args in
     sym (lt-leb (a.at + a.size) (length a.s.now) (omega arith))
 
--- src/lib.rt:107:9
 pub returns-then-s-at-2 : goal.returns-then-s-at-2
 returns-then-s-at-2 c =
     let a = c.args in
     sym (lt-leb (a.at + a.size) (length a.s.now) (omega arith))
 
--- src/lib.rt:100:1
 pub returns : goal.returns
 returns c =
     let a = c.args in

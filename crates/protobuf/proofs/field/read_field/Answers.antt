@@ -3,29 +3,24 @@ use Prim.Native.Nat.{◌≤◌, ◌<◌, ◌^◌}
 use borrow.Author.Tests.{lt-ltb, le-ltb, eq-eqb, ne_eqb}
 use native.Mathlib.Omega.{arith}
 use mathlib.Core.Path.{sym, ◌∙◌}
-use borrow.Author.Rules.{rules}
 use Rattle.protobuf.proofs.field.read_field.Goals as goal
 
--- src/lib.rt:169:9
 pub returns-in_default : goal.returns-in_default
 unfolding field_at
 returns-in_default c = rw (sym c.read_varint.ensures ∙ c.in_default.is)
 
--- src/lib.rt:172:9
 pub returns-then-tag-gt4294967295 : goal.returns-then-tag-gt4294967295
 unfolding field_at
 returns-then-tag-gt4294967295 c =
     let big : 2 ^ 32 ≤ c.in-Read.tag = omega arith in
     rw (sym c.read_varint.ensures ∙ c.in-Read.is, le-ltb _ _ big)
 
--- src/lib.rt:176:9
 pub returns-then-number-eq0 : goal.returns-then-number-eq0
 unfolding field_at
 returns-then-number-eq0 c =
     let small : c.in-Read.tag < 2 ^ 32 = omega arith in
     rw (sym c.read_varint.ensures ∙ c.in-Read.is, lt-ltb _ _ small, eq-eqb _ _ c.if-number-eq0.true)
 
--- src/lib.rt:165:1
 pub returns : goal.returns
 unfolding field_at
 returns c =

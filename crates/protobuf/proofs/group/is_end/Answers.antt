@@ -1,6 +1,5 @@
 use mathlib.Core.Bool.{false≢true}
 use native.Mathlib.Omega.{arith}
-use borrow.Author.Rules.{rules}
 use borrow.Author.Tests.{eqb-true}
 use Rattle.protobuf.proofs.GroupLaws.{short_end}
 use Rattle.protobuf.proofs.group.is_end.Goals as goal

@@ -1,4 +1,3 @@
-use borrow.Author.Rules.{rules}
 use Rattle.protobuf.proofs.group.skip_group.Goals as goal
 
 pub returns : goal.returns

@@ -1,10 +1,8 @@
-use Prim.Native.Nat.{◌≤◌, ◌<◌, ◌*◌, ◌-◌, ◌^◌}
+use Prim.Native.Nat.{◌≤◌, ◌<◌, ◌*◌, ◌-◌}
 use mathlib.Core.Path.{◌≡◌, refl}
 use native.Mathlib.Omega.{arith}
 use native.Mathlib.Nat.{mul-le-mul_right}
 use lib.ListN.{get_or}
-use borrow.Author.Rules.{rules}
-use Rattle.protobuf.specs.Varint.{varint_of}
 use Rattle.protobuf.proofs.VarintLaws as laws
 use Rattle.protobuf.proofs.varint.read_varint.Goals as goal
 

@@ -1,5 +1,5 @@
 use native.Mathlib.Omega.{arith}
-use Rattle.protobuf.proofs.WrittenLaws.{Counted, counted_none, counted_more, counted_all}
+use Rattle.protobuf.proofs.WrittenLaws.{counted_none, counted_more, counted_all}
 use Rattle.protobuf.proofs.write.varint_size.Goals as goal
 
 pub loop-rest-init : goal.loop-rest-init

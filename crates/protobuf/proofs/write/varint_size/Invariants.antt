@@ -1,5 +1,4 @@
-use native.Mathlib.Omega.{arith}
-use Rattle.protobuf.proofs.WrittenLaws.{Counted, counted_none, counted_more, counted_all}
+use Rattle.protobuf.proofs.WrittenLaws.{Counted}
 use Rattle.protobuf.proofs.write.varint_size.Given as goal
 
 abbrev pub invariant-loop-rest : goal.invariant-loop-rest

@@ -1,6 +1,5 @@
 use Prim.Native.Nat.{◌≤◌}
 use native.Mathlib.Omega.{arith}
-use borrow.Author.Rules.{rules}
 use Rattle.wire.proofs.BufferLaws.{wrote_none, wrote_on}
 use Rattle.protobuf.proofs.WrittenLaws.{wrote_short, number_field_none, number_field_lem}
 use Rattle.protobuf.proofs.write.write_number_field.Goals as goal

@@ -1,6 +1,5 @@
 use native.Mathlib.Omega.{arith}
-use lib.ListN.{length-set}
-use Rattle.protobuf.proofs.WrittenLaws.{Begun, begun_none, begun_more, begun_all}
+use Rattle.protobuf.proofs.WrittenLaws.{begun_none, begun_more, begun_all}
 use Rattle.protobuf.proofs.write.write_varint.Goals as goal
 
 pub loop-rest-init : goal.loop-rest-init

@@ -1,6 +1,4 @@
-use native.Mathlib.Omega.{arith}
-use lib.ListN.{length-set}
-use Rattle.protobuf.proofs.WrittenLaws.{Begun, begun_none, begun_more, begun_all}
+use Rattle.protobuf.proofs.WrittenLaws.{Begun}
 use Rattle.protobuf.proofs.write.write_varint.Given as goal
 
 abbrev pub invariant-loop-rest : goal.invariant-loop-rest
