@@ -1,5 +1,4 @@
 use Rattle.rsa_key.proofs.ElementLaws as law
-use borrow.Author.Rules.{rules}
 use Rattle.rsa_key.proofs.der.contents.Goals as goal
 
 pub returns-then-start-len : goal.returns-then-start-len
