@@ -71,34 +71,25 @@ module _ (list name : List ℕ) where
 
 -- ---- what a slot says of its key
 
-module _ (entry : Entry) where
-  pub held_bytes : bytes_in entry ≡ (key_held entry).bytes
-  unfolding bytes_in key_held
-  held_bytes = elim entry [
-    | free ↦ refl
-    | held key ↦ refl
-  ]
+pub held_bytes : (entry : Entry) → bytes_in entry ≡ (key_held entry).bytes
+unfolding bytes_in key_held
+held_bytes free = refl
+held_bytes (held key) = refl
 
-  pub held_bits : bits_in entry ≡ (key_held entry).bits
-  unfolding bits_in key_held
-  held_bits = elim entry [
-    | free ↦ refl
-    | held key ↦ refl
-  ]
+pub held_bits : (entry : Entry) → bits_in entry ≡ (key_held entry).bits
+unfolding bits_in key_held
+held_bits free = refl
+held_bits (held key) = refl
 
-  pub held_export : export_in entry ≡ (key_held entry).export_allowed
-  unfolding export_in key_held
-  held_export = elim entry [
-    | free ↦ refl
-    | held key ↦ refl
-  ]
+pub held_export : (entry : Entry) → export_in entry ≡ (key_held entry).export_allowed
+unfolding export_in key_held
+held_export free = refl
+held_export (held key) = refl
 
-  pub held_verify : verify_in entry ≡ (key_held entry).verify_allowed
-  unfolding verify_in key_held
-  held_verify = elim entry [
-    | free ↦ refl
-    | held key ↦ refl
-  ]
+pub held_verify : (entry : Entry) → verify_in entry ≡ (key_held entry).verify_allowed
+unfolding verify_in key_held
+held_verify free = refl
+held_verify (held key) = refl
 
 -- ---- the key at a place is that of its source, its name left aside
 

@@ -14,10 +14,10 @@ pub returns-in-Message : goal.returns-in-Message
 returns-in-Message c =
     let k = c in
     let a = k.args in
-    (body_as (format_of a.format) (bytes ∷ []) a.body.now (λ m. exported (octets_of (value_at m 1))) _ _ c.m-1.given.1 (k.read_fields.ensures.0 (bytes ∷ []) refl (omega arith) tt), (subst (BodyIn (length a.body.now)) c.m-1.given.1 k.read_fields.ensures.1).in1)
+    (body_as (format_of a.format) (bytes ∷ []) a.body.now (λ m. exported (octets_of (value_at m 1))) _ _ c.in-Message.is (k.read_fields.ensures.0 (bytes ∷ []) refl (omega arith) tt), (subst (BodyIn (length a.body.now)) c.in-Message.is k.read_fields.ensures.1).in1)
 
 pub returns-in-Unreadable : goal.returns-in-Unreadable
 returns-in-Unreadable c =
     let k = c in
     let a = k.args in
-    (body_as (format_of a.format) (bytes ∷ []) a.body.now (λ m. exported (octets_of (value_at m 1))) _ _ c.enum_told-1.given.1 (k.read_fields.ensures.0 (bytes ∷ []) refl (omega arith) tt), tt)
+    (body_as (format_of a.format) (bytes ∷ []) a.body.now (λ m. exported (octets_of (value_at m 1))) _ _ c.in-Unreadable.is (k.read_fields.ensures.0 (bytes ∷ []) refl (omega arith) tt), tt)

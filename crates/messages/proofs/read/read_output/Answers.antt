@@ -22,7 +22,7 @@ pub returns-in-List : goal.returns-in-List
 returns-in-List c =
     let r = c in
     let a = r.args in
-    let e = c.span-1.given.1 in (
+    let e = c.in-List.is in (
       body_then (format_of a.format) list_schema a.body.now list providers _ (ap (entries_in a.format a.body.now) (sym e) ∙ r.read_list_body.ensures.0)
           ∙ sym (of_list_providers_lem (format_of a.format) a.opcode a.body.now r.if-opcode-eq-LIST_PROVIDERS.true),
       subst (ListWithin (length a.body.now)) e r.read_list_body.ensures.1,
@@ -32,7 +32,7 @@ pub returns-in-Unreadable : goal.returns-in-Unreadable
 returns-in-Unreadable c =
     let r = c in
     let a = r.args in (
-      body_then (format_of a.format) list_schema a.body.now list providers _ (ap (entries_in a.format a.body.now) (sym c.enum_told-1.given.1) ∙ r.read_list_body.ensures.0)
+      body_then (format_of a.format) list_schema a.body.now list providers _ (ap (entries_in a.format a.body.now) (sym c.in-Unreadable.is) ∙ r.read_list_body.ensures.0)
           ∙ sym (of_list_providers_lem (format_of a.format) a.opcode a.body.now r.if-opcode-eq-LIST_PROVIDERS.true),
       tt,
     )
@@ -41,7 +41,7 @@ pub returns-in-List-read_list_body : goal.returns-in-List-read_list_body
 returns-in-List-read_list_body c =
     let r = c in
     let a = r.args in
-    let e = c.span-in-List-read_list_body-2-1.given.1 in (
+    let e = c.in-List-read_list_body.is in (
       body_then (format_of a.format) list_schema a.body.now list opcodes _ (ap (entries_in a.format a.body.now) (sym e) ∙ r.read_list_body-then-opcode-eq-LIST_OPCODES.ensures.0)
           ∙ sym (of_list_opcodes_lem (format_of a.format) a.opcode a.body.now r.if-opcode-eq-LIST_OPCODES.true),
       subst (ListWithin (length a.body.now)) e r.read_list_body-then-opcode-eq-LIST_OPCODES.ensures.1,
@@ -51,7 +51,7 @@ pub returns-in-Unreadable-read_list_body : goal.returns-in-Unreadable-read_list_
 returns-in-Unreadable-read_list_body c =
     let r = c in
     let a = r.args in (
-      body_then (format_of a.format) list_schema a.body.now list opcodes _ (ap (entries_in a.format a.body.now) (sym c.enum_told-in-Unreadable-read_list_body-1.given.1) ∙ r.read_list_body-then-opcode-eq-LIST_OPCODES.ensures.0)
+      body_then (format_of a.format) list_schema a.body.now list opcodes _ (ap (entries_in a.format a.body.now) (sym c.in-Unreadable-read_list_body.is) ∙ r.read_list_body-then-opcode-eq-LIST_OPCODES.ensures.0)
           ∙ sym (of_list_opcodes_lem (format_of a.format) a.opcode a.body.now r.if-opcode-eq-LIST_OPCODES.true),
       tt,
     )
