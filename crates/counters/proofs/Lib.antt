@@ -1,4 +1,3 @@
 pub mod CountersLaws
 pub mod CountedLaws
-pub mod Lent
 pub mod RequestLaws

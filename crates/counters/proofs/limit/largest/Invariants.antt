@@ -1,11 +1,7 @@
 use Prim.Native.Nat.{◌≤◌, ◌-◌, max}
 use mathlib.Core.Path.{◌≡◌}
-use mathlib.Core.Logic.{⊎_elim}
-use native.Mathlib.Omega.{arith}
-use borrow.Author.Rules.{rules}
 use lib.ListN.{length, drop}
 use Rattle.counters.specs.Counters.{maximum}
-use Rattle.counters.proofs.CountersLaws.{maximum_next, maximum_end}
 use Rattle.counters.proofs.limit.largest.Given as goal
 
 abbrev pub invariant-loop-i : goal.invariant-loop-i
