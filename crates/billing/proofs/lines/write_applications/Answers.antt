@@ -43,13 +43,13 @@ returns-then-name-eq0 c =
     let w = (goal.at.returns-then-name-eq0 c).After-line_name-name in
     let a = c.args in
     let none = lines_none a.registry.now c.loop-i.i (below w) a.served.now (sym (ap length c.line_name-name.ensures) ∙ c.if-name-eq0.true) in
-    (leaves_none (rw none at c.loop-i.inv.0), omega arith)
+    (leaves_none (rw none at c.loop-i.invariant.0), omega arith)
 
 pub write_application-end-requires : goal.write_application-end-requires
 write_application-end-requires c =
     let w = (goal.at.write_application-end-requires c).At-loop-i in
     let w' = (goal.at.write_application-end-requires c).Else-name-eq0 in
-    (rw c.line_name-name.ensures (name_short _ c.loop-i.i (below_2 w') (some w') (good w)), omega (arith, c.loop-i.inv.0.long))
+    (rw c.line_name-name.ensures (name_short _ c.loop-i.i (below_2 w') (some w') (good w)), omega (arith, c.loop-i.invariant.0.long))
 
 pub loop-i-preserved : goal.loop-i-preserved
 loop-i-preserved c =
@@ -57,7 +57,7 @@ loop-i-preserved c =
     let a = c.args in
     let next = lines_next a.registry.now c.loop-i.i (below_2 w) (some w) a.served.now in
     let line = rw c.line_name-name.ensures at c.write_application-end.ensures.0 in
-    (leaves_rest (rw next at c.loop-i.inv.0) line, omega arith, omega (arith, c.write_application-end.ensures.1))
+    (leaves_rest (rw next at c.loop-i.invariant.0) line, omega arith, omega (arith, c.write_application-end.ensures.1))
 
 pub returns : goal.returns
 returns c =

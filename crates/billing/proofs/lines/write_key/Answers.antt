@@ -11,8 +11,8 @@ use Rattle.billing.proofs.lines.write_key.Goals as goal
 pub is_free-requires : goal.is_free-requires
 is_free-requires c = ((good_of c.args.registry.now c.requires.0).size, c.requires.1, c.requires.2)
 
-pub returns : goal.returns
-returns c =
+pub returns-then-is_free : goal.returns-then-is_free
+returns-then-is_free c =
     let a = c.args in
     let none = slot_line_none a.registry.now a.line a.slot.0 c.requires.2 (sym c.is_free.ensures ∙ c.if-is_free.true) in
     (rw none (placed_none a.out.now a.at (omega (arith, c.requires.3))), search rules)

@@ -36,20 +36,20 @@ returns-then-line_name-eq0 c =
     let w = (goal.at.returns-then-line_name-eq0 c).After-line_name in
     let a = c.args in
     let none = keys_none a.registry.now c.loop-i.i (below w) (sym (ap length c.line_name.ensures) ∙ c.if-line_name-eq0.true) in
-    (leaves_none (rw none at c.loop-i.inv.0), omega arith)
+    (leaves_none (rw none at c.loop-i.invariant.0), omega arith)
 
 pub write_line_keys-end-requires : goal.write_line_keys-end-requires
 write_line_keys-end-requires c =
     let w = (goal.at.write_line_keys-end-requires c).At-loop-i in
     let w' = (goal.at.write_line_keys-end-requires c).After-line_name in
-    (good w, below w', omega (arith, c.loop-i.inv.0.long))
+    (good w, below w', omega (arith, c.loop-i.invariant.0.long))
 
 pub loop-i-preserved : goal.loop-i-preserved
 loop-i-preserved c =
     let w = (goal.at.loop-i-preserved c).After-line_name in
     let a = c.args in
     let next = keys_next a.registry.now c.loop-i.i (below w) (λ z. c.if-line_name-eq0.false (ap length c.line_name.ensures ∙ z)) in (
-      leaves_rest {a = slots_from a.registry.now (record { 0 = c.loop-i.i }) 0} (rw next at c.loop-i.inv.0) c.write_line_keys-end.ensures.0,
+      leaves_rest {a = slots_from a.registry.now (record { 0 = c.loop-i.i }) 0} (rw next at c.loop-i.invariant.0) c.write_line_keys-end.ensures.0,
       omega arith,
       omega (arith, c.write_line_keys-end.ensures.1),
     )

@@ -6,8 +6,8 @@ use Rattle.billing.proofs.PlacedLaws.{placed_none, placed_on}
 use Rattle.billing.proofs.LineLaws.{refused_line_none, refused_line_some}
 use Rattle.billing.proofs.lines.write_refused.Goals as goal
 
-pub returns : goal.returns
-returns c =
+pub returns-then-n-eq0 : goal.returns-then-n-eq0
+returns-then-n-eq0 c =
     let a = c.args in
     let none = refused_line_none a.number a.n c.if-n-eq0.true in
     (rw none (placed_none a.out.now a.at (omega arith)), search rules)

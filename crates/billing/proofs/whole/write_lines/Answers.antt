@@ -33,12 +33,12 @@ dropped_most c =
     omega (arith, unauthenticated_most_2 c, c.write_refusals-statuses.ensures.1, c.write_count-dropped.ensures.1)
 
 pub slice_bounds-write_refusals-end : goal.slice_bounds-write_refusals-end
-slice_bounds-write_refusals-end c = search (rules, c.well_formed_lem)
+slice_bounds-write_refusals-end c = search (rules, c.well_formed)
 
 pub write_refusals-statuses-requires : goal.write_refusals-statuses-requires
 write_refusals-statuses-requires c =
     let w = (goal.at.write_refusals-statuses-requires c).After-write_count-open in
-    (search (rules, c.well_formed_lem.1.0.1.1.1.1.1), omega (arith, unauthenticated_most w, c.requires.2))
+    (search (rules, c.well_formed.1.0.1.1.1.1.1), omega (arith, unauthenticated_most w, c.requires.2))
 
 pub write_count-dropped-requires : goal.write_count-dropped-requires
 write_count-dropped-requires c =

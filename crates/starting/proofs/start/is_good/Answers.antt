@@ -9,4 +9,4 @@ unfolding is_good
 returns-in-Good c = sym (ap is_good c.in-Good.is)
 
 pub returns-in_default : goal.returns-in_default
-returns-in_default c = not_good _ c.in-Good.keys2
+returns-in_default c = not_good _ c.in_default.not-Good

@@ -10,4 +10,4 @@ returns-in-Written c =
 pub returns-in_default : goal.returns-in_default
 returns-in_default c =
     let (room, connected, registered) = c.requires in
-    absurd (always_written _ _ _ _ room connected registered c.write_bill.ensures c.in-Written.keys2)
+    absurd (always_written _ _ _ _ room connected registered c.write_bill.ensures c.in_default.not-Written)
