@@ -10,12 +10,12 @@ NAME = r"[a-z_]+"
 
 
 def crates_of(text):
-    """Each crate of crates.txt with the crates that it lists; the kit's libraries are none of ours."""
+    """Each crate of crates.txt, whatever its kind, with the crates that it lists; the kit's libraries are none of ours."""
     listed = {}
     for line in text.splitlines():
         name, colon, below = line.split("#")[0].partition(":")
         if colon:
-            listed[name.strip()] = set(below.split())
+            listed[name.split()[0]] = set(below.split())
     return {name: below & listed.keys() for name, below in listed.items()}
 
 

@@ -78,6 +78,18 @@ abbrev pub Holds : ℕ → Type 0
 Holds n = n ≡ n
 """
 
+# Clauses as today's Rattle has them.
+CLAUSES = """ghost use Rattle.a.specs.Numbers.{one};
+
+pub fn most(n: u64) -> u64
+    requires* { owned n }
+    ensures low { n ≤ result }
+    ensures high { result ≤ n + one }
+{
+    if n == 0 { 1 } else { n }
+}
+"""
+
 BASE = {
     "crates/a/specs/Numbers.antt": NUMBERS,
     "crates/a/src/lib.rt": CODE,
@@ -130,6 +142,16 @@ class Moved(unittest.TestCase):
 
     def laws(self, *replacements):
         return self.said(self.edited("crates/a/proofs/Laws.antt", *replacements))
+
+    def test_clauses_with_names_and_a_star(self):
+        files = lambda text: {"crates/a/src/lib.rt": text, "crates/a/proofs/most/Answers.antt": "returns c = search rules\n"}
+        self.base = self.commit({**BASE, **files(CLAUSES)})
+        self.assertIn("nothing moved: a, b\n", self.said(files(CLAUSES.replace("{ n }", "{ n + 0 }"))))
+        for clause in ("owned n", "n ≤ result", "result ≤ n + one"):
+            text = self.said(files(CLAUSES.replace(clause, f"{clause} + 0")))
+            self.assertIn("public contracts  0 added, 1 changed, 0 removed, 0 unchanged\n    changed: most\n", text)
+        self.assertIn("laws              0 added, 0 changed, 0 removed, 2 unchanged\n", text)
+        self.assertIn("nothing moved: a, b\n", self.said(files(CLAUSES.replace("Rattle.a.specs.Numbers", "Rattle.b.specs.Numbers"))))
 
     def test_nothing(self):
         text = self.said({})
