@@ -67,14 +67,14 @@ def check_crates(lines, crates):
 
 
 def check_call(caller, callee, functions, crates, sources):
-    """A call goes down to a listed crate, which has the functions; the caller names each of them."""
+    """A call goes down to a listed crate, which has the functions; the caller names each, by its path or in a group (`a::b::{c, d}`)."""
     outside = caller in OUTSIDERS
     if not outside and callee not in crates[caller]:
         raise Refused(f"crates.txt does not list {callee} for {caller}")
     for function in functions:
         if not re.search(rf'^pub (extern "C" )?fn {function}[<(]', sources[callee], re.MULTILINE):
             raise Refused(f"{callee} has no public function {function}")
-        if not outside and not re.search(rf"\b{callee}::(\w+::)*{function}\b", sources[caller]):
+        if not outside and not re.search(rf"\b{callee}::(\w+::)*(\{{[^;]*\b)?{function}\b", sources[caller]):
             raise Refused(f"{caller} does not use {callee}'s {function}")
 
 
