@@ -1,4 +1,4 @@
-"""docs/landings/times on two commits of a scratch repository, over an rt of the test's own."""
+"""docs/landings/times on two commits of a scratch repository, over a prover of the test's own."""
 
 import re
 import subprocess
@@ -10,19 +10,33 @@ from test_moved import ENVIRONMENT
 
 TIMES = Path(__file__).with_name("times")
 # A prover that writes down what it proves and in which clone, wants what is below proved, and refuses what says `wrong`.
-RT = """#!/bin/sh
-echo "$(basename "$PWD") $2 jobs $RT_JOBS" >>"$PROVED"
-if grep -q wrong "crates/$2/src/lib.rt"; then echo "rt: $2 NOT PROVED"; exit 1; fi
-for below in $(sed -n "s/#.*//; s/^$2://p" crates.txt); do [ -f "target/stamp/$below" ] || [ "$below" = io ] || exit 2; done
-mkdir -p target/stamp "target/rlib/$2.rlib" && touch "target/stamp/$2"
+RATTLE = """#!/bin/sh
+[ "$2" = --crate-name ] && [ "$4" = src/lib.rt ] || exit 2
+name=$3 made= kind=$1 jobs=
+while [ $# != 0 ]; do
+  case $1 in
+  --extern) [ -d "${2#*=}" ] || exit 2 ;;
+  --jobs) jobs=$2 ;;
+  --crate-type) kind=$kind-$2 ;;
+  -o) made=$2 ;;
+  esac
+  shift
+done
+echo "$(basename "$(cd ../.. && pwd)") $name jobs $jobs" >>"$PROVED"
+if grep -q wrong src/lib.rt; then echo "$name NOT PROVED"; exit 1; fi
+case $name-$kind in
+high-check-staticlib) [ -z "$made" ] ;;
+high-* | *-check*) exit 2 ;;
+*) mkdir -p "$made" ;;
+esac
 """
 BASE = {
-    "crates.txt": "# From the bottom.\nlow:\nbeside: io\ngone: low\nhigh: low beside  # the last\n",
+    "crates.txt": "# From the bottom.\nlow:\nbeside: json\ngone: low\nhigh staticlib: low beside  # the last\n",
     **{f"crates/{crate}/src/lib.rt": f"{crate}\n" for crate in ("low", "beside", "gone", "high")},
 }
 NEW = {
     **{path: text for path, text in BASE.items() if "gone" not in path},
-    "crates.txt": "low:\nbeside: io\nhigh: low beside\ntop: high\n",
+    "crates.txt": "low:\nbeside: json\nhigh staticlib: low beside\ntop: low\n",
     "crates/low/src/lib.rt": "lower\n",
     "crates/beside/must-fail/x.edit": "Not looked at by a check.\n",
     "crates/top/src/lib.rt": "top\n",
@@ -37,8 +51,11 @@ class Times(unittest.TestCase):
         self.log = Path(folder.name) / "proved"
         path = Path(folder.name) / "path"
         path.mkdir()
-        (path / "rt").write_text(RT)
-        (path / "rt").chmod(0o755)
+        for library in ("std", "json"):
+            (Path(folder.name) / "kit/rlibs" / f"{library}.rlib").mkdir(parents=True)
+        for name, text in (("rattle", RATTLE), ("rt", f"#!/bin/sh\n[ $* = doc ] && echo {folder.name}/kit/START-HERE.md\n")):
+            (path / name).write_text(text)
+            (path / name).chmod(0o755)
         self.environment = {**ENVIRONMENT, "PATH": f"{path}:{ENVIRONMENT['PATH']}", "PROVED": str(self.log)}
         subprocess.run(["git", "init", "--quiet", self.root], env=ENVIRONMENT, check=True)
         self.base, self.new = self.commit(BASE), self.commit(NEW)
@@ -83,7 +100,7 @@ class Times(unittest.TestCase):
     def test_a_crate_that_is_not_proved_is_said_and_not_timed(self):
         wrong = self.commit({**NEW, "crates/low/src/lib.rt": "wrong\n"})
         done = subprocess.run([TIMES, self.base, wrong], cwd=self.root, env=self.environment, check=False, capture_output=True, text=True)
-        self.assertEqual((done.returncode, done.stderr), (1, "rt: low NOT PROVED\n"))
+        self.assertEqual((done.returncode, done.stderr), (1, "low NOT PROVED\n"))
         self.assertNotIn("low", done.stdout)
 
     def test_what_is_no_commit_or_no_crate_is_refused(self):
