@@ -44,11 +44,13 @@ fill_in = sed -e 's|@PREFIX@|$(PREFIX)|' -e 's|@LIBDIR@|$(call below_prefix,$(li
 
 all: $(built)
 
-# rt proves again only what has changed.
+# What has not changed is left alone: the file is as new as what it was made from.
 target/staticlib/lib%.a: $(sources)
 	./prove $*
+	touch $@
 target/bin/%: $(sources)
 	./prove $*
+	touch $@
 
 absolute:
 	@case '$(PREFIX)' in /*) ;; *) echo 'make: PREFIX has to begin with /' >&2; exit 1 ;; esac

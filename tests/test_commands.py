@@ -9,9 +9,10 @@ from pathlib import Path
 
 REPOSITORY = Path(__file__).resolve().parent.parent
 # All that the scripts run; no rt and no cargo but the test's own.
-TOOLS = "awk bash cat cmp cp dirname grep ls mkdir mktemp mv rm sed sh sha256sum tee".split()
+TOOLS = "awk bash cat cmp cp dirname find grep ls mkdir mktemp mv rm sed sh sha256sum sort tee xargs".split()
 # Of a program all that rt says is on standard error.
 PROVES = """
+if [ "$*" = version ]; then echo kit 5 logic 09; exit; fi
 [ "$1" = lib ] || exec 3>&1 >&2
 echo "rt: chose --jobs 2 for wire"
 echo "fn wire::bytes::clear: proved"
@@ -33,7 +34,8 @@ echo "rt: chose --jobs 2 for abi"
 echo "logic=proved functions=2 sum=09"
 mkdir -p out && echo archive >out/libabi.a
 """
-LINES = "wire proved\nbill proved (unchanged since it was last proved)\n"
+LINES = "wire proved\nbill proved (unchanged since it was last proved)\ntarget/bin/bill written\n"
+UNCHANGED = "bill proved (unchanged since it was last proved)\nabi proved (unchanged since it was last proved)\n"
 FAILS = PROVES + 'echo "fn service::call: not proved"\nexit 3\n'
 
 
@@ -71,7 +73,8 @@ class Commands(unittest.TestCase):
 class Prove(Commands):
     def setUp(self):
         super().setUp()
-        for name in ["crates/bill/src/main.rt", "crates/bill/out/bill", "crates/abi/src/lib.rt", "crates/wire/src/lib.rt"]:
+        names = ["src/main.rt", "out/bill", "proofs/main/Answers.antt"]
+        for name in ["crates.txt", *(f"crates/bill/{it}" for it in names), "crates/abi/src/lib.rt", "crates/wire/src/lib.rt"]:
             file = self.root / name
             file.parent.mkdir(parents=True, exist_ok=True)
             file.write_text(name)
@@ -89,10 +92,10 @@ class Prove(Commands):
         self.assertEqual((self.root / "target/log/abi.say").read_text().count("logic=proved"), 2)
 
     def test_crates_one_after_the_other(self):
-        self.on_path("rt", f'if [ "$1" = run ]; then {RUNS} fi\n{WRITES}')
+        self.on_path("rt", f'if [ "$1" = run ]; then {RUNS} fi\n{PROVES}{WRITES}')
         status, out, err = self.run_script("prove", "bill", "abi")
         self.assertEqual((status, out), (0, ""))
-        self.assertEqual(err, LINES + "abi proved\ntarget/staticlib/libabi.a written\n")
+        self.assertEqual(err, LINES + "wire proved\nabi proved\ntarget/staticlib/libabi.a written\n")
 
     def test_a_library_leaves_no_file(self):
         self.on_path("rt", PROVES)
@@ -126,6 +129,7 @@ class Bill(Commands):
         super().setUp()
         (self.root / "crates/bill/src").mkdir(parents=True)
         (self.root / "crates/bill/src/main.rt").touch()
+        (self.root / "crates.txt").touch()
         self.program(self.root / "crates/bill/out/bill", 'echo "taken 1 of $1, $2 and $3"')
 
     def test_the_programs_output_alone(self):
