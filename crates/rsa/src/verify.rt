@@ -54,8 +54,8 @@ fn check_signature(
     t: &mut [u64],
     em: &mut [u8],
 ) -> Verification
-    requires base_len { (length base.old ≡ length n.now) × (length acc.old ≡ length n.now) × (length t.old ≡ length n.now + length n.now) × (length n.now ≤ 256) × (2 ≤ length n.now) }
-    requires em_len_bound { (length em.old ≤ 8 * length n.now) × (62 ≤ length em.old) × (value_of n.now ≤ 256 ^ length em.old) × (0 < e) }
+    requires room { (length base.old ≡ length n.now) × (length acc.old ≡ length n.now) × (length t.old ≡ length n.now + length n.now) × (length n.now ≤ 256) × (2 ≤ length n.now) }
+    requires size_and_exponent { (length em.old ≤ 8 * length n.now) × (62 ≤ length em.old) × (value_of n.now ≤ 256 ^ length em.old) × (0 < e) }
     ensures { result ≡ verified (value_of n.now) e (length em.old) hash.now signature.now }
 {
     if hash.len() != 32 {
@@ -88,8 +88,8 @@ fn check_with_modulus(
     t: &mut [u64],
     em: &mut [u8],
 ) -> Verification
-    requires base_len { (length base.old ≡ length n.old) × (length acc.old ≡ length n.old) × (length t.old ≡ length n.old + length n.old) × (length n.old ≤ 256) × (2 ≤ length n.old) }
-    requires em_len_bound { (length em.old ≤ 8 * length n.old) × (62 ≤ length em.old) × (modulus + length em.old ≤ length key.now) × (0 < e) }
+    requires room { (length base.old ≡ length n.old) × (length acc.old ≡ length n.old) × (length t.old ≡ length n.old + length n.old) × (length n.old ≤ 256) × (2 ≤ length n.old) }
+    requires size_and_exponent { (length em.old ≤ 8 * length n.old) × (62 ≤ length em.old) × (modulus + length em.old ≤ length key.now) × (0 < e) }
     ensures { result ≡ verified (number_in key.now modulus (length em.old)) e (length em.old) hash.now signature.now }
 {
     let end = modulus + em.len();

@@ -1,14 +1,7 @@
-use mathlib.Core.Path.{◌≡◌, sym, ◌∙◌}
-use mathlib.Core.List.{List}
-use Prim.Native.Nat.{ℕ, ◌-◌, ◌≤◌}
-use native.Mathlib.Numerals.{add-one}
-use native.Mathlib.Omega.{arith}
-use borrow.Author.Rules.{rules}
+use mathlib.Core.Path.{◌≡◌}
+use Prim.Native.Nat.{◌-◌, ◌≤◌}
 use Rattle.rsa.specs.Signature.{encoded}
-use lib.Seq.{take-suc}
-use Rattle.rsa.proofs.EncodedLaws.{length_encoded}
-use lib.ListN.{length, take, length-set}
-use lib.Seq.{take_all, take-suc-set}
+use lib.ListN.{length, take}
 use Rattle.rsa.proofs.encoding.encode.Given as goal
 
 abbrev pub invariant-loop-i : goal.invariant-loop-i

@@ -1,6 +1,5 @@
 use mathlib.Core.Path.{sym}
 use native.Mathlib.Omega.{arith}
-use borrow.Author.Rules.{rules}
 use Rattle.rsa.proofs.EncodedLaws.{encoded_fill, encoded_zero, encoded_prefix, encoded_hash}
 use Rattle.rsa.proofs.encoding.encoded_byte.Goals as goal
 

@@ -2,7 +2,6 @@ use mathlib.Core.Path.{refl, sym, ap, ◌∙◌}
 use mathlib.Core.List.{List}
 use Prim.Native.Nat.{ℕ}
 use native.Mathlib.Omega.{arith}
-use borrow.Author.Rules.{rules}
 use lib.ListN.{replicate, length-take}
 use lib.Seq.{length-take-le}
 use Rattle.rsa_key.specs.Key.{number_in}
@@ -26,7 +25,10 @@ slice_bounds-check_with_modulus-end-5 c = sym (length-take-le _ _ (omega arith))
 
 pub check_with_modulus-requires : goal.check_with_modulus-requires
 check_with_modulus-requires c =
-    ((refl, refl, simp length-take (omega arith), simp length-take (omega arith), simp length-take (omega arith)), (simp length-take (omega arith), simp length-take (omega arith), simp length-take (omega (arith, c.requires.2)), c.requires.3))
+    record {
+      room = (refl, refl, simp length-take (omega arith), simp length-take (omega arith), simp length-take (omega arith));
+      size_and_exponent = (simp length-take (omega arith), simp length-take (omega arith), simp length-take (omega (arith, c.requires.2)), c.requires.3);
+    }
 
 pub returns : goal.returns
 returns c =

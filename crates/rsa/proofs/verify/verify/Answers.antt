@@ -3,8 +3,7 @@ use mathlib.Core.Bool.{true, false, ◌&&◌}
 use mathlib.Core.List.{List}
 use Prim.Native.Nat.{ℕ, ◌+◌, ◌-◌, ◌/◌}
 use native.Mathlib.Omega.{arith}
-use borrow.Author.Rules.{rules}
-use borrow.Author.Tests.{eqb-true, not-true, not-false}
+use borrow.Author.Tests.{eqb-true}
 use lib.Dec.{eqb}
 use lib.ListN.{get_or}
 use Rattle.wire.proofs.TestLaws.{and_left, and_right}
@@ -20,12 +19,10 @@ use Rattle.rsa.proofs.verify.verify.Goals.{Else-not-are_supported_bits, Else-not
 
 -- behind the match: a key was read
 
-
 abbrev key : In-Valid → List ℕ
 key k = k.args.key.now
 
 -- behind the match: a key was read
-
 
 abbrev key_2 : Else-not-has_bits → List ℕ
 key_2 k = k.args.key.now
