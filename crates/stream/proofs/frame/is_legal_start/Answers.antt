@@ -1,6 +1,5 @@
 use borrow.Author.Tests.{lt-leb, le-leb, ne_eqb, eq-eqb}
 use Rattle.stream.specs.Frame.{legal_start}
-use borrow.Author.Rules.{rules}
 use Rattle.stream.proofs.frame.is_legal_start.Goals as goal
 
 pub returns-then-read_u32-ne-MAGIC : goal.returns-then-read_u32-ne-MAGIC

@@ -1,6 +1,5 @@
 use borrow.Author.Tests.{lt-ltb, le-ltb}
 use Rattle.stream.specs.Frame.{oversized}
-use borrow.Author.Rules.{rules}
 use Rattle.stream.proofs.frame.is_oversized.Goals as goal
 
 pub returns-then-read_u32-gt-CONTENT_MOST : goal.returns-then-read_u32-gt-CONTENT_MOST
