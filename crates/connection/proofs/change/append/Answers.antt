@@ -5,7 +5,6 @@ use Prim.Native.Nat.{◌+◌, ◌≤◌}
 use lib.ListN.{length, length-append}
 use Rattle.connection.specs.Connection.{held_most, laid_out, connection_bytes}
 use Rattle.connection.proofs.ChangeLaws.{bytes_put}
-use borrow.Author.Rules.{rules}
 use Rattle.connection.proofs.change.append.Goals as goal
 
 pub returns : goal.returns

@@ -4,7 +4,6 @@ use Prim.Native.Nat.{ℕ}
 use lib.ListN.{replicate, set}
 use Rattle.connection.specs.Connection.{connection_bytes}
 use Rattle.connection.proofs.ConnectionLaws.{blank}
-use borrow.Author.Rules.{rules}
 use Rattle.connection.proofs.change.close.Goals as goal
 
 pub returns : goal.returns

@@ -1,6 +1,5 @@
 use borrow.Author.Tests.{eq-eqb, ne_eqb}
 use Rattle.connection.specs.Connection.{open_connection}
-use borrow.Author.Rules.{rules}
 use Rattle.connection.proofs.change.open_connection.Goals as goal
 
 pub returns-then-memory-ne-CONNECTION_SIZE : goal.returns-then-memory-ne-CONNECTION_SIZE

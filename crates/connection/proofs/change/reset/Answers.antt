@@ -3,7 +3,6 @@ use Prim.Native.Nat.{ℕ}
 use lib.ListN.{replicate}
 use Rattle.connection.specs.Connection.{connection_bytes}
 use Rattle.connection.proofs.ConnectionLaws.{blank}
-use borrow.Author.Rules.{rules}
 use Rattle.connection.proofs.change.reset.Goals as goal
 
 pub returns : goal.returns

@@ -3,7 +3,6 @@ use mathlib.Core.List.{List}
 use Prim.Native.Nat.{ℕ}
 use lib.ListN.{set}
 use Rattle.connection.specs.Connection.{connection_bytes}
-use borrow.Author.Rules.{rules}
 use Rattle.connection.proofs.change.set_skipping.Goals as goal
 
 pub returns : goal.returns

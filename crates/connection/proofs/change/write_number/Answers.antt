@@ -4,7 +4,6 @@ use Prim.Native.Nat.{ℕ}
 use lib.ListN.{take, drop}
 use Rattle.wire.specs.Lists.{over}
 use Rattle.connection.proofs.ChangeLaws.{number_put}
-use borrow.Author.Rules.{rules}
 use Rattle.connection.proofs.change.write_number.Goals as goal
 
 pub returns : goal.returns

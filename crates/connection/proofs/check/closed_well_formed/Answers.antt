@@ -1,6 +1,5 @@
 use mathlib.Core.Path.{sym, ◌∙◌}
 use Rattle.connection.proofs.CheckLaws.{closed_tests}
-use borrow.Author.Rules.{rules}
 use Rattle.connection.proofs.check.closed_well_formed.Goals as goal
 
 pub returns : goal.returns

@@ -7,7 +7,6 @@ use Rattle.stream.specs.code.Framed.{frame_of}
 use Rattle.stream.specs.Call.{is_beginning}
 use Rattle.stream.specs.declared.frame.Frame.{Frame}
 use Rattle.stream.specs.declared.frame.Frame.TheVariants.{Unfinished, BadStart, Skipped, Whole}
-use borrow.Author.Rules.{rules}
 use Rattle.connection.proofs.check.is_beginning.Goals as goal
 
 is_unfinished : Frame → Bool

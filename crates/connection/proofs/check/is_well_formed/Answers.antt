@@ -1,6 +1,5 @@
 use mathlib.Core.Path.{sym}
 use Rattle.connection.proofs.CheckLaws.{other_size, other_kind}
-use borrow.Author.Rules.{rules}
 use Rattle.connection.proofs.check.is_well_formed.Goals as goal
 
 pub returns-then-memory-ne-CONNECTION_SIZE : goal.returns-then-memory-ne-CONNECTION_SIZE

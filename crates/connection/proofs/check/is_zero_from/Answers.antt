@@ -1,7 +1,6 @@
 use mathlib.Core.Path.{ap, ◌∙◌}
 use Rattle.wire.specs.Lists.{all, is_zero}
 use Rattle.wire.proofs.BufferLaws.{lent}
-use borrow.Author.Rules.{rules}
 use Rattle.connection.proofs.check.is_zero_from.Goals as goal
 
 pub returns : goal.returns

@@ -1,10 +1,6 @@
-use Prim.Native.Nat.{ℕ, ◌+◌, ◌-◌, ◌<◌}
-use mathlib.Core.Logic.{inl, inr}
-use mathlib.Core.Path.{◌≡◌, sym, ap, subst, ◌∙◌}
-use mathlib.Core.List.{List, [], ◌∷◌}
-use denote.Enum.Declared.{tag_of}
-use types.Run.{OneOf}
-use Rattle.stream.specs.contracts.frame.Frame.{the_type}
+use Prim.Native.Nat.{ℕ, ◌+◌, ◌<◌}
+use mathlib.Core.Path.{◌≡◌, sym, ap, ◌∙◌}
+use mathlib.Core.List.{List}
 use native.Mathlib.Omega.{arith}
 use lib.ListN.{length}
 use borrow.Author.Rules.{rules}
@@ -14,21 +10,12 @@ use Rattle.stream.specs.declared.frame.Frame.TheVariants.{Unfinished}
 use Rattle.stream.specs.code.Framed.{frame_of}
 use Rattle.stream.proofs.FramedLaws.{frame_unfinished}
 use Rattle.connection.specs.code.Gather.{held_in}
-use Rattle.connection.proofs.GatherLaws.{Part, part_none, part_holds, part_again, holding_few, holding_size, after_few, after_size, after_in, after_some, gathers}
+use Rattle.connection.proofs.GatherLaws.{part_none, part_holds, part_again, holding_few, holding_size, after_few, after_size, after_in, after_some, gathers}
 use Rattle.connection.proofs.gather.gather.Goals as goal
 
 -- a frame said to be unfinished is one
 told : (s t : List ℕ) (f : Frame) → s ≡ t → f ≡ frame_of (next s) → f ≡ Unfinished → next t ≡ unfinished
 told s t f same e u = ap next (sym same) ∙ frame_unfinished (next s) (sym e ∙ u)
-
--- one said to be another is not
-not_told : (t : List ℕ) (f : Frame) → f ≡ frame_of (next t) → OneOf (1 ∷ (2 ∷ (3 ∷ []))) (tag_of the_type f) → next t ≡ unfinished → ⊥
-not_told t f e w u = go (subst (OneOf (1 ∷ (2 ∷ (3 ∷ [])))) (ap (tag_of the_type) (e ∙ ap frame_of u)) w)
-  where
-    go : OneOf (1 ∷ (2 ∷ (3 ∷ []))) 0 → ⊥
-    go (inl p) = omega arith
-    go (inr (inl p)) = omega arith
-    go (inr (inr p)) = omega arith
 
 pub loop-used-init : goal.loop-used-init
 loop-used-init c = part_none _ _ _ c.requires
@@ -126,4 +113,24 @@ returns-in-loop-used c =
     let h : ℕ = c.args.held in
     let long = c.requires.long in
     let f = c.fill-used in
-    gathers (held_in h m) chunk l.memory h l.used long l.invariant f.new.memory f.result f.ensures c.read_frame-frame.result (c.read_frame-frame.ensures ∙ ap (λ (x : List ℕ). frame_of (next x)) (after_in (held_in h m) chunk l.memory h l.used long l.invariant f.new.memory f.result f.ensures)) (λ u. absurd (not_told _ _ (c.read_frame-frame.ensures ∙ ap (λ (x : List ℕ). frame_of (next x)) (after_in (held_in h m) chunk l.memory h l.used long l.invariant f.new.memory f.result f.ensures)) c.in-Unfinished.keys2 u))
+    gathers (held_in h m) chunk l.memory h l.used long l.invariant f.new.memory f.result f.ensures c.read_frame-frame.result (c.read_frame-frame.ensures ∙ ap (λ (x : List ℕ). frame_of (next x)) (after_in (held_in h m) chunk l.memory h l.used long l.invariant f.new.memory f.result f.ensures)) (λ u. absurd (c.in_default.not-Unfinished ((c.read_frame-frame.ensures ∙ ap (λ (x : List ℕ). frame_of (next x)) (after_in (held_in h m) chunk l.memory h l.used long l.invariant f.new.memory f.result f.ensures)) ∙ ap frame_of u)))
+
+pub shape_of-memory-then-used-chunk : goal.shape_of-memory-then-used-chunk
+shape_of-memory-then-used-chunk c =
+    let l = c.loop-used in
+    let m : List ℕ = c.args.memory.now in
+    let h : ℕ = c.args.held in
+    let f = c.fill-used in
+    let size = after_size (held_in h m) c.args.chunk.now l.memory h l.used c.requires.long l.invariant f.new.memory f.result f.ensures in
+    let start = holding_size m h c.requires in
+    search rules
+
+pub shape_of-memory-in-loop-used : goal.shape_of-memory-in-loop-used
+shape_of-memory-in-loop-used c =
+    let l = c.loop-used in
+    let m : List ℕ = c.args.memory.now in
+    let h : ℕ = c.args.held in
+    let f = c.fill-used in
+    let size = after_size (held_in h m) c.args.chunk.now l.memory h l.used c.requires.long l.invariant f.new.memory f.result f.ensures in
+    let start = holding_size m h c.requires in
+    search rules

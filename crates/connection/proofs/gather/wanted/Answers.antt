@@ -7,7 +7,6 @@ use Rattle.wire.specs.Request.{header_length}
 use Rattle.stream.proofs.FrameLaws.{Unfinished, short, in_header, in_body, legal_size}
 use Rattle.stream.proofs.ChunkLaws.{unfinished_held}
 use Rattle.connection.proofs.GatherLaws.{wanted_short, wanted_header, wanted_body, wanted_more, wanted_few}
-use borrow.Author.Rules.{rules}
 use Rattle.connection.proofs.gather.wanted.Goals as goal
 
 -- past the header's end there is a whole header
