@@ -17,7 +17,7 @@ use Rattle.wire.specs.Numbers as wire
 use Rattle.wire.specs.Scan.{on, out, follow, scan_at}
 use Rattle.wire.proofs.ScanLaws.{scan_end, scan_on}
 use Rattle.records.specs.Records.{record_length, record_in, is_whole}
-use Rattle.messages.specs.Message.{Kind, bytes, uint32s, Value, octets, numbers, octets_of, numbers_of, value_at, Schema, Message, absent}
+use Rattle.messages.specs.Message.{Kind, bytes, uint32s, Value, octets, numbers, octets_of, numbers_of, value_at, Schema, Message}
 use Rattle.messages.specs.Format.{Field, field, unreadable, field_with, listed, Reading, read, broken, SoFar, turn_of, turn_at, read_message}
 use Rattle.messages.specs.Tagged.{fours, of_value, tagged_at, tagged}
 use Rattle.messages.specs.Operations.{when_read, read_body}

@@ -1,15 +1,13 @@
 -- Format 2 is lawful.
-use Prim.Native.Nat.{ℕ, ◌+◌, ◌*◌, ◌/◌, ◌%◌, ◌≤◌, ◌<◌}
+use Prim.Native.Nat.{ℕ, ◌+◌, ◌*◌, ◌/◌, ◌%◌, ◌≤◌}
 use native.Mathlib.Omega.{arith}
-use mathlib.Core.Path.{◌≡◌, refl, sym, ap, ◌∙◌}
-use mathlib.Core.Bool.{Bool, true, false, false≢true}
-use mathlib.Core.Option.{Option, none, some}
+use mathlib.Core.Path.{◌≡◌, refl, ap, ◌∙◌}
+use mathlib.Core.Bool.{true, false, false≢true}
+use mathlib.Core.Option.{some}
 use mathlib.Core.List.{List, [], ◌∷◌, ◌++◌, map, flat_map}
-use lib.ListN.{length, take, drop, length-append}
+use lib.ListN.{length, drop, length-append}
 use lib.Seq.{take-length, take_at, drop_at}
-use lib.Dec.{leb, eqb}
 use borrow.Author.Tests.{lt-ltb, le-leb, ne_eqb}
-use Rattle.wire.specs.Choice.{if◌then◌else◌}
 use Rattle.wire.specs.Lists.{blocks}
 use Rattle.wire.specs.Numbers.{little_endian, little_endian_of}
 use Rattle.wire.specs.Numbers as wire
@@ -18,7 +16,7 @@ use Rattle.wire.proofs.NumberLaws.{length_number, number_back, field_back, field
 use Rattle.records.specs.Records.{Record, record_length, value_in, record_in, is_whole}
 use Rattle.records.proofs.RecordLaws.{size_append, record_append, whole_append}
 use Rattle.messages.specs.Message.{Kind, uint32, bool, bytes, uint32s, Value, number, flag, octets, numbers, kind_of, Schema, kind_at, absent}
-use Rattle.messages.specs.Format.{Field, field, unreadable, listed}
+use Rattle.messages.specs.Format.{field}
 use Rattle.messages.specs.Tagged.{value_bytes, record_bytes, tagged_field, of_value, tagged_at, tagged}
 use Rattle.messages.proofs.RoundTrip.{Present, FieldAhead, Lawful, listed-value, listed_ahead}
 

@@ -2,12 +2,12 @@
 use Prim.Native.Nat.{ℕ, zero, suc, ◌+◌, ◌-◌, ◌≤◌, ◌<◌}
 use native.Mathlib.Omega.{arith}
 use mathlib.Core.Path.{◌≡◌, refl, sym, ap, ◌∙◌}
-use mathlib.Core.Bool.{Bool, true, false, not, and-true, and-false}
+use mathlib.Core.Bool.{true, and-true, and-false}
 use mathlib.Core.Option.{Option, none, some, bind}
 use mathlib.Core.List.{List, [], ◌∷◌}
-use lib.ListN.{length, take, drop, get_or, set}
+use lib.ListN.{length, take, drop, get_or}
 use lib.Seq.{drop-drop}
-use lib.Dec.{ltb, leb, eqb}
+use lib.Dec.{eqb}
 use borrow.Author.Tests.{eq-eqb, ne_eqb, lt-ltb, le-ltb, lt-leb, le-leb}
 use Rattle.wire.specs.Choice.{if◌then◌else◌}
 use Rattle.wire.specs.Lists.{same}
@@ -22,13 +22,13 @@ use Rattle.fields.specs.code.Fields as fields
 use Rattle.fields.specs.declared.Schema.{Schema as SchemaPlaced}
 use Rattle.fields.specs.declared.Value.{Value as Place}
 use Rattle.fields.specs.declared.Values.{Values as Places}
-use Rattle.fields.specs.declared.Body.TheVariants.{Message as Readable, Unreadable as Broken}
+use Rattle.fields.specs.declared.Body.TheVariants.{Message as Readable}
 use Rattle.messages.specs.Message.{Kind, uint32, bool, bytes, uint32s, Value, number, flag, octets, Schema, Message, kind_at}
 use Rattle.messages.specs.Format.{Field, field, unreadable, field_with, listed, Reading, read, broken, SoFar, turn_of, turn_at, read_message}
 use Rattle.messages.specs.Tagged.{of_value, tagged_at, tagged}
 use Rattle.messages.specs.code.Places.{kind_placed, schema_placed, NoLists, value_of, values_of, five, seen}
 use Rattle.messages.specs.code.TaggedPlaces.{kind_in, value_for, field_placed, field_in}
-use Rattle.messages.specs.declared.tagged.TaggedField.TheVariants.{At, Unreadable}
+use Rattle.messages.specs.declared.tagged.TaggedField.TheVariants.{At}
 use Rattle.messages.proofs.RoundTrip.{turn_ahead}
 use Rattle.messages.proofs.PlacesLaws.{no_list_at, kind_same, put_same, none_read}
 use Rattle.messages.proofs.TaggedLaws.{tagged_lawful}

@@ -1,5 +1,5 @@
 -- Format 2 as the code reads it: a field's value by its place.
-use Rattle.std.specs.Prelude.{ℕ, ◌+◌, ◌≤◌, ◌<◌, ◌≡◌, List, length, drop}
+use Rattle.std.specs.Prelude.{ℕ, ◌+◌, ◌≤◌, ◌<◌, ◌≡◌, List, drop}
 use Rattle.std.proofs.Math.Option.{Option, none, some, bind}
 use Rattle.wire.specs.Choice.{if◌then◌else◌}
 use Rattle.fields.specs.code.Fields.{kind_of, ValueIn}

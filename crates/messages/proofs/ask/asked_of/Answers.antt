@@ -1,5 +1,4 @@
 use native.Mathlib.Omega.{arith}
-use borrow.Author.Rules.{rules}
 use borrow.Author.Tests.{ne_eqb}
 use Rattle.messages.specs.Operations.{input_fields, asking_of}
 use Rattle.messages.proofs.ask.asked_of.Goals as goal

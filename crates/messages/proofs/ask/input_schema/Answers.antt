@@ -1,5 +1,4 @@
 use mathlib.Core.Path.{◌∙◌}
-use borrow.Author.Rules.{rules}
 use borrow.Author.Tests.{ne_eqb}
 use Rattle.messages.specs.Operations.{input_fields}
 use Rattle.messages.proofs.ask.input_schema.Goals as goal

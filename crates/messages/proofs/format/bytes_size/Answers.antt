@@ -1,5 +1,4 @@
 use native.Mathlib.Omega.{arith}
-use borrow.Author.Rules.{rules}
 use Rattle.messages.proofs.format.bytes_size.Goals as goal
 
 pub returns-in-Protobuf : goal.returns-in-Protobuf

@@ -1,6 +1,4 @@
-use mathlib.Core.Path.{refl}
 use Rattle.messages.specs.Formats.{content_type_of}
-use borrow.Author.Rules.{rules}
 use Rattle.messages.proofs.format.content_type_of.Goals as goal
 
 pub returns-in-Protobuf : goal.returns-in-Protobuf

@@ -1,7 +1,6 @@
 use mathlib.Core.Path.{sym}
 use Rattle.protobuf.proofs.BodyLaws.{body_in}
 use Rattle.messages.proofs.PlacesLaws.{placed}
-use borrow.Author.Rules.{rules}
 use Rattle.messages.proofs.format.read_fields.Goals as goal
 
 pub returns-in-Protobuf : goal.returns-in-Protobuf

@@ -1,7 +1,6 @@
 use native.Mathlib.Omega.{arith}
 use Rattle.messages.proofs.WriteLaws.{bytes_short}
 use Rattle.messages.proofs.TaggedWriteLaws.{tagged_short}
-use borrow.Author.Rules.{rules}
 use Rattle.messages.proofs.format.write_bytes.Goals as goal
 
 pub returns-in-Protobuf : goal.returns-in-Protobuf

@@ -1,7 +1,6 @@
 use native.Mathlib.Omega.{arith}
 use Rattle.messages.proofs.WriteLaws.{bytes_short, list_field}
 use Rattle.messages.proofs.TaggedWriteLaws.{tagged_list_short}
-use borrow.Author.Rules.{rules}
 use Rattle.messages.proofs.format.write_list.Goals as goal
 
 pub returns-in-Protobuf : goal.returns-in-Protobuf

@@ -5,7 +5,6 @@ use mathlib.Core.List.{◌++◌}
 use Rattle.wire.specs.Lists.{one_of}
 use Rattle.messages.specs.Opcodes.{core_opcodes, keystore_opcodes}
 use Rattle.messages.proofs.OpcodeLaws.{one_of_append}
-use borrow.Author.Rules.{rules}
 use Rattle.messages.proofs.opcodes.is_listed.Goals as goal
 
 -- by what `is_core` says

@@ -1,4 +1,3 @@
-use borrow.Author.Rules.{rules}
 use borrow.Author.Tests.{eq-eqb, ne_eqb}
 use Rattle.messages.specs.Opcodes.{opcodes_of}
 use Rattle.messages.proofs.opcodes.is_opcode_of.Goals as goal

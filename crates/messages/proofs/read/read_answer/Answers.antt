@@ -1,7 +1,6 @@
 use mathlib.Core.Path.{sym, ◌∙◌}
 use Rattle.messages.specs.Formats.{format_of}
 use Rattle.messages.proofs.PlacedLaws.{with_status_0, with_status_7, with_no_body, with_a_body}
-use borrow.Author.Rules.{rules}
 use Rattle.messages.proofs.read.read_answer.Goals as goal
 
 pub returns-then-status-eq0 : goal.returns-then-status-eq0

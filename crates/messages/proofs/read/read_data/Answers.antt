@@ -7,7 +7,6 @@ use Rattle.messages.specs.Message.{bytes, octets_of, value_at}
 use Rattle.messages.specs.Formats.{format_of}
 use Rattle.messages.specs.Operations.{exported}
 use Rattle.messages.proofs.PlacedLaws.{body_as}
-use borrow.Author.Rules.{rules}
 use Rattle.messages.proofs.read.read_data.Goals as goal
 
 pub returns-in-Message : goal.returns-in-Message

@@ -1,8 +1,6 @@
-use Prim.Native.Nat.{◌-◌}
 use native.Mathlib.Omega.{arith}
 use borrow.Author.Rules.{rules}
-use lib.ListN.{length}
-use Rattle.messages.proofs.FoursLaws.{Fours, fours_none, fours_size, fours_on, fours_full, fours_end}
+use Rattle.messages.proofs.FoursLaws.{fours_none, fours_size, fours_on, fours_full, fours_end}
 use Rattle.messages.proofs.read.read_fours.Goals as goal
 
 pub loop-count-init : goal.loop-count-init

@@ -11,7 +11,6 @@ use Rattle.messages.specs.Format.{read_message}
 use Rattle.messages.specs.Tagged.{tagged}
 use Rattle.messages.specs.code.Places.{seen}
 use Rattle.messages.proofs.FoursLaws.{are_fours, no_fours, fours_body}
-use borrow.Author.Rules.{rules}
 use Rattle.messages.proofs.read.read_fours_body.Goals as goal
 use Rattle.messages.proofs.read.read_fours_body.Goals.{After-read_tagged}
 

@@ -1,4 +1,3 @@
-use borrow.Author.Rules.{rules}
 use Rattle.messages.proofs.read.read_list.Goals as goal
 
 pub returns-in-Protobuf : goal.returns-in-Protobuf

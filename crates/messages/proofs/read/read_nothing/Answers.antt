@@ -4,7 +4,6 @@ use native.Mathlib.Omega.{arith}
 use Rattle.messages.specs.Formats.{format_of}
 use Rattle.messages.specs.Operations.{nothing}
 use Rattle.messages.proofs.PlacedLaws.{body_as}
-use borrow.Author.Rules.{rules}
 use Rattle.messages.proofs.read.read_nothing.Goals as goal
 
 pub returns-in-Message : goal.returns-in-Message

@@ -5,7 +5,6 @@ use Rattle.messages.specs.Message.{uint32, number_of, value_at}
 use Rattle.messages.specs.Formats.{format_of}
 use Rattle.messages.specs.Operations.{offset, offset_of}
 use Rattle.messages.proofs.PlacedLaws.{body_as}
-use borrow.Author.Rules.{rules}
 use Rattle.messages.proofs.read.read_offset.Goals as goal
 
 pub returns-in-Message : goal.returns-in-Message

@@ -7,7 +7,6 @@ use Rattle.messages.specs.Formats.{format_of}
 use Rattle.messages.specs.Operations.{providers, opcodes}
 use Rattle.messages.specs.code.ListBody.{list_schema, entries_in, ListWithin}
 use Rattle.messages.proofs.PlacedLaws.{body_then, of_ping_lem, of_list_providers_lem, of_list_opcodes_lem, of_import_lem, of_destroy_lem, of_export_lem, of_verify_lem, of_other}
-use borrow.Author.Rules.{rules}
 use Rattle.messages.proofs.read.read_output.Goals as goal
 
 abbrev list : Message → List ℕ

@@ -1,6 +1,5 @@
 use mathlib.Core.Path.{ap, sym, ◌∙◌}
 use Rattle.messages.specs.code.ListBody.{skipped_group, skipped_field}
-use borrow.Author.Rules.{rules}
 use Rattle.messages.proofs.read.skip_field.Goals as goal
 
 pub returns-in-Number : goal.returns-in-Number

@@ -1,18 +1,8 @@
-use Prim.Native.Nat.{◌-◌, ◌≤◌}
-use mathlib.Core.Path.{◌≡◌, refl, sym, ap, subst, ◌∙◌}
+use mathlib.Core.Path.{sym, ap, ◌∙◌}
 use native.Mathlib.Omega.{arith}
-use lib.ListN.{length}
-use borrow.Author.Rules.{rules}
-use Rattle.fields.specs.code.Fields.{ValuesIn}
 use Rattle.fields.proofs.FieldsLaws.{with_value_in}
-use Rattle.messages.specs.Message.{Schema}
-use Rattle.messages.specs.Format.{read_message}
-use Rattle.messages.specs.Tagged.{tagged}
-use Rattle.messages.specs.code.Places.{schema_placed, NoLists}
-use Rattle.messages.specs.code.TaggedPlaces.{field_placed, field_in, FieldWithin}
-use Rattle.messages.specs.declared.tagged.TaggedField.{TaggedField}
-use Rattle.messages.specs.declared.tagged.TaggedField.TheVariants.{At}
-use Rattle.messages.proofs.TaggedPlacedLaws.{scan, begins, ends, breaks, goes_on, falls}
+use Rattle.messages.specs.code.TaggedPlaces.{field_in}
+use Rattle.messages.proofs.TaggedPlacedLaws.{begins, ends, breaks, goes_on, falls}
 use Rattle.messages.proofs.tagged.read_tagged.Goals as goal
 
 pub loop-at-init : goal.loop-at-init

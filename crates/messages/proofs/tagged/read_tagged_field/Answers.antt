@@ -1,20 +1,15 @@
 use Prim.Native.Nat.{ℕ, ◌+◌, ◌-◌, ◌≤◌}
-use mathlib.Core.Path.{◌≡◌, refl, sym, ap, subst, ◌∙◌}
-use mathlib.Core.Bool.{true, false}
-use mathlib.Core.Option.{bind}
+use mathlib.Core.Path.{◌≡◌, sym, ap, subst, ◌∙◌}
+use mathlib.Core.Bool.{true}
 use mathlib.Core.List.{List}
 use native.Mathlib.Omega.{arith}
-use borrow.Author.Tests.{not-true, not-false}
 use lib.ListN.{length, take, drop, get_or, length-drop}
 use Rattle.wire.proofs.BufferLaws.{lent}
 use Rattle.records.specs.Records.{record_length, is_whole}
 use Rattle.records.proofs.RecordLaws.{whole_room}
-use Rattle.fields.specs.declared.Kind.{Kind}
-use Rattle.messages.specs.Tagged.{of_value}
 use Rattle.messages.specs.declared.tagged.Found.{Found}
-use Rattle.messages.specs.code.TaggedPlaces.{kind_in, found_in, FoundWithin, field_placed}
+use Rattle.messages.specs.code.TaggedPlaces.{found_in, FoundWithin, field_placed}
 use Rattle.messages.proofs.TaggedPlacedLaws.{field_here}
-use borrow.Author.Rules.{rules}
 use Rattle.messages.proofs.tagged.read_tagged_field.Goals as goal
 use Rattle.messages.proofs.tagged.read_tagged_field.Goals.{After-is_whole, After-record_length-size, Else-not-is_whole}
 

@@ -1,6 +1,5 @@
 use mathlib.Core.Path.{refl}
 use Rattle.wire.specs.Numbers.{little_endian_of}
-use borrow.Author.Rules.{rules}
 use Rattle.messages.proofs.tagged.record_head.Goals as goal
 
 pub returns : goal.returns

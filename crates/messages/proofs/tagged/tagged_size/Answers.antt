@@ -3,7 +3,6 @@ use lib.ListN.{length}
 use native.Mathlib.Omega.{arith}
 use Rattle.messages.proofs.TaggedWriteLaws.{tagged_length}
 use Rattle.messages.proofs.TaggedLaws.{tagged_none}
-use borrow.Author.Rules.{rules}
 use Rattle.messages.proofs.tagged.tagged_size.Goals as goal
 
 pub returns-then-len-lt1 : goal.returns-then-len-lt1

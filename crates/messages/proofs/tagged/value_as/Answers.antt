@@ -8,7 +8,6 @@ use Rattle.wire.specs.Numbers.{little_endian, field}
 use Rattle.wire.proofs.ListLaws.{length_part}
 use Rattle.wire.proofs.TestLaws.{some≢none}
 use Rattle.messages.proofs.TaggedPlacedLaws.{no_bytes, some_bytes, not_four, zero_number, some_number, not_one, other_byte, true_byte, first_of}
-use borrow.Author.Rules.{rules}
 use Rattle.messages.proofs.tagged.value_as.Goals as goal
 use Rattle.messages.proofs.tagged.value_as.Goals.{After-read_u32-number, Else-len-ne1, Start}
 

@@ -1,12 +1,10 @@
-use Prim.Native.Nat.{ℕ, ◌+◌, ◌-◌, ◌*◌, ◌≤◌}
-use mathlib.Core.Path.{◌≡◌, refl, sym, ap, ◌∙◌}
-use mathlib.Core.List.{List, [], flat_map}
+use Prim.Native.Nat.{ℕ, ◌+◌, ◌*◌, ◌≤◌}
+use mathlib.Core.Path.{◌≡◌, sym, ap, ◌∙◌}
+use mathlib.Core.List.{List, flat_map}
 use native.Mathlib.Omega.{arith}
-use borrow.Author.Rules.{rules}
-use lib.ListN.{length, take, get_or}
+use lib.ListN.{length, take}
 use lib.Seq.{take_all, length-take-le}
 use Rattle.wire.specs.Numbers.{little_endian_of}
-use Rattle.wire.specs.code.Wrote.{Wrote}
 use Rattle.wire.proofs.BufferLaws.{wrote_none, wrote_on}
 use Rattle.messages.proofs.TaggedLaws.{list_length}
 use Rattle.messages.proofs.TaggedWriteLaws.{entries_more, length_wrote}

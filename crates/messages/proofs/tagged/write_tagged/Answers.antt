@@ -4,7 +4,6 @@ use native.Mathlib.Omega.{arith}
 use lib.ListN.{length}
 use Rattle.wire.proofs.BufferLaws.{wrote_none, wrote_on}
 use Rattle.messages.proofs.TaggedLaws.{tagged_field_lem, tagged_none}
-use borrow.Author.Rules.{rules}
 use Rattle.messages.proofs.tagged.write_tagged.Goals as goal
 
 pub returns-then-len-lt1 : goal.returns-then-len-lt1

@@ -1,9 +1,7 @@
 use mathlib.Core.Path.{refl}
 use mathlib.Core.List.{[]}
-use borrow.Author.Tests.{not-true, not-false}
 use Rattle.wire.proofs.BufferLaws.{wrote_none}
 use Rattle.messages.proofs.TaggedLaws.{tagged_none}
-use borrow.Author.Rules.{rules}
 use Rattle.messages.proofs.tagged.write_tagged_flag.Goals as goal
 
 pub returns-then-not-value : goal.returns-then-not-value

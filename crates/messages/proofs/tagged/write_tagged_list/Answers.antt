@@ -1,12 +1,11 @@
-use Prim.Native.Nat.{ℕ, ◌≤◌}
+use Prim.Native.Nat.{◌≤◌}
 use mathlib.Core.Path.{◌≡◌}
-use mathlib.Core.List.{List, flat_map}
+use mathlib.Core.List.{flat_map}
 use native.Mathlib.Omega.{arith}
 use lib.ListN.{length}
 use Rattle.wire.specs.Numbers.{little_endian_of}
 use Rattle.wire.proofs.BufferLaws.{wrote_none, wrote_on}
 use Rattle.messages.proofs.TaggedLaws.{list_length, tagged_field_lem, tagged_none}
-use borrow.Author.Rules.{rules}
 use Rattle.messages.proofs.tagged.write_tagged_list.Goals as goal
 
 pub returns-then-len-lt1 : goal.returns-then-len-lt1

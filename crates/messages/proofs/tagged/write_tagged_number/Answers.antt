@@ -3,7 +3,6 @@ use mathlib.Core.List.{[]}
 use borrow.Author.Tests.{eq-eqb, ne_eqb}
 use Rattle.wire.proofs.BufferLaws.{wrote_none}
 use Rattle.messages.proofs.TaggedLaws.{tagged_none}
-use borrow.Author.Rules.{rules}
 use Rattle.messages.proofs.tagged.write_tagged_number.Goals as goal
 
 pub returns-then-value-eq0 : goal.returns-then-value-eq0

@@ -1,6 +1,5 @@
 use mathlib.Core.Path.{refl}
 use native.Mathlib.Omega.{arith}
-use borrow.Author.Rules.{rules}
 use Rattle.messages.proofs.FormatsLaws.{verify_body_length}
 use Rattle.messages.proofs.write.verify_body_size.Goals as goal
 

@@ -1,7 +1,6 @@
 use native.Mathlib.Omega.{arith}
 use Rattle.wire.proofs.BufferLaws.{wrote_on}
 use Rattle.messages.proofs.WriteLaws.{key_numbers_lem}
-use borrow.Author.Rules.{rules}
 use Rattle.messages.proofs.write.write_key_numbers.Goals as goal
 
 pub returns : goal.returns

@@ -1,5 +1,4 @@
 use Rattle.messages.proofs.WriteLaws.{one_body}
-use borrow.Author.Rules.{rules}
 use Rattle.messages.proofs.write.write_list_body.Goals as goal
 
 pub returns : goal.returns

@@ -1,5 +1,4 @@
 use Rattle.messages.proofs.WriteLaws.{offset_body}
-use borrow.Author.Rules.{rules}
 use Rattle.messages.proofs.write.write_offset_body.Goals as goal
 
 pub returns : goal.returns

@@ -1,5 +1,4 @@
 use Rattle.messages.proofs.WriteLaws.{provider_body}
-use borrow.Author.Rules.{rules}
 use Rattle.messages.proofs.write.write_provider_body.Goals as goal
 
 pub returns : goal.returns

@@ -1,6 +1,5 @@
 use Rattle.wire.proofs.BufferLaws.{wrote_on}
 use Rattle.messages.proofs.WriteLaws.{verify_body}
-use borrow.Author.Rules.{rules}
 use Rattle.messages.proofs.write.write_verify_body.Goals as goal
 
 pub returns : goal.returns
