@@ -1,47 +1,39 @@
-use Prim.Native.Nat.{◌<◌}
+use Prim.Native.Nat.{ℕ, ◌<◌}
+use mathlib.Core.Path.{◌≡◌, subst}
 use native.Mathlib.Nat.{add-sub_cancel_left}
 use native.Mathlib.Omega.{arith}
 use lib.ListN.{length, length-take}
 use Rattle.registry.specs.Registry.{slot_count, changed}
-use Rattle.judgement.specs.code.Decided.{KeyParts, change_of}
+use Rattle.registry.specs.declared.Slot.{Slot}
+use Rattle.messages.specs.declared.ask.KeyPlaces.{KeyPlaces}
+use Rattle.judgement.specs.declared.Edit.{Edit}
+use Rattle.judgement.specs.declared.Edit.TheVariants.{Fills}
+use Rattle.judgement.specs.code.Decided.{KeyParts, change_of, SafeEdit}
 use borrow.Author.Rules.{rules}
 use Rattle.answer.proofs.request.make_edit.Goals as goal
-use Rattle.answer.proofs.request.make_edit.Goals.{In-Fills-2}
 
 -- what is known of a slot to fill, and of the key in the body
-fills : (c : In-Fills-2)
-    → (c.in-Fills.slot.0 < slot_count) × KeyParts (length c.args.body.now) c.in-Fills.key
-fills c = rw c.in-Fills.is at c.requires.2
+fills : (n : ℕ) {e : Edit} {slot : Slot} {key : KeyPlaces} → e ≡ Fills slot key → SafeEdit n e → (slot.0 < slot_count) × KeyParts n key
+fills n is safe = subst (SafeEdit n) is safe
 
 pub overflow_add-b : goal.overflow_add-b
-overflow_add-b c =
-    let w = (goal.at.overflow_add-b c).In-Fills-2 in
-    omega (arith, (fills w).1.within.0)
+overflow_add-b c = omega (arith, (fills _ c.in-Fills.is c.requires.2).1.within.0)
 
 pub overflow_add-f : goal.overflow_add-f
-overflow_add-f c =
-    let w = (goal.at.overflow_add-f c).In-Fills-2 in
-    omega (arith, (fills w).1.within.1)
+overflow_add-f c = omega (arith, (fills _ c.in-Fills.is c.requires.2).1.within.1)
 
 pub slice_bounds-fill_slot-end : goal.slice_bounds-fill_slot-end
-slice_bounds-fill_slot-end c =
-    let w = (goal.at.slice_bounds-fill_slot-end c).In-Fills-2 in
-    (fills w).1.within.0
+slice_bounds-fill_slot-end c = (fills _ c.in-Fills.is c.requires.2).1.within.0
 
 pub slice_bounds-fill_slot-end-in-Fills : goal.slice_bounds-fill_slot-end-in-Fills
-slice_bounds-fill_slot-end-in-Fills c =
-    let w = (goal.at.slice_bounds-fill_slot-end-in-Fills c).In-Fills-2 in
-    (fills w).1.within.1
+slice_bounds-fill_slot-end-in-Fills c = (fills _ c.in-Fills.is c.requires.2).1.within.1
 
 pub overflow_cast-key : goal.overflow_cast-key
-overflow_cast-key c =
-    let w = (goal.at.overflow_cast-key c).In-Fills-2 in
-    omega (arith, (fills w).1.bits)
+overflow_cast-key c = omega (arith, (fills _ c.in-Fills.is c.requires.2).1.bits)
 
 pub fill_slot-requires : goal.fill_slot-requires
 fill_slot-requires c =
-    let w = (goal.at.fill_slot-requires c).In-Fills-2 in
-    let f = fills w in
+    let f = fills _ c.in-Fills.is c.requires.2 in
     (c.requires.0, c.requires.1, f.0, rw (add-sub_cancel_left, length-take) (omega (arith, f.1.name)), rw (add-sub_cancel_left, length-take) (omega (arith, f.1.bytes)))
 
 pub clear_slot-requires : goal.clear_slot-requires

@@ -30,7 +30,7 @@ pub loop-i-preserved : goal.loop-i-preserved
 loop-i-preserved c =
     let l = c.loop-i in
     let more : l.i < length c.args.chunk.now = c.loop-i-test.true in
-    (part_again _ c.args.chunk.now (compact_with l.registry l.p l.front) l.i l.invariant.0 more (sym c.has_ended.ensures ∙ c.if-has_ended.false) _ c.take_on-p.ensures, c.take_on-p.auto.front ∙ l.invariant.1, c.take_on-p.auto.registry.0 ∙ l.invariant.2)
+    (part_again _ c.args.chunk.now (compact_with l.registry l.p l.front) l.i l.invariant.0 more (sym c.has_ended.ensures ∙ c.if-has_ended.false) _ c.take_on-p.ensures, c.take_on-p.auto.front ∙ l.invariant.1, c.take_on-p.auto.registry ∙ l.invariant.2)
 
 pub returns : goal.returns
 returns c =

@@ -1,5 +1,5 @@
 use Prim.Native.Nat.{ℕ, ◌<◌}
-use mathlib.Core.Path.{ap, subst}
+use mathlib.Core.Path.{◌≡◌, ap, subst}
 use mathlib.Core.List.{List}
 use native.Mathlib.Nat.{add-sub_cancel_left}
 use native.Mathlib.Omega.{arith}
@@ -7,6 +7,10 @@ use lib.ListN.{length, length-take}
 use Rattle.wire.specs.code.Wrote.{Wrote}
 use Rattle.wire.proofs.BufferLaws.{wrote_none}
 use Rattle.registry.specs.Registry.{slot_count}
+use Rattle.registry.specs.declared.Slot.{Slot}
+use Rattle.messages.specs.declared.ask.KeyPlaces.{KeyPlaces}
+use Rattle.judgement.specs.declared.Edit.{Edit}
+use Rattle.judgement.specs.declared.Edit.TheVariants.{Fills, Clears}
 use Rattle.registry.proofs.WellFormedLaws.{good_of}
 use Rattle.judgement.specs.code.Decided.{KeyParts, change_of, SafeEdit}
 use Rattle.journal.specs.Record.{destroying, record_of}
@@ -15,55 +19,41 @@ use Rattle.journal.specs.code.Written.{act_of_change}
 use Rattle.journal.proofs.ChangeLaws.{name_short}
 use borrow.Author.Rules.{rules}
 use Rattle.journal.proofs.record.write_record.Goals as goal
-use Rattle.journal.proofs.record.write_record.Goals.{In-Clears-2, In-Fills-2}
 
--- what is known of the key to import
-fills : (c : In-Fills-2) → KeyParts (length c.args.body.now) c.in-Fills.key
-fills c = (subst (SafeEdit (length c.args.body.now)) c.in-Fills.is c.requires.2).1
+-- what is known of the key to import, and of the slot to clear
+fills : (n : ℕ) {e : Edit} {slot : Slot} {key : KeyPlaces} → e ≡ Fills slot key → SafeEdit n e → KeyParts n key
+fills n is safe = (subst (SafeEdit n) is safe).1
 
-clears : (c : In-Clears-2) → c.in-Clears.slot.0 < slot_count
-clears c = subst (SafeEdit (length c.args.body.now)) c.in-Clears.is c.requires.2
+clears : (n : ℕ) {e : Edit} {slot : Slot} → e ≡ Clears slot → SafeEdit n e → slot.0 < slot_count
+clears n is safe = subst (SafeEdit n) is safe
 
 pub overflow_add-b : goal.overflow_add-b
-overflow_add-b c =
-    let w = (goal.at.overflow_add-b c).In-Fills-2 in
-    omega (arith, (fills w).within.0)
+overflow_add-b c = omega (arith, (fills _ c.in-Fills.is c.requires.2).within.0)
 
 pub overflow_add-f : goal.overflow_add-f
-overflow_add-f c =
-    let w = (goal.at.overflow_add-f c).In-Fills-2 in
-    omega (arith, (fills w).within.1)
+overflow_add-f c = omega (arith, (fills _ c.in-Fills.is c.requires.2).within.1)
 
 pub slice_bounds-write_import-end : goal.slice_bounds-write_import-end
-slice_bounds-write_import-end c =
-    let w = (goal.at.slice_bounds-write_import-end c).In-Fills-2 in
-    (fills w).within.0
+slice_bounds-write_import-end c = (fills _ c.in-Fills.is c.requires.2).within.0
 
 pub slice_bounds-write_import-end-in-Fills : goal.slice_bounds-write_import-end-in-Fills
-slice_bounds-write_import-end-in-Fills c =
-    let w = (goal.at.slice_bounds-write_import-end-in-Fills c).In-Fills-2 in
-    (fills w).within.1
+slice_bounds-write_import-end-in-Fills c = (fills _ c.in-Fills.is c.requires.2).within.1
 
 pub overflow_cast-key : goal.overflow_cast-key
-overflow_cast-key c =
-    let w = (goal.at.overflow_cast-key c).In-Fills-2 in
-    omega (arith, (fills w).bits)
+overflow_cast-key c = omega (arith, (fills _ c.in-Fills.is c.requires.2).bits)
 
 pub write_import-requires : goal.write_import-requires
 write_import-requires c =
-    let w = (goal.at.write_import-requires c).In-Fills-2 in
-    let f = fills w in
+    let f = fills _ c.in-Fills.is c.requires.2 in
     (c.requires.1, rw (add-sub_cancel_left, length-take) (omega (arith, f.name)), rw (add-sub_cancel_left, length-take) (omega (arith, f.bytes)), c.requires.3)
 
 pub name_there-requires : goal.name_there-requires
 name_there-requires c =
-    let w = (goal.at.name_there-requires c).In-Clears-2 in
-    ((good_of c.args.registry.now c.requires.0).size, c.requires.1, clears w)
+    ((good_of c.args.registry.now c.requires.0).size, c.requires.1, clears _ c.in-Clears.is c.requires.2)
 
 pub write_destroy-requires : goal.write_destroy-requires
 write_destroy-requires c =
-    let w = (goal.at.write_destroy-requires c).In-Clears-2 in
-    (c.requires.1, omega (arith, ap length c.name_there.ensures, name_short c.args.registry.now c.args.line _ (clears w) c.requires.0 c.requires.1), c.requires.3)
+    (c.requires.1, omega (arith, ap length c.name_there.ensures, name_short c.args.registry.now c.args.line _ (clears _ c.in-Clears.is c.requires.2) c.requires.0 c.requires.1), c.requires.3)
 
 pub returns-in-Stays : goal.returns-in-Stays
 unfolding change_of act_of_change record_for
