@@ -29,8 +29,8 @@ take_on-requires c =
     let m : List ℕ = k.args.memory.now in
     record {
       well = good g;
-      memory_is = memory_is m (well m (good g)) (all_bytes m (λ i. (k.slice_known-1.given i).fits));
-      begun = told_waiting l.look-said.ensures c.enum_told-1.given.1;
+      memory_is = memory_is m (well m (good g)) (all_bytes m (λ i. c.type_inv.memory i));
+      begun = told_waiting l.look-said.ensures c.in-Waiting.is;
     }
 
 pub returns : goal.returns
@@ -40,6 +40,6 @@ returns c =
     let k = g in
     let a = k.args in
     let m : List ℕ = a.memory.now in (
-      outcome_past m a.chunk.now (well m (good g)) (good g) (all_bytes m (λ i. (k.slice_known-1.given i).fits)) l.look-said.result l.look-said.ensures (not_waiting _ c.in-Waiting.keys2),
+      outcome_past m a.chunk.now (well m (good g)) (good g) (all_bytes m (λ i. c.type_inv.memory i)) l.look-said.result l.look-said.ensures (not_waiting _ c.in_default.not-Waiting),
       l.look-said.ensures.within,
     )

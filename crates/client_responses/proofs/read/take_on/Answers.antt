@@ -62,7 +62,7 @@ loop-taken-preserved c =
     let l = f.loop-taken in
     let s = f in
     let m : List ℕ = s.args.memory.now in
-    part_again (asked_in m) (bytes_in m) s.args.chunk.now (well m s.requires.well).listed l.memory l.taken l.invariant f.fill-taken.new.0 f.fill-taken.result f.fill-taken.ensures k.look-said.result k.look-said.ensures c.enum_told-1.given.1
+    part_again (asked_in m) (bytes_in m) s.args.chunk.now (well m s.requires.well).listed l.memory l.taken l.invariant f.fill-taken.new.0 f.fill-taken.result f.fill-taken.ensures k.look-said.result k.look-said.ensures c.in-Waiting.is
 
 pub returns-in-loop-taken : goal.returns-in-loop-taken
 returns-in-loop-taken c =
@@ -71,6 +71,6 @@ returns-in-loop-taken c =
     let l = f.loop-taken in
     let s = f in
     let m : List ℕ = s.args.memory.now in (
-      part_stops m s.args.chunk.now s.requires.well l.memory l.taken l.invariant f.fill-taken.new.0 f.fill-taken.result f.fill-taken.ensures k.look-said.result k.look-said.ensures (λ e. absurd (not_waiting _ c.in-Waiting.keys2 e)),
+      part_stops m s.args.chunk.now s.requires.well l.memory l.taken l.invariant f.fill-taken.new.0 f.fill-taken.result f.fill-taken.ensures k.look-said.result k.look-said.ensures (λ e. absurd (not_waiting _ c.in_default.not-Waiting e)),
       k.look-said.ensures.within,
     )
