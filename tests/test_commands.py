@@ -97,6 +97,48 @@ class Prove(Commands):
         self.assertEqual((status, out), (0, ""))
         self.assertEqual(err, LINES + "wire proved\nabi proved\ntarget/staticlib/libabi.a written\n")
 
+    def built(self):
+        """Both are proved; after that rt fails."""
+        self.on_path("rt", f'if [ "$1" = run ]; then {RUNS} fi\n{PROVES}{WRITES}')
+        self.assertEqual(self.run_script("prove", "bill", "abi")[:2], (0, ""))
+        self.on_path("rt", FAILS)
+
+    def test_what_has_not_changed_is_left_alone(self):
+        self.built()
+        self.assertEqual(self.run_script("prove", "bill", "abi"), (0, "", UNCHANGED))
+
+    def test_any_change_is_proved(self):
+        for name in ["crates.txt", "crates/wire/src/lib.rt", "crates/wire/specs/new.antt", "crates/bill/proofs/main/Answers.antt", "target/bin/bill"]:
+            with self.subTest(name):
+                self.built()
+                (self.root / name).parent.mkdir(exist_ok=True)
+                (self.root / name).write_text("changed")
+                self.assertEqual(self.run_script("prove", "bill")[0], 3)
+        self.built()
+        (self.root / "crates/bill/proofs/main/Answers.antt").unlink()
+        self.assertEqual(self.run_script("prove", "bill")[0], 3)
+        self.built()
+        (self.root / "target/staticlib/libabi.a").unlink()
+        self.assertEqual(self.run_script("prove", "abi")[0], 3)
+        self.built()
+        self.on_path("rt", FAILS.replace("kit 5", "kit 6"))
+        self.assertEqual(self.run_script("prove", "abi")[0], 3)
+
+    def test_what_failed_is_tried_again(self):
+        self.built()
+        (self.root / "crates.txt").write_text("changed")
+        self.assertEqual(self.run_script("prove", "bill")[0], 3)
+        (self.root / "crates.txt").write_text("crates.txt")
+        self.assertEqual(self.run_script("prove", "bill")[0], 3)
+
+    def test_what_another_command_has_built_is_noted(self):
+        self.built()
+        (self.root / "crates.txt").write_text("changed")
+        self.assertEqual(self.run_script("prove", "--record", "bill", "abi"), (0, "", ""))
+        self.assertEqual(self.run_script("prove", "bill", "abi"), (0, "", UNCHANGED))
+        (self.root / "target/bin/bill").unlink()
+        self.assertEqual(self.run_script("prove", "--record", "bill")[0], 2)
+
     def test_a_library_leaves_no_file(self):
         self.on_path("rt", PROVES)
         self.assertEqual(self.run_script("prove", "wire"), (0, "", "wire proved\n"))
