@@ -111,9 +111,8 @@ impl Archive {
     fn in_repository(&self, repository: &Path) -> Result<Found, String> {
         let name = &self.rattle_crate;
         let found = Self::found(&repository.join("target/staticlib"), name);
-        found.ok_or_else(|| {
-            format!("target/staticlib/lib{name}.a is missing: run `./prove {name}`")
-        })
+        found
+            .ok_or_else(|| format!("target/staticlib/lib{name}.a is missing: run `./prove {name}`"))
     }
 
     fn installed(&self) -> Result<Found, String> {
