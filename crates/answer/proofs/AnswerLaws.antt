@@ -9,7 +9,7 @@ use native.Mathlib.Omega.{arith}
 use borrow.Author.Tests.{eq-eqb, ne_eqb, eqb-true, eqb-false, ltb-false, lt-ltb, le-ltb, not-false}
 use lib.ListN.{length, take, drop}
 use lib.Dec.{ltb, eqb}
-use Rattle.wire.specs.Choice.{if◌then◌else◌, first_of, is_some}
+use Rattle.wire.specs.Choice.{when◌then◌else◌, first_of, is_some}
 use Rattle.wire.specs.Lists.{one_of}
 use Rattle.wire.specs.Request.{content_length, auth_length, header_length, request_length, Request, request_of}
 use Rattle.wire.specs.code.Header.{header_of}
@@ -87,7 +87,7 @@ module _ (registry : List ℕ) (q : Request) where
 
   abbrev ToldBy : Auth → Type 0
   ToldBy AuthRefused = first_of (auth_tests registry q) ≡ some AuthenticationError
-  ToldBy (Accepted Nobody) = Told none (if eqb q.provider 1 then some NotAuthenticated else none)
+  ToldBy (Accepted Nobody) = Told none (when eqb q.provider 1 then some NotAuthenticated else none)
   ToldBy (Accepted (Named line)) = Told (some line) none
 
   told : q.auth_type ≤ 1 → ToldBy (auth_of q.auth_type q.auth (application_named registry q.auth))
@@ -151,7 +151,7 @@ module _ (list registry bytes : List ℕ) where
         (t.asks, go t (eqb (request_of bytes).provider 1) refl)
       where
         go :
-            Told registry (request_of bytes) none (if eqb (request_of bytes).provider 1 then some NotAuthenticated else none) →
+            Told registry (request_of bytes) none (when eqb (request_of bytes).provider 1 then some NotAuthenticated else none) →
             (b : Bool) → eqb (request_of bytes).provider 1 ≡ b →
             result_of list registry (request_of bytes) ≡ result_for_nobody (header_of bytes) (request_of bytes).body list
         go t true p = rw p (refused_result NotAuthenticated (later_tests ∙ rw p at t.first))

@@ -9,7 +9,7 @@ use borrow.Author.Tests.{eq-eqb, ne_eqb}
 use lib.ListN.{length, drop, get_or, drop_of_length-le}
 use lib.Seq.{drop-cons}
 use lib.Dec.{eqb}
-use Rattle.wire.specs.Choice.{if◌then◌else◌}
+use Rattle.wire.specs.Choice.{when◌then◌else◌}
 use Rattle.audit.specs.Audit.{alike}
 
 -- ---- byte by byte
@@ -45,7 +45,7 @@ module _ (xs ys : List ℕ) (i : ℕ) where
 
 -- ---- no more than there are
 
-either_way : (t : Bool) {n m : ℕ} → n ≤ m → (if t then suc n else 0) ≤ suc m
+either_way : (t : Bool) {n m : ℕ} → n ≤ m → (when t then suc n else 0) ≤ suc m
 either_way true h = omega arith
 either_way false h = omega arith
 

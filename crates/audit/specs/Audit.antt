@@ -1,6 +1,6 @@
 -- THE VERDICT: captured responses against those that the rules give, one by one (document 02, "The auditor").
 use Rattle.std.specs.Prelude.{ℕ, suc, List, [], ◌∷◌, length, drop, eqb, ltb}
-use Rattle.wire.specs.Choice.{if◌then◌else◌}
+use Rattle.wire.specs.Choice.{when◌then◌else◌}
 use Rattle.stream.specs.Rules.{rules}
 use Rattle.judgement.specs.Judgement.{judgement}
 use Rattle.audit.specs.declared.Verdict.{Verdict}
@@ -10,7 +10,7 @@ use Rattle.audit.specs.declared.Verdict.TheVariants.{Accepted, Wrong}
 unfoldable pub alike : (xs ys : List ℕ) → ℕ
 alike [] ys = 0
 alike (x ∷ xs) [] = 0
-alike (x ∷ xs) (y ∷ ys) = if eqb x y then suc (alike xs ys) else 0
+alike (x ∷ xs) (y ∷ ys) = when eqb x y then suc (alike xs ys) else 0
 
 -- `number` is the first response's; one that ends early is wrong at its first missing byte, and a stream that runs on at byte 0 of
 -- one response more
@@ -19,7 +19,7 @@ compared number [] [] = Accepted
 compared number [] (byte ∷ captured) = Wrong number 0
 compared number (response ∷ responses) captured =
     let n = alike response captured in
-    if ltb n (length response) then Wrong number n else compared (suc number) responses (drop n captured)
+    when ltb n (length response) then Wrong number n else compared (suc number) responses (drop n captured)
 
 -- from a start registry, with a list of keys that we ship
 unfoldable pub audit : (list registry requests captured : List ℕ) → Verdict

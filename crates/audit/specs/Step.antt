@@ -1,7 +1,7 @@
 -- THE AUDITOR'S STEP AND ITS END on lent memory: the whole outcome of each, which the code's contracts cite.
 use Rattle.std.specs.Prelude.{ℕ, ◌+◌, ◌-◌, ◌^◌, Bool, false, ◌&&◌, ◌||◌, not, List, length, take, drop, eqb, leb, ltb}
 use Rattle.std.proofs.Math.Option.{Option, none, some}
-use Rattle.wire.specs.Choice.{if◌then◌else◌}
+use Rattle.wire.specs.Choice.{when◌then◌else◌}
 use Rattle.judgement.specs.Judgement.{longest_response}
 use Rattle.service.specs.Call as service
 use Rattle.service.specs.Call.{CallOutcome, call_outcome}
@@ -89,7 +89,7 @@ compare_on m chunks =
 
 -- the next response is pending; where none was written, or a byte was wrong before, all stays
 unfoldable pub after_call : Progress → (written : ℕ) → Progress
-after_call p written = if (p.is_wrong || eqb written 0) then p else progress_with (p.number + 1) written 0 false
+after_call p written = when (p.is_wrong || eqb written 0) then p else progress_with (p.number + 1) written 0 false
 
 unfoldable pub call_on : (list : List ℕ) → Memory → Chunks → StepOutcome
 call_on list m chunks =
@@ -112,8 +112,8 @@ refuse_on m chunks = record { refusal = some ill_formed; requests = 0; responses
 -- THE STEP: of a pair of chunks it takes bytes of one
 unfoldable pub step_outcome : (list : List ℕ) → Memory → Chunks → StepOutcome
 step_outcome list m chunks =
-    if not (well_formed_progress m.progress m.pending) then refuse_on m chunks
-    else if is_pending m.progress then compare_on m chunks
+    when not (well_formed_progress m.progress m.pending) then refuse_on m chunks
+    else when is_pending m.progress then compare_on m chunks
     else call_on list m chunks
 
 -- ---- the end of both streams
@@ -123,10 +123,10 @@ unfoldable pub verdict_at : Progress → (pending rest : List ℕ) → Verdict
 verdict_at p pending rest =
     let left = left_of p pending in
     let n = alike left rest in
-    if p.is_wrong then Wrong p.number p.place
-    else if ltb n (length left) then Wrong p.number (p.place + n)
-    else if ltb n (length rest) then Wrong (p.number + 1) 0
+    when p.is_wrong then Wrong p.number p.place
+    else when ltb n (length left) then Wrong p.number (p.place + n)
+    else when ltb n (length rest) then Wrong (p.number + 1) 0
     else Accepted
 
 unfoldable pub end_outcome : Progress → (pending rest : List ℕ) → Ending
-end_outcome p pending rest = if not (well_formed_progress p pending) then Refused else Reached (verdict_at p pending rest)
+end_outcome p pending rest = when not (well_formed_progress p pending) then Refused else Reached (verdict_at p pending rest)

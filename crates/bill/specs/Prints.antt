@@ -2,7 +2,7 @@
 -- opened are some bytes.
 use Rattle.std.specs.Prelude.{ℕ, ◌≤◌, ◌≡◌, List, length, take}
 use Rattle.std.proofs.Math.Option.{Option}
-use Rattle.wire.specs.Choice.{if◌then◌else◌}
+use Rattle.wire.specs.Choice.{when◌then◌else◌}
 use Rattle.service.specs.Call.{Memory}
 use Rattle.billing.specs.Bill.{bill}
 use Rattle.billing.specs.Outcome.{bill_in}
@@ -12,7 +12,7 @@ use Rattle.starting.specs.declared.start.Source.{Source}
 
 -- by what became of the three files, and what the stream left in memory
 unfoldable pub printed : Source → Memory → List ℕ
-printed source m = if is_good source then bill_in m else line_of source
+printed source m = when is_good source then bill_in m else line_of source
 
 -- the first n bytes are the bill of what the three files give
 pub record Prints (rosterFile streamFile listFile : File) (out : List ℕ) (n : ℕ) : Type 0 where

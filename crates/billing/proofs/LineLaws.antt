@@ -9,7 +9,7 @@ use borrow.Author.Tests.{eq-eqb, ne_eqb}
 use lib.ListN.{length, drop, get_or, drop_of_length-le}
 use lib.Seq.{drop-cons}
 use lib.Dec.{eqb}
-use Rattle.wire.specs.Choice.{if◌then◌else◌}
+use Rattle.wire.specs.Choice.{when◌then◌else◌}
 use Rattle.wire.specs.Lists.{all}
 use Rattle.wire.proofs.TestLaws.{and_left}
 use Rattle.wire.proofs.ListLaws.{all_drop}
@@ -142,7 +142,7 @@ module _ (registry : List ℕ) (line : Line) (k : ℕ) (h : k < slot_count) wher
 abbrev pub refused_from : (refused : List ℕ) (i : ℕ) → List ℕ
 refused_from refused i = refused_lines (drop i refused_statuses) (drop i refused)
 
-choice_append : (t : Bool) (l m : List ℕ) → (if t then m else l ++ m) ≡ (if t then [] else l) ++ m
+choice_append : (t : Bool) (l m : List ℕ) → (when t then m else l ++ m) ≡ (when t then [] else l) ++ m
 choice_append true l m = refl
 choice_append false l m = refl
 

@@ -2,7 +2,7 @@
 -- we ship.
 use Rattle.std.specs.Prelude.{ℕ, zero, suc, ◌+◌, ◌/◌, ◌%◌, Bool, false, not, List, [], ◌∷◌, ◌++◌, length, take, get_or, ltb, eqb}
 use Rattle.std.proofs.Math.Option.{Option, none, some}
-use Rattle.wire.specs.Choice.{if◌then◌else◌}
+use Rattle.wire.specs.Choice.{when◌then◌else◌}
 use Rattle.stream.specs.Rules.{held_bytes, State, rules}
 use Rattle.registry.specs.Slots.{Entry, free, held}
 use Rattle.registry.specs.Registry.{slots_of, uses_of, registry_of}
@@ -21,7 +21,7 @@ use Rattle.billing.specs.Ascii.{ascii}
 unfoldable pub digits_before : (fuel n : ℕ) (tail : List ℕ) → List ℕ
 digits_before zero n tail = tail
 digits_before (suc fuel) n tail =
-    if ltb n 10 then (0x30 + n) ∷ tail else digits_before fuel (n / 10) ((0x30 + n % 10) ∷ tail)
+    when ltb n 10 then (0x30 + n) ∷ tail else digits_before fuel (n / 10) ((0x30 + n % 10) ∷ tail)
 
 unfoldable pub decimal : ℕ → List ℕ
 decimal n = digits_before (suc n) n []
@@ -60,7 +60,7 @@ unfoldable pub refused_lines : List Status → (refused : List ℕ) → List ℕ
 refused_lines [] refused = []
 refused_lines (s ∷ statuses) [] = []
 refused_lines (s ∷ statuses) (n ∷ refused) =
-    if eqb n 0 then refused_lines statuses refused
+    when eqb n 0 then refused_lines statuses refused
     else text_line (ascii "refused") (decimal (status_number s) ∷ decimal n ∷ []) ++ refused_lines statuses refused
 
 unfoldable pub bill_of : (names : List (List ℕ)) → State (List ℕ) Counts → List ℕ
@@ -105,4 +105,4 @@ bill none stream list = no_file
 bill (some roster) none list = no_file
 bill (some roster) (some stream) none = no_file
 bill (some roster) (some stream) (some list) =
-    if is_list_refused (roster_of roster) list then refused_list else bill_for list (roster_of roster) stream
+    when is_list_refused (roster_of roster) list then refused_list else bill_for list (roster_of roster) stream

@@ -9,7 +9,7 @@ use borrow.Author.Tests.{leb-true}
 use borrow.Rule.Slice.PartMut.{put_mid}
 use lib.ListN.{length, take, drop, length-append, take-append-drop}
 use lib.Seq.{drop-drop, take-length, length-take-le, take_at, drop_at, drop-append-add}
-use Rattle.wire.specs.Choice.{if◌then◌else◌, first_of}
+use Rattle.wire.specs.Choice.{when◌then◌else◌, first_of}
 use Rattle.wire.specs.Lists.{over}
 use Rattle.wire.specs.Numbers.{little_endian_of}
 use Rattle.wire.specs.Request.{request_least, content_most, request_header, request_bytes}
@@ -34,7 +34,7 @@ use Rattle.client_requests.proofs.JudgeLaws.{told_refused, told_legal, Passed, p
 
 -- ---- the sender's auth bytes
 
-pub auth_type_of_lem : (named : Bool) (application : List ℕ) → auth_type_of (sender_of named application) ≡ (if named then 1 else 0)
+pub auth_type_of_lem : (named : Bool) (application : List ℕ) → auth_type_of (sender_of named application) ≡ (when named then 1 else 0)
 auth_type_of_lem true application = refl
 auth_type_of_lem false application = refl
 

@@ -1,7 +1,7 @@
 -- A request written for an operation (document 02, "The client's half", "Checking signatures", "A second body format").
 use Rattle.std.specs.Prelude.{ℕ, Bool, true, not, ◌&&◌, List, [], ◌∷◌, length, ltb, leb, eqb}
 use Rattle.std.proofs.Math.Option.{Option, none, some}
-use Rattle.wire.specs.Choice.{if◌then◌else◌, first_of}
+use Rattle.wire.specs.Choice.{when◌then◌else◌, first_of}
 use Rattle.wire.specs.Lists.{one_of, over}
 use Rattle.wire.specs.Request.{content_most, Request, request_bytes}
 use Rattle.keys.specs.Names.{application_name_most, key_name_most, legal_name}
@@ -23,7 +23,7 @@ abbrev pub Sender : Type 0
 Sender = Option (List ℕ)
 
 abbrev pub sender_of : (named : Bool) (application : List ℕ) → Sender
-sender_of named application = if named then some application else none
+sender_of named application = when named then some application else none
 
 abbrev pub auth_type_of : Sender → ℕ
 auth_type_of none = 0

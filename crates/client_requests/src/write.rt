@@ -2,7 +2,7 @@
 // signatures"). The body is written straight to its place, then the header before it and the auth bytes behind it. Bytes past
 // the request stay.
 ghost use Rattle.std.specs.Prelude.{true, ◌≡◌, ◌≤◌, length, take, drop};
-ghost use Rattle.wire.specs.Choice.{if◌then◌else◌};
+ghost use Rattle.wire.specs.Choice.{when◌then◌else◌};
 ghost use Rattle.wire.specs.Request.{request_least, content_most, request_bytes};
 ghost use Rattle.wire.specs.code.Wrote.{Wrote};
 ghost use Rattle.messages.specs.Operations.{ping, list_providers, list_opcodes, import_key, destroy_key, export_public_key, verify_signature};
@@ -26,7 +26,7 @@ const KEYSTORE: u8 = 1;
 
 // 0 for nobody that is named, 1 for an application.
 fn auth_type(named: bool) -> u8
-    ensures { result ≡ (if named then 1 else 0) }
+    ensures { result ≡ (when named then 1 else 0) }
 {
     if named { 1 } else { 0 }
 }

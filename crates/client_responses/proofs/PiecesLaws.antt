@@ -9,7 +9,7 @@ use borrow.Author.Tests.{ne_eqb}
 use lib.ListN.{take}
 use lib.Seq.{take-length}
 use lib.Dec.{eqb}
-use Rattle.wire.specs.Choice.{if◌then◌else◌, is_some}
+use Rattle.wire.specs.Choice.{when◌then◌else◌, is_some}
 use Rattle.reading.specs.Reader.{Reader, read}
 use Rattle.reading.specs.Call.{Effect, call_rule}
 use Rattle.reading.specs.Calls.{Call, took, call_on, taken_stream}
@@ -59,7 +59,7 @@ module _ (asked : Asked) where
       go ih (on p h) = rw (call_on_lem R s b chunk p h) (ih h)
 
   -- if it takes a byte; else it brings nothing
-  gives : (s chunk : List ℕ) → (if eqb (call_rule R s chunk).taken 0 then none else found asked (call_rule R s chunk).kept) ≡ (call_rule R s chunk).event
+  gives : (s chunk : List ℕ) → (when eqb (call_rule R s chunk).taken 0 then none else found asked (call_rule R s chunk).kept) ≡ (call_rule R s chunk).event
   unfolding call_rule
   gives s [] = refl
   gives s (b ∷ chunk) =
@@ -106,7 +106,7 @@ module _ (asked : Asked) where
           answer = record {
             refusal = not_refused (found asked c.kept) i;
             taken = c.taken;
-            given = (ap (λ (o : Option Reply). if eqb c.taken 0 then none else o) (reply_back (found asked c.kept)) ∙ gives s call.chunk) i;
+            given = (ap (λ (o : Option Reply). when eqb c.taken 0 then none else o) (reply_back (found asked c.kept)) ∙ gives s call.chunk) i;
           };
           memory = state_bytes asked c.kept;
         })

@@ -1,7 +1,7 @@
 -- What is claimed of the reader of a response and of its code: types, no proof.
 use Rattle.std.specs.Prelude.{◌≡◌, ℕ, true, false, List, [], ◌∷◌, eqb}
 use Rattle.std.proofs.Math.Option.{Option, none, some}
-use Rattle.wire.specs.Choice.{if◌then◌else◌}
+use Rattle.wire.specs.Choice.{when◌then◌else◌}
 use Rattle.reading.specs.Reader.{read}
 use Rattle.reading.specs.Calls.{Call, CallOutcome, taken_stream}
 use Rattle.reading.specs.Claims.{answers_in, left_after, Runs, Cut}
@@ -37,7 +37,7 @@ reply_in (said reply) = some reply
 -- as `reading` has a call: the reply is given by the one that takes its last byte; those behind it take none and say it again
 abbrev pub as_call : ReadOutcome → CallOutcome (List ℕ) (Unit {0}) (Option Reply)
 as_call o = record {
-  answer = record { refusal = refusal_in o.said; taken = o.taken; given = if eqb o.taken 0 then none else reply_in o.said };
+  answer = record { refusal = refusal_in o.said; taken = o.taken; given = when eqb o.taken 0 then none else reply_in o.said };
   memory = o.memory;
 }
 

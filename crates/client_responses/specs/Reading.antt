@@ -1,7 +1,7 @@
 -- A response read, uncut (document 02, "The client's half").
 use Rattle.std.specs.Prelude.{ℕ, ◌+◌, Bool, not, ◌&&◌, ◌||◌, List, [], ◌∷◌, ◌++◌, length, take, drop, ltb, eqb}
 use Rattle.std.proofs.Math.Option.{Option, none, some}
-use Rattle.wire.specs.Choice.{if◌then◌else◌, first_of, is_some}
+use Rattle.wire.specs.Choice.{when◌then◌else◌, first_of, is_some}
 use Rattle.wire.specs.Lists.{every, one_of}
 use Rattle.wire.specs.Request.{magic_number, magic, header_size}
 use Rattle.wire.specs.Response.{response_header_size, response_least, response_of}
@@ -22,7 +22,7 @@ pub record Asked : Type 0 where
 
 -- provider 0 is core, 1 keystore
 abbrev pub provider_for : (opcode : ℕ) → ℕ
-provider_for opcode = if one_of core_opcodes opcode then 0 else 1
+provider_for opcode = when one_of core_opcodes opcode then 0 else 1
 
 -- ---- what a response is read as
 
@@ -42,7 +42,7 @@ is_its opcode session h =
 
 -- the content type that it must have: the accept type that was sent, with status 17 always 1
 unfoldable pub type_for : (accept_type status : ℕ) → ℕ
-type_for accept_type status = if eqb status 17 then 1 else accept_type
+type_for accept_type status = when eqb status 17 then 1 else accept_type
 
 -- status 17 with these three zero and no content, which is read as it stands
 unfoldable pub is_invalid_header : ResponseHeader → Bool
@@ -73,16 +73,16 @@ unfoldable pub found_behind : Asked → ResponseHeader → (bytes : List ℕ) �
 found_behind asked h bytes = elim (first_of (header_tests asked h)) [
   | some refusal ↦ some (refused refusal)
   | none ↦
-      if ltb (length bytes) (response_least + h.content_length) then none
+      when ltb (length bytes) (response_least + h.content_length) then none
       else some (body_reply (format_for asked.accept_type) asked.opcode h.status (take h.content_length (drop response_least bytes)))
 ]
 
 unfoldable pub found : Asked → (bytes : List ℕ) → Option Reply
 found asked bytes =
-    if ltb (length bytes) 6 then none
-    else if not (eqb (magic bytes) magic_number) then some (refused WrongMagic)
-    else if not (eqb (header_size bytes) response_header_size) then some (refused WrongHeaderSize)
-    else if ltb (length bytes) response_least then none
+    when ltb (length bytes) 6 then none
+    else when not (eqb (magic bytes) magic_number) then some (refused WrongMagic)
+    else when not (eqb (header_size bytes) response_header_size) then some (refused WrongHeaderSize)
+    else when ltb (length bytes) response_least then none
     else found_behind asked (response_of bytes) bytes
 
 -- THE READER: it keeps the bytes, and ends with a response or a refusal

@@ -1,7 +1,7 @@
 -- A reader's state in memory, and a call on it (docs/LAYOUT.md).
 use Rattle.std.specs.Prelude.{ℕ, ◌+◌, Bool, List, [], ◌∷◌, ◌++◌, length, take, drop, leb, eqb}
 use Rattle.std.proofs.Math.Option.{Option, none, some}
-use Rattle.wire.specs.Choice.{if◌then◌else◌}
+use Rattle.wire.specs.Choice.{when◌then◌else◌}
 use Rattle.wire.specs.Lists.{all, every, one_of, is_zero, padded}
 use Rattle.wire.specs.Numbers.{little_endian_of, field}
 use Rattle.wire.specs.Response.{response_least}
@@ -71,9 +71,9 @@ pub record Beginning : Type 0 where
 
 unfoldable pub begin_state : (memory : List ℕ) → Asked → Beginning
 begin_state memory asked =
-    if eqb (length memory) state_size then
-    (if one_of (core_opcodes ++ keystore_opcodes) asked.opcode then
-    (if one_of content_types asked.accept_type then record { answer = Fresh; memory = state_bytes asked [] }
+    when eqb (length memory) state_size then
+    (when one_of (core_opcodes ++ keystore_opcodes) asked.opcode then
+    (when one_of content_types asked.accept_type then record { answer = Fresh; memory = state_bytes asked [] }
     else record { answer = UnlistedType; memory = memory })
     else record { answer = UnlistedOpcode; memory = memory })
     else record { answer = WrongSize; memory = memory }
@@ -96,7 +96,7 @@ pub record ReadOutcome : Type 0 where
 
 -- an ill-formed state is refused: nothing is taken and nothing changes
 unfoldable pub refusal : (memory : List ℕ) → Call (Unit {0}) → Option (Unit {0})
-refusal memory call = if well_formed_state memory then none else some tt
+refusal memory call = when well_formed_state memory then none else some tt
 
 -- what is said is told by the bytes that are held after the call
 unfoldable pub read_outcome : (memory chunk : List ℕ) → ReadOutcome

@@ -4,7 +4,7 @@
 --   kind 1  skipping: how many bytes are to go, and the header
 --   kind 2  closed
 use Rattle.std.specs.Prelude.{ℕ, ◌+◌, Bool, ◌&&◌, List, [], ◌∷◌, ◌++◌, length, take, drop, get_or, eqb}
-use Rattle.wire.specs.Choice.{if◌then◌else◌}
+use Rattle.wire.specs.Choice.{when◌then◌else◌}
 use Rattle.wire.specs.Lists.{same, padded}
 use Rattle.wire.specs.Numbers.{little_endian_of, field}
 use Rattle.wire.specs.Request.{header_length}
@@ -38,8 +38,8 @@ connection_of memory =
     let kind = get_or memory 0 0 in
     let number = field 1 8 memory in
     let bytes = drop bytes_at memory in
-    if eqb kind 0 then opened (take number bytes)
-    else if eqb kind 1 then skipping (take (header_length bytes) bytes) number
+    when eqb kind 0 then opened (take number bytes)
+    else when eqb kind 1 then skipping (take (header_length bytes) bytes) number
     else closed
 
 -- of the one exact size, and the bytes of a well-formed connection; anything else is ill formed
@@ -55,5 +55,5 @@ pub record Opening : Type 0 where
 -- memory of the exact size becomes a fresh connection, and any other stays as it came
 unfoldable pub open_connection : (memory : List ℕ) → Opening
 open_connection memory =
-    if eqb (length memory) connection_size then record { answer = Fresh; memory = connection_bytes (opened []) }
+    when eqb (length memory) connection_size then record { answer = Fresh; memory = connection_bytes (opened []) }
     else record { answer = WrongSize; memory = memory }

@@ -9,7 +9,7 @@ use native.Mathlib.Omega.{arith}
 use borrow.Author.Tests.{eqb-true, eqb-false, ltb-true}
 use lib.ListN.{length, get_or, set}
 use lib.Dec.{ltb, eqb}
-use Rattle.wire.specs.Choice.{if◌then◌else◌, first_of}
+use Rattle.wire.specs.Choice.{when◌then◌else◌, first_of}
 use Rattle.wire.specs.Lists.{all}
 use Rattle.wire.specs.Request.{Request}
 use Rattle.wire.specs.Scan.{on, out, follow, scan_from, scan_at}
@@ -249,7 +249,7 @@ module _ (format : Format) (schema : Schema) (body : List ℕ) where
       → BrokenIn (length body) (follow (turn_of format at so f) rest)
   turn_breaks at so (field n value next) rest l ih = go (format.may_follow so.0 n)
     where
-      go : (t : Bool) → BrokenIn (length body) (follow (if t then on (n, set so.1 (n - 1) value) next else out (broken at)) rest)
+      go : (t : Bool) → BrokenIn (length body) (follow (when t then on (n, set so.1 (n - 1) value) next else out (broken at)) rest)
       go true = ih next (n, set so.1 (n - 1) value)
       go false = l
   turn_breaks at so (skipped next) rest l ih = ih next so

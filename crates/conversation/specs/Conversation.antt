@@ -1,6 +1,6 @@
 -- A conversation: requests, and what the client that sent them is to hear by the rules, request by request.
 use Rattle.std.specs.Prelude.{ℕ, List, [], ◌∷◌}
-use Rattle.wire.specs.Choice.{if◌then◌else◌}
+use Rattle.wire.specs.Choice.{when◌then◌else◌}
 use Rattle.wire.specs.Request.{request_of, request_bytes}
 use Rattle.messages.specs.Operations.{Operation, opcode_of}
 use Rattle.stream.specs.Frame.{oversized}
@@ -26,7 +26,7 @@ asked_by request = record { opcode = (request_of request).opcode; session = (req
 -- what the rules give it: an oversized one is refused by its header alone
 unfoldable pub result_for : (list registry request : List ℕ) → Result
 result_for list registry request =
-    if oversized request then refuse (oversized_status request) else result_of list registry (request_of request)
+    when oversized request then refuse (oversized_status request) else result_of list registry (request_of request)
 
 -- one after the other under one list, each on what the one before it left
 unfoldable pub replies_in_turn : (list registry : List ℕ) → Counts → (requests : List (List ℕ)) → List Reply

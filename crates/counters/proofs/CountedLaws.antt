@@ -6,7 +6,7 @@ use mathlib.Core.List.{[]}
 use native.Mathlib.Omega.{arith}
 use borrow.Author.Tests.{eqb-false}
 use lib.Dec.{eqb}
-use Rattle.wire.specs.Choice.{if◌then◌else◌}
+use Rattle.wire.specs.Choice.{when◌then◌else◌}
 use Rattle.judgement.specs.Status.{status_number}
 use Rattle.judgement.specs.Counts.{Counts, count_served, count_refused, count}
 use Rattle.judgement.specs.code.Decided.{askers_line, AskerBelow}
@@ -92,7 +92,7 @@ event_counts counts asker status = go (eqb (status_number status) 0) refl
     served (Named line) = refl
 
     go : (zero : Bool) → eqb (status_number status) 0 ≡ zero
-        → count_event counts (if zero then served_for asker else Refused status) ≡ (if zero then count_served counts (askers_line asker) else count_refused counts status)
+        → count_event counts (when zero then served_for asker else Refused status) ≡ (when zero then count_served counts (askers_line asker) else count_refused counts status)
     go true e = served asker
     go false e = refl
 
@@ -104,6 +104,6 @@ event_below asker status below = go (eqb (status_number status) 0) refl
     served Nobody b = tt
     served (Named line) b = b
 
-    go : (zero : Bool) → eqb (status_number status) 0 ≡ zero → EventBelow (if zero then served_for asker else Refused status)
+    go : (zero : Bool) → eqb (status_number status) 0 ≡ zero → EventBelow (when zero then served_for asker else Refused status)
     go true e = served asker below
     go false e = omega (arith, eqb-false (status_number status) 0 e)

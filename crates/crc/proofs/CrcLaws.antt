@@ -9,7 +9,7 @@ use lib.Arith.{bin_ind}
 use lib.Bits.{bit_xor, differ, xor_step, xor_zero_r, xor_shr, xor_shifted, shifted_half, shifted_even}
 use lib.Pow.{split}
 use lib.Dec.{eqb}
-use Rattle.wire.specs.Choice.{if◌then◌else◌}
+use Rattle.wire.specs.Choice.{when◌then◌else◌}
 use Rattle.crc.specs.Crc.{polynomial, shift_bit, shift_bits, shift_byte, register_after, crc32}
 
 -- ---- the order of three
@@ -54,10 +54,10 @@ module _ (a k y : ℕ) where
   bit_over : shift_bit (bit_xor (a * 2 ^ suc k) y) ≡ bit_xor (a * 2 ^ k) (shift_bit y)
   unfolding shift_bit
   bit_over =
-      ap₂ (λ (h o : ℕ). if eqb o 0 then h else bit_xor h polynomial) over_half over_odd ∙ go (eqb (y % 2) 0)
+      ap₂ (λ (h o : ℕ). when eqb o 0 then h else bit_xor h polynomial) over_half over_odd ∙ go (eqb (y % 2) 0)
     where
-      go : (t : Bool) → (if t then bit_xor (a * 2 ^ k) (y / 2) else bit_xor (bit_xor (a * 2 ^ k) (y / 2)) polynomial)
-          ≡ bit_xor (a * 2 ^ k) (if t then y / 2 else bit_xor (y / 2) polynomial)
+      go : (t : Bool) → (when t then bit_xor (a * 2 ^ k) (y / 2) else bit_xor (bit_xor (a * 2 ^ k) (y / 2)) polynomial)
+          ≡ bit_xor (a * 2 ^ k) (when t then y / 2 else bit_xor (y / 2) polynomial)
       go true = refl
       go false = xor_assoc (a * 2 ^ k) (y / 2) polynomial
 

@@ -10,7 +10,7 @@ use borrow.Author.Tests.{lt-ltb, le-ltb, ltb-true, eqb-true, eqb-false, eq-eqb}
 use lib.ListN.{length}
 use lib.Bits.{bit_xor, xor_zero_l, xor_zero_r, xor_comm, xor_lt, xor_shifted, xor_self, xor_block}
 use lib.Dec.{ltb, eqb}
-use Rattle.wire.specs.Choice.{if◌then◌else◌}
+use Rattle.wire.specs.Choice.{when◌then◌else◌}
 use Rattle.wire.specs.Lists.{all}
 use Rattle.wire.specs.Numbers.{little_endian}
 use Rattle.wire.proofs.TestLaws.{and_left, and_right, both}
@@ -50,7 +50,7 @@ abbrev high : ℕ
 high = 0x80000000
 
 unshift : ℕ → ℕ
-unshift y = if ltb y high then y * 2 else bit_xor y polynomial * 2 + 1
+unshift y = when ltb y high then y * 2 else bit_xor y polynomial * 2 + 1
 
 module _ (x : ℕ) (h : x < 2 ^ 32) where
   -- where a 1 falls out, the top bit is set
@@ -67,7 +67,7 @@ module _ (x : ℕ) (h : x < 2 ^ 32) where
   unfolding shift_bit
   shift_small = go (eqb (x % 2) 0)
     where
-      go : (t : Bool) → (if t then x / 2 else bit_xor (x / 2) polynomial) < 2 ^ 32
+      go : (t : Bool) → (when t then x / 2 else bit_xor (x / 2) polynomial) < 2 ^ 32
       go true = omega arith
       go false = omega (arith, odd, low)
 
@@ -75,7 +75,7 @@ module _ (x : ℕ) (h : x < 2 ^ 32) where
   unfolding shift_bit unshift
   unshift_shift = go (eqb (x % 2) 0) refl
     where
-      go : (t : Bool) → eqb (x % 2) 0 ≡ t → unshift (if t then x / 2 else bit_xor (x / 2) polynomial) ≡ x
+      go : (t : Bool) → eqb (x % 2) 0 ≡ t → unshift (when t then x / 2 else bit_xor (x / 2) polynomial) ≡ x
       go true e = rw (lt-ltb (x / 2) high (omega arith)) (omega (arith, eqb-true (x % 2) 0 e))
       go false e =
           rw (le-ltb (bit_xor (x / 2) polynomial) high (omega (arith, odd))) (omega (arith, back, eqb-false (x % 2) 0 e))

@@ -1,7 +1,7 @@
 -- CRC-32 by the bitwise rule (document 02, "Surviving a power cut"): reflected polynomial, register begun at all ones and inverted at the end.
 use Rattle.std.specs.Prelude.{ℕ, zero, suc, ◌/◌, ◌%◌, List, [], ◌∷◌, eqb}
 use Rattle.std.specs.Int.Bits.{bit_xor}
-use Rattle.wire.specs.Choice.{if◌then◌else◌}
+use Rattle.wire.specs.Choice.{when◌then◌else◌}
 
 abbrev pub polynomial : ℕ
 polynomial = 0xEDB88320
@@ -11,7 +11,7 @@ all_ones = 0xFFFFFFFF
 
 -- one bit: the register moves down by one, and where a 1 falls out the polynomial is added
 unfoldable pub shift_bit : (register : ℕ) → ℕ
-shift_bit register = if eqb (register % 2) 0 then register / 2 else bit_xor (register / 2) polynomial
+shift_bit register = when eqb (register % 2) 0 then register / 2 else bit_xor (register / 2) polynomial
 
 unfoldable pub shift_bits : (n register : ℕ) → ℕ
 shift_bits zero register = register

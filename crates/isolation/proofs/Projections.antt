@@ -8,7 +8,7 @@ use mathlib.Core.List.{List}
 use native.Mathlib.Omega.{arith}
 use borrow.Author.Tests.{eqb-true, eq-eqb, not-true}
 use lib.ListN.{length, get_or, take}
-use Rattle.wire.specs.Choice.{if◌then◌else◌}
+use Rattle.wire.specs.Choice.{when◌then◌else◌}
 use Rattle.wire.specs.Lists.{same}
 use Rattle.wire.specs.Request.{header_length, Request, request_of}
 use Rattle.wire.proofs.TestLaws.{every_at}
@@ -152,8 +152,8 @@ open_answer list list' r r' c c' bytes e = go (oversized bytes)
     q : Request
     q = request_of bytes
 
-    go : (t : Bool) → (if t then (judgement list).on_oversized r c (take (header_length bytes) bytes) else (judgement list).on_request r c bytes).response
-        ≡ (if t then (judgement list').on_oversized r' c' (take (header_length bytes) bytes) else (judgement list').on_request r' c' bytes).response
+    go : (t : Bool) → (when t then (judgement list).on_oversized r c (take (header_length bytes) bytes) else (judgement list).on_request r c bytes).response
+        ≡ (when t then (judgement list').on_oversized r' c' (take (header_length bytes) bytes) else (judgement list').on_request r' c' bytes).response
     go true = refl
     go false =
         ap (answer_bytes q) (open_result list list' r r' q e)

@@ -4,7 +4,7 @@ use Prim.Native.Nat.{ℕ}
 use mathlib.Core.Logic.{◌⊎◌, inl, inr}
 use mathlib.Core.Bool.{Bool, true, false}
 use mathlib.Core.List.{List, [], ◌∷◌, map}
-use Rattle.wire.specs.Choice.{if◌then◌else◌}
+use Rattle.wire.specs.Choice.{when◌then◌else◌}
 use Rattle.stream.specs.Rules.{Verdict, Judgement}
 use Rattle.stream.specs.Parts.{verdict_on}
 use Rattle.stream.proofs.PartsLaws.{counts_from, registry_from}
@@ -13,7 +13,7 @@ use Rattle.isolation.specs.History.{Exchange, requests, responses, those}
 -- the requests that pass a test
 unfoldable pub only : (List ℕ → Bool) → List (List ℕ) → List (List ℕ)
 only p [] = []
-only p (q ∷ qs) = if p q then q ∷ only p qs else only p qs
+only p (q ∷ qs) = when p q then q ∷ only p qs else only p qs
 
 pub only_those : (p : List ℕ → Bool) (xs : List Exchange) → requests (those p xs) ≡ only p (requests xs)
 unfolding only those

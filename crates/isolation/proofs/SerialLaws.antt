@@ -9,7 +9,7 @@ use native.Mathlib.Omega.{arith}
 use borrow.Author.Tests.{eq-eqb, ne_eqb, eqb-true}
 use lib.ListN.{length, take}
 use lib.Dec.{eqb}
-use Rattle.wire.specs.Choice.{if◌then◌else◌}
+use Rattle.wire.specs.Choice.{when◌then◌else◌}
 use Rattle.reading.specs.Call.{Effect}
 use Rattle.reading.specs.Calls.{took}
 use Rattle.reading.specs.Buffer.{written, bytes_of}
@@ -107,7 +107,7 @@ module _ (list : List ℕ) where
   unfolding with
   leaves_closed h j k after on apart = go (eqb k j) refl
     where
-      go : (t : Bool) → eqb k j ≡ t → connection_of (if t then after.connection else h.connections k) ≡ closed
+      go : (t : Bool) → eqb k j ≡ t → connection_of (when t then after.connection else h.connections k) ≡ closed
       go true e = on (eqb-true k j e)
       go false e = apart e
 
@@ -140,7 +140,7 @@ module _ (list : List ℕ) where
       more w' = exchanges_from w' calls (history_of list h' calls).answers
 
       go : (b : Bool) → eqb o.answer.given.response.count 0 ≡ b → ((w' : ℕ → List ℕ) (k : ℕ) → connection_of (h'.connections k) ≡ closed → NoneOn k (more w'))
-          → NoneOn k (if b then more (with w j bytes) else (record { connection = j; request = bytes; response = bytes_of o.answer.given.response } ∷ more (with w j [])))
+          → NoneOn k (when b then more (with w j bytes) else (record { connection = j; request = bytes; response = bytes_of o.answer.given.response } ∷ more (with w j [])))
       go true n ih = ih (with w j bytes) k closed_still
       go false n ih = (
         ne_eqb j k (λ same. true≢false (sym (eq-eqb o.answer.given.response.count 0 (here (sym same)).nothing_written) ∙ n)),
@@ -157,7 +157,7 @@ module _ (list : List ℕ) where
   unfolding with
   still h w k after bytes all here j = go (eqb j k)
     where
-      go : (t : Bool) → Stands (connection_of (if t then after.connection else h.connections j)) (if t then bytes else w j)
+      go : (t : Bool) → Stands (connection_of (when t then after.connection else h.connections j)) (when t then bytes else w j)
       go true = here
       go false = all j
 
@@ -217,7 +217,7 @@ module _ (list : List ℕ) where
       go : (b : Bool) → HappenedIf list b (lent h k) bytes response o.memory
           → ((w' : ℕ → List ℕ) → AllStand h' w' → Serial h'.registry (counts_in h'.counters) (history_of list h' calls).host (more w'))
           → Serial h.registry (counts_in h.counters) (history_of list h' calls).host
-          (if b then more (with w k bytes) else (record { connection = k; request = bytes; response = response } ∷ more (with w k [])))
+          (when b then more (with w k bytes) else (record { connection = k; request = bytes; response = response } ∷ more (with w k [])))
       go true (stands, same, counts) ih =
           subst (λ (r : List ℕ). Serial r (counts_in h.counters) (history_of list h' calls).host (more (with w k bytes))) same
           (subst (λ (c : Counts). Serial o.memory.registry c (history_of list h' calls).host (more (with w k bytes))) counts

@@ -1,7 +1,7 @@
 -- Many connections share one registry and one set of counters, one whole call at a time: histories of calls, and what they
 -- answered (document 02, "One application can't sway another").
 use Rattle.std.specs.Prelude.{ℕ, Bool, not, List, [], ◌∷◌, ◌++◌, map, take, eqb}
-use Rattle.wire.specs.Choice.{if◌then◌else◌}
+use Rattle.wire.specs.Choice.{when◌then◌else◌}
 use Rattle.wire.specs.Lists.{every, same}
 use Rattle.wire.specs.Request.{request_of}
 use Rattle.reading.specs.Buffer.{bytes_of}
@@ -21,7 +21,7 @@ pub record Host : Type 0 where
 
 -- `f` with `v` at k
 unfoldable pub with : {A : Type 0} → (f : ℕ → A) (k : ℕ) (v : A) → ℕ → A
-with f k v j = if eqb j k then v else f j
+with f k v j = when eqb j k then v else f j
 
 -- what a call on connection k is lent, and what the host keeps after it
 abbrev pub lent : Host → (k : ℕ) → Memory
@@ -69,7 +69,7 @@ exchanges_from waiting [] answers = []
 exchanges_from waiting (c ∷ calls) [] = []
 exchanges_from waiting (c ∷ calls) (a ∷ answers) =
     let bytes = waiting c.connection ++ take a.taken c.call.chunk in
-    if eqb a.given.response.count 0 then exchanges_from (with waiting c.connection bytes) calls answers
+    when eqb a.given.response.count 0 then exchanges_from (with waiting c.connection bytes) calls answers
     else (record { connection = c.connection; request = bytes; response = bytes_of a.given.response } ∷ exchanges_from (with waiting c.connection []) calls answers)
 
 unfoldable pub exchanges : List CallOn → List Answer → List Exchange
@@ -94,7 +94,7 @@ is_by name request = every (own_tests name request)
 -- those whose request passes the test
 unfoldable pub those : (List ℕ → Bool) → List Exchange → List Exchange
 those p [] = []
-those p (x ∷ xs) = if p x.request then x ∷ those p xs else those p xs
+those p (x ∷ xs) = when p x.request then x ∷ those p xs else those p xs
 
 abbrev pub own : (name : List ℕ) → List Exchange → List Exchange
 own name xs = those (is_by name) xs

@@ -10,7 +10,7 @@ use borrow.Author.Tests.{lt-leb, leb-true, leb-false, lt-ltb, ltb-true, ltb-fals
 use lib.ListN.{length, take, drop, set, replicate, length-append, length-take, length-drop, take-append-drop}
 use lib.Seq.{take_all, take-append-le, drop-append-le}
 use lib.Dec.{leb, ltb, eqb}
-use Rattle.wire.specs.Choice.{if◌then◌else◌, is_some}
+use Rattle.wire.specs.Choice.{when◌then◌else◌, is_some}
 use Rattle.wire.specs.Lists.{all, padded}
 use Rattle.wire.specs.Numbers.{little_endian, field}
 use Rattle.wire.proofs.TestLaws.{and_left, and_right, either}
@@ -93,7 +93,7 @@ module _ (h : List ℕ) where
         n : ℕ
         n = length h
 
-        go : (t : Bool) → ltb n front_most ≡ t → (if t then set front n b else front) ≡ padded front_most (take front_most more)
+        go : (t : Bool) → ltb n front_most ≡ t → (when t then set front n b else front) ≡ padded front_most (take front_most more)
         go true e =
             let short : n < front_most = ltb-true _ _ e in
             let k : ℕ = front_most - (n + 1) in
@@ -149,12 +149,12 @@ module _ (h : List ℕ) (e : sealed_length h ≡ length h) (w : all is_byte h �
 
   act_same : act_in_front (front h) ≡ act_in (record_in h)
   unfolding act_in_front
-  act_same = ap (λ (n : ℕ). if ltb value_most n then none else act_in (record_in (front h))) n_is ∙ go (ltb value_most (field 1 2 h)) refl
+  act_same = ap (λ (n : ℕ). when ltb value_most n then none else act_in (record_in (front h))) n_is ∙ go (ltb value_most (field 1 2 h)) refl
     where
       n_is : field 1 2 (front h) ≡ field 1 2 h
       n_is = told h (omega arith)
 
-      go : (t : Bool) → ltb value_most (field 1 2 h) ≡ t → (if t then none else act_in (record_in (front h))) ≡ act_in (record_in h)
+      go : (t : Bool) → ltb value_most (field 1 2 h) ≡ t → (when t then none else act_in (record_in (front h))) ≡ act_in (record_in h)
       go true t =
           let long : length (value_in h) ≡ field 1 2 h = length_part h 3 (field 1 2 h) (omega arith) in
           let more : value_most < field 1 2 h = ltb-true _ _ t in
@@ -168,7 +168,7 @@ module _ (h : List ℕ) (e : sealed_length h ≡ length h) (w : all is_byte h �
 
   judge_same : (g : List ℕ) → judge_begun g (register_after all_ones h) (front h) ≡ judge_record g h
   unfolding judge_begun judge_record
-  judge_same g = ap₂ (λ (t : Bool) (o : Option Act). if not t then bad WrongCrc else judge_act g o) crc_same act_same
+  judge_same g = ap₂ (λ (t : Bool) (o : Option Act). when not t then bad WrongCrc else judge_act g o) crc_same act_same
 
 -- ---- one byte
 

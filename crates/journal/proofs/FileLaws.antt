@@ -9,7 +9,7 @@ use native.Mathlib.Nat.{zero-add, le_refl}
 use borrow.Author.Tests.{eq-eqb, ne_eqb}
 use lib.ListN.{length, take, length-append, length-take}
 use lib.Dec.{ltb, eqb}
-use Rattle.wire.specs.Choice.{if◌then◌else◌, is_some}
+use Rattle.wire.specs.Choice.{when◌then◌else◌, is_some}
 use Rattle.wire.specs.Lists.{all}
 use Rattle.wire.proofs.ListLaws.{all_take}
 use Rattle.registry.specs.WellFormed.{well_formed_registry}
@@ -32,16 +32,16 @@ reads_as registry file result w f e = subst (ReadsAs registry file) e (file_back
 -- ---- a file of which no record is refused
 
 -- the reader is at a border, or waits for the rest of a record
-border : (held : List ℕ) (kept n : ℕ) → n ≡ kept + length held → said_for none held ≡ (if eqb kept n then AtBorder else Waiting)
+border : (held : List ℕ) (kept n : ℕ) → n ≡ kept + length held → said_for none held ≡ (when eqb kept n then AtBorder else Waiting)
 border [] kept n e = rw (eq-eqb kept n (omega arith))
 border (b ∷ held) kept n e = rw (ne_eqb kept n (λ z. omega (arith, z)))
 
-border_alone : (held : List ℕ) → said_for none held ≡ (if eqb (length held) 0 then AtBorder else Waiting)
+border_alone : (held : List ℕ) → said_for none held ≡ (when eqb (length held) 0 then AtBorder else Waiting)
 border_alone [] = refl
 border_alone (b ∷ held) = rw (ne_eqb (length (b ∷ held)) 0 (λ z. omega (arith, z)))
 
 pub unrefused : (registry file after held : List ℕ) (kept : ℕ) → (read_journal registry file).kept ≡ reading after kept held → length file ≡ kept + length held
-    → read_back registry file ≡ record { said = if eqb kept (length file) then AtBorder else Waiting; taken = length file; kept = kept; registry = after }
+    → read_back registry file ≡ record { said = when eqb kept (length file) then AtBorder else Waiting; taken = length file; kept = kept; registry = after }
 unfolding is_some
 unrefused registry file after held kept e n =
     let all_taken : (read_journal registry file).taken ≡ length file

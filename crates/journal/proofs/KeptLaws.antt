@@ -7,7 +7,7 @@ use Prim.Native.Nat.{ℕ}
 use borrow.Author.Tests.{ltb-true}
 use lib.ListN.{take}
 use lib.Dec.{ltb, eqb}
-use Rattle.wire.specs.Choice.{if◌then◌else◌}
+use Rattle.wire.specs.Choice.{when◌then◌else◌}
 use Rattle.wire.specs.Numbers.{field}
 use Rattle.wire.proofs.TestLaws.{and_left, and_right, some≢none, either}
 use Rattle.keys.specs.Names.{legal_name, key_name_most}
@@ -56,7 +56,7 @@ module _ (r : List ℕ) (line : Line) where
   unfolding carried_out
   carried_is x after e = go (in_use r line) (eqb (status_number x.status) 0) e
     where
-      go : (t v : Bool) → (let o : Option (List ℕ) = if t && v then some (changed r line x.change) else none in o) ≡ some after
+      go : (t v : Bool) → (let o : Option (List ℕ) = when t && v then some (changed r line x.change) else none in o) ≡ some after
           → (t ≡ true) × (changed r line x.change ≡ after)
       go true true q = (refl, cc)
       go true false q = absurd (some≢none after (sym q))

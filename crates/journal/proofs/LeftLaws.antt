@@ -9,7 +9,7 @@ use borrow.Author.Tests.{le-leb, lt-leb, le-ltb, lt-ltb, ltb-true, eqb-true, eqb
 use lib.ListN.{length, take, drop, get_or, length-take, length-drop, get_or-map}
 use lib.Seq.{get_or-take, get_or-drop}
 use lib.Dec.{eqb}
-use Rattle.wire.specs.Choice.{if◌then◌else◌}
+use Rattle.wire.specs.Choice.{when◌then◌else◌}
 use Rattle.wire.specs.Lists.{every}
 use Rattle.wire.specs.Numbers.{field}
 use Rattle.wire.proofs.TestLaws.{and_left}
@@ -61,9 +61,9 @@ module _ (g : List ℕ) (size : length g ≡ registry_size) (line : Line) where
 
 module _ (v : List ℕ) (few : length v ≤ value_most) where
   import_as : (t : Bool) → every (import_tests v) ≡ t
-      → act_in (record { tag = 2; value = v }) ≡ (if t then some (importing (line_in v) (key_in v)) else none)
+      → act_in (record { tag = 2; value = v }) ≡ (when t then some (importing (line_in v) (key_in v)) else none)
   unfolding act_in
-  import_as t e = rw (le-ltb value_most (length v) few) (ap (λ (b : Bool). if b then some (importing (line_in v) (key_in v)) else none) e)
+  import_as t e = rw (le-ltb value_most (length v) few) (ap (λ (b : Bool). when b then some (importing (line_in v) (key_in v)) else none) e)
 
   pub import_short : length v < name_at → act_in (record { tag = 2; value = v }) ≡ none
   import_short h = import_as false (rw (lt-leb name_at (length v) h))
@@ -117,12 +117,12 @@ module _ (g : List ℕ) (r : Record) where
     unfolding left_by fault_number carried_out
     left_unused u = sym (carried_left none (rw u))
 
-    pub left_done : in_use g line ≡ true → (d : Done) → d ≡ done_on g line x → record { fault = if d.served then 0 else 3; registry = d.registry } ≡ left
+    pub left_done : in_use g line ≡ true → (d : Done) → d ≡ done_on g line x → record { fault = when d.served then 0 else 3; registry = d.registry } ≡ left
     unfolding left_by fault_number carried_out done_on
-    left_done u d q = ap (λ (y : Done). record { fault = if y.served then 0 else 3; registry = y.registry }) q ∙ go (eqb (status_number x.status) 0) refl
+    left_done u d q = ap (λ (y : Done). record { fault = when y.served then 0 else 3; registry = y.registry }) q ∙ go (eqb (status_number x.status) 0) refl
       where
         go : (t : Bool) → eqb (status_number x.status) 0 ≡ t
-            → record { fault = if t then 0 else 3; registry = if t then changed g line x.change else g } ≡ left
+            → record { fault = when t then 0 else 3; registry = when t then changed g line x.change else g } ≡ left
         go true s = sym (carried_left (some (changed g line x.change)) (rw (u, s)))
         go false s = sym (carried_left none (rw (u, s)))
 
@@ -167,7 +167,7 @@ module _ (g v : List ℕ) where
 
     pub destroy_left : in_use g (line_in v) ≡ true → (t : Bool) (after : List ℕ)
         → record { served = t; registry = after } ≡ done_on g (line_in v) (perform_destroy (drop 1 v) (slots_of g (line_in v)) [])
-        → record { fault = if t then 0 else 3; registry = after } ≡ left g (record { tag = 3; value = v })
+        → record { fault = when t then 0 else 3; registry = after } ≡ left g (record { tag = 3; value = v })
     destroy_left u t after q = left_done g _ (line_in v) (perform_destroy (drop 1 v) (slots_of g (line_in v)) []) _ there (unfold replay in refl) u (record { served = t; registry = after }) q
 
   module _ (there : act_in (record { tag = 2; value = v }) ≡ some (importing (line_in v) (key_in v))) where
@@ -176,5 +176,5 @@ module _ (g v : List ℕ) where
 
     pub import_left : in_use g (line_in v) ≡ true → (t : Bool) (after : List ℕ)
         → record { served = t; registry = after } ≡ done_on g (line_in v) (import_by legal_bits (key_in v) (slots_of g (line_in v)) [])
-        → record { fault = if t then 0 else 3; registry = after } ≡ left g (record { tag = 2; value = v })
+        → record { fault = when t then 0 else 3; registry = after } ≡ left g (record { tag = 2; value = v })
     import_left u t after q = left_done g _ (line_in v) (import_by legal_bits (key_in v) (slots_of g (line_in v)) []) _ there (unfold replay in refl) u (record { served = t; registry = after }) q

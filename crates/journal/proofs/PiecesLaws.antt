@@ -10,7 +10,7 @@ use native.Mathlib.Nat.{zero-add}
 use borrow.Author.Tests.{ne_eqb, eqb-true}
 use lib.ListN.{length}
 use lib.Dec.{eqb}
-use Rattle.wire.specs.Choice.{if◌then◌else◌}
+use Rattle.wire.specs.Choice.{when◌then◌else◌}
 use Rattle.wire.proofs.TestLaws.{either, or_left, not_across, some≢none, none_at}
 use Rattle.registry.specs.WellFormed.{well_formed_registry}
 use Rattle.reading.specs.Reader.{Step, Reading, read}
@@ -157,7 +157,7 @@ on_call s call r = rw (accepted s r, call_on, state_back s)
 
 -- a call that takes a byte brings the fault that it says
 gives : (s : Compact) (chunk : List ℕ)
-    → (let e = call_rule compact_journal s chunk in (if eqb e.taken 0 then none else fault_in (said_of e.kept.fault e.kept.count)) ≡ e.event)
+    → (let e = call_rule compact_journal s chunk in (when eqb e.taken 0 then none else fault_in (said_of e.kept.fault e.kept.count)) ≡ e.event)
 unfolding call_rule
 gives s [] = refl
 gives s (b ∷ chunk) =

@@ -9,7 +9,7 @@ use borrow.Author.Tests.{le-leb, le-ltb, eq-eqb}
 use lib.ListN.{length, take, drop, length-append}
 use lib.Seq.{take-append_seam, drop-append_seam, take_at, drop_at, drop-drop}
 use lib.Dec.{leb, eqb}
-use Rattle.wire.specs.Choice.{if◌then◌else◌}
+use Rattle.wire.specs.Choice.{when◌then◌else◌}
 use Rattle.wire.specs.Lists.{every}
 use Rattle.wire.specs.Numbers.{little_endian_of, field}
 use Rattle.wire.proofs.NumberLaws.{length_number, field_byte, field_back}
@@ -68,8 +68,8 @@ module _ (line : Line) (key : Key) where
   import_back : length value ≤ value_most → act_in (record { tag = 2; value = value }) ≡ some (importing line key)
   unfolding act_in
   import_back h =
-      ap (λ (t : Bool). let a : Option Act = if t then none else if every (import_tests value) then some (importing (line_in value) (key_in value)) else none in a) (le-ltb _ _ h)
-      ∙ ap (λ (t : Bool). let a : Option Act = if t then some (importing (line_in value) (key_in value)) else none in a) import_tests_lem
+      ap (λ (t : Bool). let a : Option Act = when t then none else when every (import_tests value) then some (importing (line_in value) (key_in value)) else none in a) (le-ltb _ _ h)
+      ∙ ap (λ (t : Bool). let a : Option Act = when t then some (importing (line_in value) (key_in value)) else none in a) import_tests_lem
       ∙ ap₂ (λ (l : Line) (k : Key). some (importing l k)) (unfold value_of in refl) key_back
 
 destroy_back : (line : Line) (name : List ℕ) → length (value_of (destroying line name)) ≤ value_most → act_in (record { tag = 3; value = value_of (destroying line name) }) ≡ some (destroying line name)

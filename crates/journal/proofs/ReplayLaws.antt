@@ -8,7 +8,7 @@ use native.Mathlib.Omega.{arith}
 use borrow.Author.Tests.{lt-ltb, eqb-true}
 use lib.ListN.{length, get_or, length-append}
 use lib.Dec.{ltb, eqb}
-use Rattle.wire.specs.Choice.{if◌then◌else◌}
+use Rattle.wire.specs.Choice.{when◌then◌else◌}
 use Rattle.wire.specs.Numbers.{little_endian_of}
 use Rattle.wire.specs.Request.{Request}
 use Rattle.wire.proofs.TestLaws.{some≢none, either}
@@ -214,7 +214,7 @@ pub served_carried : (r : List ℕ) (line : Line) (x : Result) (after : List ℕ
 unfolding carried_out
 served_carried r line x after e = go (in_use r line) (is_served x) e
   where
-    go : (t u : Bool) → (let o : Option (List ℕ) = if t && u then some (changed r line x.change) else none in o) ≡ some after → u ≡ true
+    go : (t u : Bool) → (let o : Option (List ℕ) = when t && u then some (changed r line x.change) else none in o) ≡ some after → u ≡ true
     go true true w = refl
     go true false w = absurd (some≢none after (sym w))
     go false u w = absurd (some≢none after (sym w))

@@ -3,7 +3,7 @@
 use Rattle.std.specs.Prelude.{◌≡◌, ℕ, ◌+◌, ◌≤◌, Bool, true, false, length, take, ltb, eqb}
 use Rattle.std.proofs.Math.Option.{Option, none, some}
 use mathlib.Core.List.{List, [], ◌∷◌, ◌++◌, map, flatten}
-use Rattle.wire.specs.Choice.{if◌then◌else◌}
+use Rattle.wire.specs.Choice.{when◌then◌else◌}
 use Rattle.wire.specs.Lists.{all}
 use Rattle.registry.specs.WellFormed.{well_formed_registry}
 use Rattle.reading.specs.Reader.{Reading, read}
@@ -43,7 +43,7 @@ fault_in (Refused fault) = some fault
 -- again
 abbrev pub ran_as : ReadOutcome → CallOutcome Memory Said (Option Fault)
 ran_as r = record {
-  answer = record { refusal = refusal_in r.said; taken = r.taken; given = if eqb r.taken 0 then none else fault_in r.said };
+  answer = record { refusal = refusal_in r.said; taken = r.taken; given = when eqb r.taken 0 then none else fault_in r.said };
   memory = record { registry = r.registry; state = r.state };
 }
 
@@ -130,7 +130,7 @@ pub record CutAt (registry : List ℕ) (records : List (List ℕ)) (n : ℕ) : T
   pub replayed : after_all registry (whole_in n records) ≡ some after
   pub reads : (let file : List ℕ = take n (flatten records) in
       let kept : ℕ = length (flatten (whole_in n records)) in
-      ReadsAs registry file (record { said = if eqb kept (length file) then AtBorder else Waiting; taken = length file; kept = kept; registry = after }))
+      ReadsAs registry file (record { said = when eqb kept (length file) then AtBorder else Waiting; taken = length file; kept = kept; registry = after }))
 
 abbrev pub CutAnywhere : Type 0
 CutAnywhere = (registry : List ℕ) (records : List (List ℕ)) (last : List ℕ) → well_formed_registry registry ≡ true → all is_record records ≡ true
@@ -160,7 +160,7 @@ module _ (registry : List ℕ) (records : List (List ℕ)) (last : List ℕ) whe
   abbrev pub Waits : Type 0
   Waits = (rest : List ℕ) → is_whole rest ≡ false
       → (let file : List ℕ = flatten records ++ rest in
-      is_file file → ReadsAs registry file (record { said = if eqb (length rest) 0 then AtBorder else Waiting; taken = length file; kept = length (flatten records); registry = last }))
+      is_file file → ReadsAs registry file (record { said = when eqb (length rest) 0 then AtBorder else Waiting; taken = length file; kept = length (flatten records); registry = last }))
 
   -- J1, J2, J3: the first record that is refused ends the reading with its last byte, whatever stands behind it; the records
   -- before it are kept

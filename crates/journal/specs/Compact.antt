@@ -2,7 +2,7 @@
 -- of them. So no record, however long it says it is, needs more room than the longest import.
 use Rattle.std.specs.Prelude.{ℕ, ◌+◌, ◌^◌, Bool, not, ◌&&◌, ◌||◌, List, set, replicate, leb, ltb, eqb}
 use Rattle.std.proofs.Math.Option.{Option, none, some}
-use Rattle.wire.specs.Choice.{if◌then◌else◌}
+use Rattle.wire.specs.Choice.{when◌then◌else◌}
 use Rattle.wire.specs.Numbers.{field}
 use Rattle.reading.specs.Reader.{Step, Reader}
 use Rattle.records.specs.Records.{record_in}
@@ -42,7 +42,7 @@ between registry fault kept = record {
 -- ---- one byte more
 
 unfoldable pub front_then : (front : List ℕ) (count byte : ℕ) → List ℕ
-front_then front count byte = if ltb count front_most then set front count byte else front
+front_then front count byte = when ltb count front_most then set front count byte else front
 
 unfoldable pub with_byte : Compact → (byte : ℕ) → Compact
 with_byte s byte = record {
@@ -60,10 +60,10 @@ is_begun_whole count front = leb 3 count && leb (sealed_length front) count
 
 -- what a front says; a value that is too long for the layout is not all there
 unfoldable pub act_in_front : (front : List ℕ) → Option Act
-act_in_front front = if ltb value_most (field 1 2 front) then none else act_in (record_in front)
+act_in_front front = when ltb value_most (field 1 2 front) then none else act_in (record_in front)
 
 unfoldable pub judge_begun : (registry : List ℕ) (register : ℕ) (front : List ℕ) → Judged
-judge_begun registry register front = if not (eqb register residue) then bad WrongCrc else judge_act registry (act_in_front front)
+judge_begun registry register front = when not (eqb register residue) then bad WrongCrc else judge_act registry (act_in_front front)
 
 unfoldable pub compact_record : Compact → Judged → Step Compact Fault
 compact_record s (good after) = record { kept = between after 0 (s.kept + s.count); event = none }
@@ -71,7 +71,7 @@ compact_record s (bad fault) = record { kept = between s.registry (fault_number 
 
 unfoldable pub compact_step : Compact → Step Compact Fault
 compact_step s =
-    if is_begun_whole s.count s.front then compact_record s (judge_begun s.registry s.register s.front)
+    when is_begun_whole s.count s.front then compact_record s (judge_begun s.registry s.register s.front)
     else record { kept = s; event = none }
 
 -- it has ended with a fault, or with the longest file

@@ -1,7 +1,7 @@
 -- A journal file: records, one behind the other, and those that are whole in its first bytes.
 use Rattle.std.specs.Prelude.{ℕ, ◌-◌, Bool, List, [], ◌∷◌, length, leb, eqb}
 use Rattle.std.proofs.Math.Option.{Option, none, some}
-use Rattle.wire.specs.Choice.{if◌then◌else◌}
+use Rattle.wire.specs.Choice.{when◌then◌else◌}
 use Rattle.journal.specs.Record.{sealed_length}
 use Rattle.journal.specs.Replay.{good, bad, judge_record}
 
@@ -20,4 +20,4 @@ after_all registry (bytes ∷ records) = elim (judge_record registry bytes) [
 -- the records that end within the first n bytes of the file
 unfoldable pub whole_in : (n : ℕ) (records : List (List ℕ)) → List (List ℕ)
 whole_in n [] = []
-whole_in n (bytes ∷ records) = if leb (length bytes) n then bytes ∷ whole_in (n - length bytes) records else []
+whole_in n (bytes ∷ records) = when leb (length bytes) n then bytes ∷ whole_in (n - length bytes) records else []

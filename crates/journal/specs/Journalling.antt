@@ -2,7 +2,7 @@
 use Rattle.std.specs.Prelude.{ℕ, eqb}
 use Rattle.std.proofs.Math.Option.{Option, none, some}
 use mathlib.Core.List.{List, [], map, flatten}
-use Rattle.wire.specs.Choice.{if◌then◌else◌}
+use Rattle.wire.specs.Choice.{when◌then◌else◌}
 use Rattle.wire.specs.Request.{Request, request_of}
 use Rattle.stream.specs.Rules.{Verdict, Judgement, rules}
 use Rattle.stream.specs.Handed.{Handed, recording}
@@ -31,7 +31,7 @@ act_asked (some line) (some operation) = act_of line operation
 -- the import or destroy that a request is served
 unfoldable pub served_act : (list registry : List ℕ) → Request → Option Act
 served_act list registry q =
-    if eqb (status_number (result_of list registry q).status) 0 then act_asked (application_of registry q) (operation_of (format_of (format_for q.content_type)) q.opcode q.body)
+    when eqb (status_number (result_of list registry q).status) 0 then act_asked (application_of registry q) (operation_of (format_of (format_for q.content_type)) q.opcode q.body)
     else none
 
 -- its record; none is no bytes

@@ -2,7 +2,7 @@
 -- ill-formed reader's state.
 use Rattle.std.specs.Prelude.{ℕ, ◌+◌, Bool, true, false, not, List, [], ◌∷◌, ◌++◌, length, drop, get_or, leb, eqb}
 use Rattle.std.proofs.Math.Option.{Option, none, some}
-use Rattle.wire.specs.Choice.{if◌then◌else◌, first_of}
+use Rattle.wire.specs.Choice.{when◌then◌else◌, first_of}
 use Rattle.wire.specs.Lists.{all, every, is_zero}
 use Rattle.wire.specs.Numbers.{little_endian_of, field}
 use Rattle.registry.specs.WellFormed.{well_formed_registry}
@@ -72,7 +72,7 @@ pub record Beginning : Type 0 where
 -- memory of another size stays as it came
 unfoldable pub begin_state : (state : List ℕ) → Beginning
 begin_state state =
-    if eqb (length state) state_size then record { begun = true; state = fresh_state } else record { begun = false; state = state }
+    when eqb (length state) state_size then record { begun = true; state = fresh_state } else record { begun = false; state = state }
 
 -- ---- A CALL'S WHOLE OUTCOME
 
@@ -82,10 +82,10 @@ read_refusal registry state =
 
 -- J1 to J3, by their numbers
 unfoldable pub fault_of : ℕ → Fault
-fault_of n = if eqb n 1 then WrongCrc else if eqb n 2 then WrongLayout else NotAllowed
+fault_of n = when eqb n 1 then WrongCrc else when eqb n 2 then WrongLayout else NotAllowed
 
 unfoldable pub said_of : (fault count : ℕ) → Said
-said_of fault count = if not (eqb fault 0) then Refused (fault_of fault) else if eqb count 0 then AtBorder else Waiting
+said_of fault count = when not (eqb fault 0) then Refused (fault_of fault) else when eqb count 0 then AtBorder else Waiting
 
 pub record ReadOutcome : Type 0 where
   pub said : Said

@@ -1,7 +1,7 @@
 -- THE JOURNAL'S READER: record by record, each judged once it is whole; it ends with the first that is refused.
 use Rattle.std.specs.Prelude.{ℕ, ◌+◌, List, [], ◌∷◌, ◌++◌, length}
 use Rattle.std.proofs.Math.Option.{Option, none, some}
-use Rattle.wire.specs.Choice.{if◌then◌else◌, is_some}
+use Rattle.wire.specs.Choice.{when◌then◌else◌, is_some}
 use Rattle.reading.specs.Reader.{Step, Reader, Reading, read}
 use Rattle.journal.specs.Record.{is_whole}
 use Rattle.journal.specs.declared.Fault.{Fault}
@@ -28,7 +28,7 @@ after_record registry kept bytes (bad fault) = record { kept = stopped registry 
 -- these bytes are held now
 unfoldable pub after_byte : Kept → (bytes : List ℕ) → Step Kept Fault
 after_byte s bytes =
-    if is_whole bytes then after_record s.registry s.kept bytes (judge_record s.registry bytes)
+    when is_whole bytes then after_record s.registry s.kept bytes (judge_record s.registry bytes)
     else record { kept = reading s.registry s.kept bytes; event = none }
 
 abbrev pub journal : Reader Kept Fault

@@ -2,7 +2,7 @@
 -- these.
 use Rattle.std.specs.Prelude.{ℕ, ◌+◌, Bool, ◌&&◌, List, [], ◌∷◌, ◌++◌, length, take, drop, get_or, leb, ltb, eqb}
 use Rattle.std.proofs.Math.Option.{Option, none, some}
-use Rattle.wire.specs.Choice.{if◌then◌else◌}
+use Rattle.wire.specs.Choice.{when◌then◌else◌}
 use Rattle.wire.specs.Lists.{every}
 use Rattle.wire.specs.Numbers.{little_endian_of, field}
 use Rattle.records.specs.Records.{Record, record_length}
@@ -89,7 +89,7 @@ record_most = 3 + value_most + 4
 -- what a record says, if it has the layout; no value is longer than that of the longest import
 unfoldable pub act_in : Record → Option Act
 act_in r =
-    if ltb value_most (length r.value) then none
-    else if eqb r.tag 2 then (if every (import_tests r.value) then some (importing (line_in r.value) (key_in r.value)) else none)
-    else if eqb r.tag 3 then (if leb 1 (length r.value) then some (destroying (line_in r.value) (drop 1 r.value)) else none)
+    when ltb value_most (length r.value) then none
+    else when eqb r.tag 2 then (when every (import_tests r.value) then some (importing (line_in r.value) (key_in r.value)) else none)
+    else when eqb r.tag 3 then (when leb 1 (length r.value) then some (destroying (line_in r.value) (drop 1 r.value)) else none)
     else none

@@ -2,7 +2,7 @@
 -- or Destroy would refuse.
 use Rattle.std.specs.Prelude.{ℕ, Bool, ◌&&◌, not, List, [], take, get_or, ltb, eqb}
 use Rattle.std.proofs.Math.Option.{Option, none, some}
-use Rattle.wire.specs.Choice.{if◌then◌else◌}
+use Rattle.wire.specs.Choice.{when◌then◌else◌}
 use Rattle.wire.specs.Numbers.{field}
 use Rattle.keys.specs.Key.{legal_bits}
 use Rattle.registry.specs.Registry.{line_count, names_in, slots_of, changed}
@@ -22,7 +22,7 @@ in_use registry line = ltb line.0 line_count && is_used (get_or (names_in regist
 -- as Import or Destroy does it; none where they refuse
 unfoldable pub carried_out : (registry : List ℕ) → Line → Result → Option (List ℕ)
 carried_out registry line r =
-    if in_use registry line && eqb (status_number r.status) 0 then some (changed registry line r.change) else none
+    when in_use registry line && eqb (status_number r.status) 0 then some (changed registry line r.change) else none
 
 -- the list of keys that we ship is left aside, and bits are by 01's rule: records from before "No more odd key lengths" are read
 unfoldable pub replay : (registry : List ℕ) → Act → Option (List ℕ)
@@ -48,5 +48,5 @@ judge_act registry (some act) = elim (replay registry act) [
 
 unfoldable pub judge_record : (registry bytes : List ℕ) → Judged
 judge_record registry bytes =
-    if not (eqb (field (record_length bytes) 4 bytes) (crc32 (take (record_length bytes) bytes))) then bad WrongCrc
+    when not (eqb (field (record_length bytes) 4 bytes) (crc32 (take (record_length bytes) bytes))) then bad WrongCrc
     else judge_act registry (act_in (record_in bytes))

@@ -8,7 +8,7 @@ use mathlib.Core.List.{List}
 use native.Mathlib.Omega.{arith}
 use borrow.Author.Tests.{ltb-false, eqb-false, eq-eqb, not-false}
 use lib.Dec.{eqb}
-use Rattle.wire.specs.Choice.{if◌then◌else◌, first_of}
+use Rattle.wire.specs.Choice.{when◌then◌else◌, first_of}
 use Rattle.wire.specs.Lists.{one_of}
 use Rattle.wire.specs.Request.{Request}
 use Rattle.wire.proofs.TestLaws.{some≢none, none_at, AllHave, first_has, either}
@@ -44,7 +44,7 @@ pub asks_named : (r : List ℕ) (q : Request) (line : Line) → application_of r
 unfolding application_of
 asks_named r q line e = go (eqb q.auth_type 0) refl e
   where
-    go : (t : Bool) → eqb q.auth_type 0 ≡ t → (let a : Option Line = if t then none else application_named r q.auth in a) ≡ some line
+    go : (t : Bool) → eqb q.auth_type 0 ≡ t → (let a : Option Line = when t then none else application_named r q.auth in a) ≡ some line
         → (q.auth_type ≡ 0 → ⊥) × (application_named r q.auth ≡ some line)
     go true n w = absurd (some≢none line (sym w))
     go false n w = (eqb-false _ _ n, w)

@@ -6,7 +6,7 @@ use mathlib.Core.Option.{Option, none, some}
 use lib.ListN.{length, get_or, length-set}
 use lib.Seq.{get_or-set_same, get_or-set_other}
 use lib.Dec.{eqb}
-use Rattle.wire.specs.Choice.{if◌then◌else◌}
+use Rattle.wire.specs.Choice.{when◌then◌else◌}
 use Rattle.wire.proofs.TestLaws.{either}
 use Rattle.registry.specs.declared.Line.{Line}
 use Rattle.judgement.specs.Status.{status_number}
@@ -25,15 +25,15 @@ count_lines c o status =
 
 -- the count of the application that asks: one more if it is served
 unfoldable pub served_next : Status → ℕ → ℕ
-served_next status n = if eqb (status_number status) 0 then suc n else n
+served_next status n = when eqb (status_number status) 0 then suc n else n
 
 pub count_own : (c : Counts) (line : Line) (status : Status) → line.0 < length c.served
     → get_or (count c (some line) status).served line.0 0 ≡ served_next status (get_or c.served line.0 0)
 unfolding count served_next count_served count_refused increment
 count_own c line status h = go (eqb (status_number status) 0)
   where
-    go : (t : Bool) → get_or (if t then count_served c (some line) else count_refused c status).served line.0 0
-        ≡ (if t then suc (get_or c.served line.0 0) else get_or c.served line.0 0)
+    go : (t : Bool) → get_or (when t then count_served c (some line) else count_refused c status).served line.0 0
+        ≡ (when t then suc (get_or c.served line.0 0) else get_or c.served line.0 0)
     go true = get_or-set_same c.served line.0 _ 0 h
     go false = refl
 

@@ -6,7 +6,7 @@ use mathlib.Core.Option.{Option, none, some}
 use mathlib.Core.List.{List}
 use Prim.Native.Nat.{ℕ}
 use lib.Dec.{eqb}
-use Rattle.wire.specs.Choice.{if◌then◌else◌}
+use Rattle.wire.specs.Choice.{when◌then◌else◌}
 use Rattle.wire.specs.Request.{Request, request_of}
 use Rattle.wire.proofs.TestLaws.{some≢none, either}
 use Rattle.stream.specs.Frame.{oversized}
@@ -37,7 +37,7 @@ pub asks : (r : List ℕ) (q : Request) (line : Line) → application_of r q ≡
 unfolding application_of
 asks r q line e = go (eqb q.auth_type 0) e
   where
-    go : (t : Bool) → (let a : Option Line = if t then none else application_named r q.auth in a) ≡ some line → Used r line
+    go : (t : Bool) → (let a : Option Line = when t then none else application_named r q.auth in a) ≡ some line → Used r line
     go true w = absurd (some≢none line (sym w))
     go false w = named_used r q.auth line w
 

@@ -1,7 +1,7 @@
 -- Document 01's tally: what an answered request counts ("A whole stream under the rules").
 use Rattle.std.specs.Prelude.{ℕ, suc, ◌+◌, List, [], ◌∷◌, get_or, set, replicate, eqb}
 use Rattle.std.proofs.Math.Option.{Option, none, some}
-use Rattle.wire.specs.Choice.{if◌then◌else◌}
+use Rattle.wire.specs.Choice.{when◌then◌else◌}
 use Rattle.registry.specs.Registry.{line_count}
 use Rattle.registry.specs.declared.Line.{Line}
 use Rattle.judgement.specs.Status.{status_number, refused_statuses, refused_count}
@@ -30,7 +30,7 @@ increment counters i = set counters i (suc (get_or counters i 0))
 -- where a status stands among others
 unfoldable pub index_of : Status → List Status → ℕ
 index_of status [] = 0
-index_of status (s ∷ statuses) = if eqb (status_number status) (status_number s) then 0 else suc (index_of status statuses)
+index_of status (s ∷ statuses) = when eqb (status_number status) (status_number s) then 0 else suc (index_of status statuses)
 
 unfoldable pub count_refused : Counts → Status → Counts
 count_refused c status = record {
@@ -46,4 +46,4 @@ count_served c (some line) = record { served = increment c.served line.0; unauth
 
 -- status 0 is one more served, any other one more refused with that status
 unfoldable pub count : Counts → Option Line → Status → Counts
-count c line status = if eqb (status_number status) 0 then count_served c line else count_refused c status
+count c line status = when eqb (status_number status) 0 then count_served c line else count_refused c status

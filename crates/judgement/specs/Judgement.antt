@@ -1,7 +1,7 @@
 -- "Order of judgement on one request".
 use Rattle.std.specs.Prelude.{ℕ, Bool, ◌&&◌, not, List, [], ◌∷◌, ◌++◌, length, ltb, eqb}
 use Rattle.std.proofs.Math.Option.{Option, none, some}
-use Rattle.wire.specs.Choice.{if◌then◌else◌, first_of, is_some}
+use Rattle.wire.specs.Choice.{when◌then◌else◌, first_of, is_some}
 use Rattle.wire.specs.Lists.{one_of}
 use Rattle.wire.specs.Request.{content_length, Request, request_of}
 use Rattle.wire.specs.Response.{response_bytes}
@@ -33,13 +33,13 @@ refused_early registry counts provider session opcode status = record {
 
 -- oversized: 20 if C is too large, else 11
 unfoldable pub oversized_status : (header : List ℕ) → Status
-oversized_status header = if ltb content_most (content_length header) then BodySizeExceedsLimit else AuthenticationError
+oversized_status header = when ltb content_most (content_length header) then BodySizeExceedsLimit else AuthenticationError
 
 -- ---- the order's third step: at the last byte, first that applies
 
 -- the application that the auth bytes name; with auth type 0 there is none
 unfoldable pub application_of : (registry : List ℕ) → Request → Option Line
-application_of registry q = if eqb q.auth_type 0 then none else application_named registry q.auth
+application_of registry q = when eqb q.auth_type 0 then none else application_named registry q.auth
 
 unfoldable pub refusals : (registry : List ℕ) → Request → List (Bool × Status)
 refusals registry q =

@@ -2,7 +2,7 @@
 -- each operation does with the slots of the application that asks and with the keys that we ship, and what it answers.
 use Rattle.std.specs.Prelude.{ℕ, Bool, not, List, [], ◌∷◌, length, ltb, eqb}
 use Rattle.std.proofs.Math.Option.{none, some}
-use Rattle.wire.specs.Choice.{if◌then◌else◌}
+use Rattle.wire.specs.Choice.{when◌then◌else◌}
 use Rattle.wire.specs.Lists.{every}
 use Rattle.keys.specs.Names.{key_name_most, legal_name}
 use Rattle.keys.specs.Key.{Key, legal_data, import_bits}
@@ -40,7 +40,7 @@ refuse_at at = record { status = DeserializingBodyFailed; output = offset at; ch
 
 unfoldable pub perform_list_opcodes : (provider : ℕ) → Result
 perform_list_opcodes provider =
-    if ltb 1 provider then refuse ProviderDoesNotExist
+    when ltb 1 provider then refuse ProviderDoesNotExist
     else success (opcodes (opcodes_of provider)) unchanged
 
 -- name and data
@@ -60,8 +60,8 @@ place_key key slots keys = elim (key_named key.name slots keys) [
 -- out of bounds 1135, then 1134 for bits that the rule doesn't take; the journal's reader has another rule than Import
 unfoldable pub import_by : (takes : ℕ → Bool) → Key → (slots : List Entry) (keys : List ListedKey) → Result
 import_by takes key slots keys =
-    if not (within_bounds key) then refuse PsaErrorInvalidArgument
-    else if not (takes key.bits) then refuse PsaErrorNotSupported
+    when not (within_bounds key) then refuse PsaErrorInvalidArgument
+    else when not (takes key.bits) then refuse PsaErrorNotSupported
     else place_key key slots keys
 
 unfoldable pub perform_import : Key → (slots : List Entry) (keys : List ListedKey) → Result
@@ -75,7 +75,7 @@ destroy_of (listed key) = refuse PsaErrorNotPermitted
 -- bad name 1135, none such 1140, a listed one 1133
 unfoldable pub perform_destroy : (name : List ℕ) (slots : List Entry) (keys : List ListedKey) → Result
 perform_destroy name slots keys =
-    if not (legal_name key_name_most name) then refuse PsaErrorInvalidArgument
+    when not (legal_name key_name_most name) then refuse PsaErrorInvalidArgument
     else elim (key_named name slots keys) [
       | none ↦ refuse PsaErrorDoesNotExist
       | some source ↦ destroy_of source
@@ -85,15 +85,15 @@ perform_destroy name slots keys =
 unfoldable pub counted : Source → Result → Result
 counted (listed key) r = r
 counted (own slot key) r =
-    if eqb (status_number r.status) 0 then record { status = r.status; output = r.output; change = add_use slot } else r
+    when eqb (status_number r.status) 0 then record { status = r.status; output = r.output; change = add_use slot } else r
 
 unfoldable pub export_of : Key → Result
-export_of key = if key.export_allowed then success (exported key.bytes) unchanged else refuse PsaErrorNotPermitted
+export_of key = when key.export_allowed then success (exported key.bytes) unchanged else refuse PsaErrorNotPermitted
 
 -- 1135, 1140, then 1133 if export isn't allowed
 unfoldable pub perform_export : (name : List ℕ) (slots : List Entry) (keys : List ListedKey) → Result
 perform_export name slots keys =
-    if not (legal_name key_name_most name) then refuse PsaErrorInvalidArgument
+    when not (legal_name key_name_most name) then refuse PsaErrorInvalidArgument
     else elim (key_named name slots keys) [
       | none ↦ refuse PsaErrorDoesNotExist
       | some source ↦ counted source (export_of (key_of source))
@@ -109,15 +109,15 @@ checked InvalidSignature = refuse PsaErrorInvalidSignature
 -- or of a listed one, whatever its data; then the check's
 unfoldable pub verify_with : (hash signature : List ℕ) → Key → Result
 verify_with hash signature key =
-    if not key.verify_allowed then refuse PsaErrorNotPermitted
-    else if not (eqb (length hash) hash_size) then refuse PsaErrorInvalidArgument
-    else if not (import_bits key.bits) then refuse PsaErrorNotSupported
+    when not key.verify_allowed then refuse PsaErrorNotPermitted
+    else when not (eqb (length hash) hash_size) then refuse PsaErrorInvalidArgument
+    else when not (import_bits key.bits) then refuse PsaErrorNotSupported
     else checked (verification key.bytes key.bits hash signature).outcome
 
 -- 1135, 1140, then by the key
 unfoldable pub perform_verify : (name hash signature : List ℕ) (slots : List Entry) (keys : List ListedKey) → Result
 perform_verify name hash signature slots keys =
-    if not (legal_name key_name_most name) then refuse PsaErrorInvalidArgument
+    when not (legal_name key_name_most name) then refuse PsaErrorInvalidArgument
     else elim (key_named name slots keys) [
       | none ↦ refuse PsaErrorDoesNotExist
       | some source ↦ counted source (verify_with hash signature (key_of source))

@@ -5,7 +5,7 @@ use mathlib.Core.Option.{Option, none, some}
 use mathlib.Core.List.{List, [], ◌∷◌}
 use Prim.Native.Nat.{ℕ}
 use lib.ListN.{get_or}
-use Rattle.wire.specs.Choice.{if◌then◌else◌}
+use Rattle.wire.specs.Choice.{when◌then◌else◌}
 use Rattle.wire.specs.Lists.{same}
 use Rattle.wire.proofs.TestLaws.{some≢none}
 use Rattle.wire.proofs.ListLaws.{same_true}
@@ -43,7 +43,7 @@ named_so name [] key e = absurd (some≢none key (sym e))
 named_so name (k ∷ keys) key e = go (λ f. named_so name keys key f) (same name k.name) refl e
   where
     go : (listed_named name keys ≡ some key → key.name ≡ name) → (t : Bool) → same name k.name ≡ t
-        → (if t then some k else listed_named name keys) ≡ some key → key.name ≡ name
+        → (when t then some k else listed_named name keys) ≡ some key → key.name ≡ name
     go rest true q f =
         let w : k ≡ key = cc in
         sym (same_true name k.name q ∙ ap (λ (x : ListedKey). x.name) w)

@@ -9,7 +9,7 @@ use mathlib.Core.List.{List, ◌++◌, map}
 use lib.ListN.{length, take, drop, set, take-append-drop, length-drop}
 use lib.Seq.{length-take-le, drop-append-le}
 use lib.Dec.{eqb}
-use Rattle.wire.specs.Choice.{if◌then◌else◌}
+use Rattle.wire.specs.Choice.{when◌then◌else◌}
 use Rattle.wire.specs.Lists.{one_of}
 use Rattle.wire.specs.Numbers.{field as field'}
 use Rattle.wire.specs.Scan.{Turn, on, out, follow, scan_at}
@@ -88,7 +88,7 @@ TurnKept k (out r) cut = Unit {0}
 turn_kept : (format : Format) (k at : ℕ) (so : SoFar) (f f' : Field) → FieldKept k f f' → TurnKept k (turn_of format at so f) (turn_of format at so f')
 turn_kept format k at so (field n value next) f' h =
     either (λ (t : Turn SoFar Reading). TurnKept k t (turn_of format at so f')) (format.may_follow so.0 n)
-    (λ e l. ap (turn_of format at so) (h l) ∙ ap (λ (t : Bool). if t then on (n, set so.1 (n - 1) value) next else out (broken at)) e)
+    (λ e l. ap (turn_of format at so) (h l) ∙ ap (λ (t : Bool). when t then on (n, set so.1 (n - 1) value) next else out (broken at)) e)
     (λ _. tt)
 turn_kept format k at so (skipped next) f' h = λ l. ap (turn_of format at so) (h l)
 turn_kept format k at so unreadable f' h = tt
@@ -223,7 +223,7 @@ module _ (schema : Schema) (body : List ℕ) (k at : ℕ) (short : k ≤ length 
   cut = take k body
 
   -- listed, or skipped
-  choice_ends : (n : ℕ) (valueAs : Kind → Option Value) (next : ℕ) (t : Bool) → EndsAt next (if t then listed schema n valueAs next else skipped next)
+  choice_ends : (n : ℕ) (valueAs : Kind → Option Value) (next : ℕ) (t : Bool) → EndsAt next (when t then listed schema n valueAs next else skipped next)
   choice_ends n valueAs next true = listed_ends schema n valueAs next
   choice_ends n valueAs next false = refl
 
@@ -240,7 +240,7 @@ module _ (schema : Schema) (body : List ℕ) (k at : ℕ) (short : k ≤ length 
       (λ l.
       let inside : start + len ≤ length cut = (subst (protoLaws.FieldAhead (length cut) at) (h l) (protoLaws.field_ahead cut at)).1 in
       let part : take len (drop start cut) ≡ take len (drop start body) = part_of_part len start k body (omega (arith, length-take-le k body short)) in
-      ap (field_of schema cut) (h l) ∙ ap (λ (x : List ℕ). if is_of_wire 2 (kind_at schema n) then listed schema n (of_span x) next else skipped next) part)
+      ap (field_of schema cut) (h l) ∙ ap (λ (x : List ℕ). when is_of_wire 2 (kind_at schema n) then listed schema n (of_span x) next else skipped next) part)
   by_field (Fixed n next) h = λ l. ap (field_of schema cut) (h l)
   by_field (GroupStart n next) h = by_group n next (group_at depth_most body n next) (group_ahead body depth_most n next) (cutLaws.group_kept body k short depth_most n next) h
   by_field (GroupEnd n next) h = tt

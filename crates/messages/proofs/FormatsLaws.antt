@@ -6,7 +6,7 @@ use mathlib.Core.Bool.{Bool, true}
 use mathlib.Core.List.{List, [], ◌∷◌}
 use lib.ListN.{length, length-append}
 use lib.Dec.{ltb, eqb}
-use Rattle.wire.specs.Choice.{if◌then◌else◌}
+use Rattle.wire.specs.Choice.{when◌then◌else◌}
 use Rattle.wire.specs.Lists.{all}
 use Rattle.wire.proofs.TestLaws.{either}
 use Rattle.keys.specs.Key.{Key, data_most}
@@ -101,7 +101,7 @@ field_least Protobuf n bytes = bytes_field_least n bytes
 field_least Tagged n bytes = tagged_least n bytes
 
 flag_room : (f : BodyFormat) (n : ℕ) (b : Bool) → length ((format_of f).bytes_of n (flag b)) ≤ field_room
-flag_room Protobuf n b = number_within n (if b then 1 else 0)
+flag_room Protobuf n b = number_within n (when b then 1 else 0)
 flag_room Tagged n b = omega (arith, tagged_within n (value_bytes (flag b)), one_most b)
 
 module _ (f : BodyFormat) where

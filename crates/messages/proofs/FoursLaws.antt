@@ -10,7 +10,7 @@ use lib.ListN.{length, take, drop, set, length-append, length-drop}
 use lib.Seq.{append_snoc, take_all, drop-cons, drop-drop, set-append_seam}
 use lib.Dec.{ltb, leb, eqb}
 use borrow.Author.Tests.{eq-eqb, ne_eqb, eqb-true, ltb-true, ltb-false}
-use Rattle.wire.specs.Choice.{if◌then◌else◌}
+use Rattle.wire.specs.Choice.{when◌then◌else◌}
 use Rattle.wire.specs.Lists.{over, blocks}
 use Rattle.wire.specs.Numbers.{little_endian}
 use Rattle.wire.specs.Numbers as wire
@@ -49,12 +49,12 @@ module _ (body : List ℕ) where
     abbrev from : ℕ → SoFar → Reading
     from at so = scan_at (turn_at tagged schema body) end (length body) at so
 
-    one_field : (at : ℕ) → tagged_at schema body at ≡ (if stands at then field_with 1 (behind at) (of_value (value at) k) else unreadable)
+    one_field : (at : ℕ) → tagged_at schema body at ≡ (when stands at then field_with 1 (behind at) (of_value (value at) k) else unreadable)
     unfolding tagged_at listed bind
     one_field at = go (is_whole (drop at body)) refl (eqb (record_in (drop at body)).tag 1) refl
       where
         go : (w : Bool) → is_whole (drop at body) ≡ w → (t : Bool) → eqb (record_in (drop at body)).tag 1 ≡ t
-            → tagged_at schema body at ≡ (if stands at then field_with 1 (behind at) (of_value (value at) k) else unreadable)
+            → tagged_at schema body at ≡ (when stands at then field_with 1 (behind at) (of_value (value at) k) else unreadable)
         go false e t q = rw (e, tagged_at)
         go true e false q = rw (e, q, tagged_at)
         go true e true q = rw (e, q, tagged_at) (ap (λ (n : ℕ). field_with n (behind at) (of_value (value at) k)) (eqb-true _ _ q))
@@ -72,11 +72,11 @@ module _ (body : List ℕ) where
       no_value e n = turned unreadable (one_field at ∙ rw e (ap (field_with 1 (behind at)) n))
 
       a_value : (v : Value) → stands at ≡ true → of_value (value at) k ≡ some v
-          → from at so ≡ (if ltb so.0 1 then from (behind at) (1, set so.1 0 v) else broken at)
+          → from at so ≡ (when ltb so.0 1 then from (behind at) (1, set so.1 0 v) else broken at)
       a_value v e n = turned (field 1 v (behind at)) (one_field at ∙ rw e (ap (field_with 1 (behind at)) n)) ∙ go (ltb so.0 1)
         where
-          go : (t : Bool) → follow (if t then on (1, set so.1 0 v) (behind at) else out (broken at)) from
-              ≡ (if t then from (behind at) (1, set so.1 0 v) else broken at)
+          go : (t : Bool) → follow (when t then on (1, set so.1 0 v) (behind at) else out (broken at)) from
+              ≡ (when t then from (behind at) (1, set so.1 0 v) else broken at)
           go true = refl
           go false = refl
 
@@ -89,10 +89,10 @@ module _ (body : List ℕ) where
         go true e none q = no_value at (1, m) h e q
         go true e (some v) q = a_value at (1, m) h v e q
 
-    after : (at : ℕ) (m : Message) → from at (1, m) ≡ (if ltb at (length body) then broken at else read m)
+    after : (at : ℕ) (m : Message) → from at (1, m) ≡ (when ltb at (length body) then broken at else read m)
     after at m = go (ltb at (length body)) refl
       where
-        go : (t : Bool) → ltb at (length body) ≡ t → from at (1, m) ≡ (if t then broken at else read m)
+        go : (t : Bool) → ltb at (length body) ≡ t → from at (1, m) ≡ (when t then broken at else read m)
         go true e = second at m (ltb-true _ _ e)
         go false e = scan_end (turn_at tagged schema body) end (length body) at (1, m) (ltb-false _ _ e)
 
@@ -100,7 +100,7 @@ module _ (body : List ℕ) where
 
 -- the entries of the bytes that were read
 abbrev pub as_fours : Reading → Option (List ℕ)
-as_fours (read m) = if eqb (length (octets_of (value_at m 1)) % 4) 0 then some (fours (octets_of (value_at m 1))) else none
+as_fours (read m) = when eqb (length (octets_of (value_at m 1)) % 4) 0 then some (fours (octets_of (value_at m 1))) else none
 as_fours (broken at) = none
 
 module _ (s : List ℕ) where
@@ -138,7 +138,7 @@ module _ (body : List ℕ) where
           agree _ (broken 0) (a_value body bytes 0 _ h (octets v) e (rw p) ∙ after body bytes next (octets v ∷ [])) (no_value body uint32s 0 _ h e (rw (p, q)))
           (ends (ltb next (length body)))
         where
-          ends : (t : Bool) → none ≡ as_fours (if t then broken next else read (octets v ∷ []))
+          ends : (t : Bool) → none ≡ as_fours (when t then broken next else read (octets v ∷ []))
           ends true = refl
           ends false = rw q
       go true p true q =
@@ -146,7 +146,7 @@ module _ (body : List ℕ) where
           (a_value body uint32s 0 _ h (numbers (fours v)) e (rw (p, q)) ∙ after body uint32s next (numbers (fours v) ∷ []))
           (ends (ltb next (length body)))
         where
-          ends : (t : Bool) → when_read list (if t then broken next else read (numbers (fours v) ∷ [])) ≡ as_fours (if t then broken next else read (octets v ∷ []))
+          ends : (t : Bool) → when_read list (when t then broken next else read (numbers (fours v) ∷ [])) ≡ as_fours (when t then broken next else read (octets v ∷ []))
           ends true = refl
           ends false = rw q
 

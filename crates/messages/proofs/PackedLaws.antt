@@ -9,7 +9,7 @@ use mathlib.Core.List.{List, [], ◌∷◌, ◌++◌, append_assoc, append-nil}
 use lib.ListN.{length, take, drop, set, length-append, length-drop}
 use lib.Seq.{append_snoc, take_all, take-append_seam, drop-cons, set-append_seam}
 use lib.Dec.{ltb}
-use Rattle.wire.specs.Choice.{if◌then◌else◌, is_some}
+use Rattle.wire.specs.Choice.{when◌then◌else◌, is_some}
 use Rattle.wire.specs.Scan.{Turn, follow, scan_from, scan_at}
 use Rattle.wire.proofs.TestLaws.{some≢none}
 use Rattle.wire.specs.Lists.{over}
@@ -194,8 +194,8 @@ module _ (s : List ℕ) where
       go : ((ks : List ℕ) (next : ℕ) → scan_from (turn s) (λ ns. some (numbers ns)) (length s) count next ks ≡ some (numbers ms)
           → scan_from (entry s) (λ ns. ns) (length s) count next ks ≡ ms)
           → (t : Bool) (v : Varint)
-          → (if t then follow (packed_turn ns v) (λ next ks. scan_from (turn s) (λ ns. some (numbers ns)) (length s) count next ks) else some (numbers ns)) ≡ some (numbers ms)
-          → (if t then follow (entry_turn ns v) (λ next ks. scan_from (entry s) (λ ns. ns) (length s) count next ks) else ns) ≡ ms
+          → (when t then follow (packed_turn ns v) (λ next ks. scan_from (turn s) (λ ns. some (numbers ns)) (length s) count next ks) else some (numbers ns)) ≡ some (numbers ms)
+          → (when t then follow (entry_turn ns v) (λ next ks. scan_from (entry s) (λ ns. ns) (length s) count next ks) else ns) ≡ ms
       go ih true (Read v next) e = ih (ns ++ (v % 2 ^ 32 ∷ [])) next e
       go ih true Unreadable e = absurd (some≢none (numbers ms) (sym e))
       go ih false v e = cc

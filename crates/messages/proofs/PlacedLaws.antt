@@ -8,7 +8,7 @@ use mathlib.Core.List.{List, [], ◌∷◌}
 use lib.ListN.{length, take, drop}
 use lib.Dec.{eqb}
 use borrow.Author.Tests.{ne_eqb}
-use Rattle.wire.specs.Choice.{if◌then◌else◌, is_some}
+use Rattle.wire.specs.Choice.{when◌then◌else◌, is_some}
 use Rattle.wire.specs.Scan.{Turn, follow, scan_from, scan_at}
 use Rattle.wire.proofs.TestLaws.{either}
 use Rattle.wire.proofs.ScanLaws.{scan_end, scan_on}
@@ -40,7 +40,7 @@ module _ (body : List ℕ) where
   abbrev field_for : ProtoField → Field
   field_for f = field_of list_schema body f
 
-  number_skipped : (next : ℕ) (f : Field) (t : Bool) → skipped next ≡ (if is_of_wire 0 (if t then some uint32s else none) then f else skipped next)
+  number_skipped : (next : ℕ) (f : Field) (t : Bool) → skipped next ≡ (when is_of_wire 0 (when t then some uint32s else none) then f else skipped next)
   number_skipped next f true = refl
   number_skipped next f false = refl
 

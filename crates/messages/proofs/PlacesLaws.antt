@@ -9,7 +9,7 @@ use mathlib.Core.List.{List, [], ◌∷◌, map}
 use lib.ListN.{length, take, drop, set, replicate}
 use lib.Dec.{ltb, eqb}
 use borrow.Author.Tests.{eqb-true, eqb-false, ne_eqb}
-use Rattle.wire.specs.Choice.{if◌then◌else◌}
+use Rattle.wire.specs.Choice.{when◌then◌else◌}
 use Rattle.wire.specs.Scan.{Turn, on, out, follow, scan_from, scan_at}
 use Rattle.wire.proofs.TestLaws.{either}
 use Rattle.protobuf.specs.Field.{field_at}
@@ -56,8 +56,8 @@ module _ {M N R S : Type 0} (Same : M → N → Type 0) (g : S → R) where
     from_same (suc count) at m n h = go (λ next m' n' h'. from_same count next m' n' h') (ltb at len)
       where
         go : ((next : ℕ) (m' : M) (n' : N) → Same m' n' → scan_from turn end len count next m' ≡ g (scan_from turn' end' len count next n'))
-            → (t : Bool) → (if t then follow (turn at m) (λ next m'. scan_from turn end len count next m') else end m)
-            ≡ g (if t then follow (turn' at n) (λ next n'. scan_from turn' end' len count next n') else end' n)
+            → (t : Bool) → (when t then follow (turn at m) (λ next m'. scan_from turn end len count next m') else end m)
+            ≡ g (when t then follow (turn' at n) (λ next n'. scan_from turn' end' len count next n') else end' n)
         go ih true = follow_same (turn at m) (turn' at n) (scan_from turn end len count) (scan_from turn' end' len count) (turns at m n h) ih
         go ih false = ends m n h
 
@@ -75,7 +75,7 @@ pub kind_within : (schema : Schema) (n : ℕ) (kind : Kind) → kind_at schema n
 kind_within [] n kind e = absurd (none-ne-some kind e)
 kind_within (k ∷ schema) n kind e = go (λ e'. kind_within schema (n - 1) kind e') (eqb n 1) refl e
   where
-    go : (kind_at schema (n - 1) ≡ some kind → Within (n - 1) (length schema)) → (t : Bool) → eqb n 1 ≡ t → (if t then some k else kind_at schema (n - 1)) ≡ some kind → Within n (suc (length schema))
+    go : (kind_at schema (n - 1) ≡ some kind → Within (n - 1) (length schema)) → (t : Bool) → eqb n 1 ≡ t → (when t then some k else kind_at schema (n - 1)) ≡ some kind → Within n (suc (length schema))
     go ih true q e' = let one = eqb-true n 1 q in record { low = omega arith; high = omega arith }
     go ih false q e' = let w = ih e' in record { low = omega arith; high = omega arith }
 
@@ -147,7 +147,7 @@ pub no_list_at : (schema : Schema) (n : ℕ) → NoLists schema → kind_at sche
 no_list_at [] n h e = none-ne-some uint32s e
 no_list_at (kind ∷ schema) n h e = go kind h (λ h' e'. no_list_at schema (n - 1) h' e') (eqb n 1) e
   where
-    go : (k : Kind) → NoLists (k ∷ schema) → (NoLists schema → kind_at schema (n - 1) ≡ some uint32s → ⊥) → (t : Bool) → (if t then some k else kind_at schema (n - 1)) ≡ some uint32s → ⊥
+    go : (k : Kind) → NoLists (k ∷ schema) → (NoLists schema → kind_at schema (n - 1) ≡ some uint32s → ⊥) → (t : Bool) → (when t then some k else kind_at schema (n - 1)) ≡ some uint32s → ⊥
     go uint32 h ih true e = let z : ◌≡◌ {A = ℕ} 0 1 = cc in omega arith
     go bool h ih true e = let z : ◌≡◌ {A = ℕ} 0 1 = cc in omega arith
     go bytes h ih true e = let z : ◌≡◌ {A = ℕ} 0 1 = cc in omega arith
@@ -156,7 +156,7 @@ no_list_at (kind ∷ schema) n h e = go kind h (λ h' e'. no_list_at schema (n -
     go bytes h ih false e = ih h e
     go uint32s h ih t e = h
 
-bool_same : (t : Bool) → not t ≡ not (eqb (if t then 0 else 1) 0)
+bool_same : (t : Bool) → not t ≡ not (eqb (when t then 0 else 1) 0)
 bool_same true = refl
 bool_same false = refl
 
@@ -182,18 +182,18 @@ module _ (schema : Schema) (body : List ℕ) (few : length schema ≤ 5) (no-lis
 
   number_same :
       (at n v next : ℕ) (so : SoFar) (m : Places) → Same so m → (o : Option Kind) → kind_at schema n ≡ o
-      → Turns (turn_of protobuf at so (if is_of_wire 0 o then field_with n next (bind o (of_varint v)) else skipped next)) (proto-body.turn_of at (proto.step_of m (proto.of_number (kind_placed o) n v next)))
+      → Turns (turn_of protobuf at so (when is_of_wire 0 o then field_with n next (bind o (of_varint v)) else skipped next)) (proto-body.turn_of at (proto.step_of m (proto.of_number (kind_placed o) n v next)))
   unfolding bind
   number_same at n v next so m h none e = (refl, h)
   number_same at n v next so m h (some uint32) e = (refl, put_same n uint32 so m (record { start = 0; len = 0; number = v % 2 ^ 32 }) e h)
   number_same at n v next so m h (some bool) e =
-      (refl, rw (bool_same (eqb v 0)) (put_same n bool so m (record { start = 0; len = 0; number = if eqb v 0 then 0 else 1 }) e h))
+      (refl, rw (bool_same (eqb v 0)) (put_same n bool so m (record { start = 0; len = 0; number = when eqb v 0 then 0 else 1 }) e h))
   number_same at n v next so m h (some bytes) e = (refl, h)
   number_same at n v next so m h (some uint32s) e = (refl, h)
 
   span_same :
       (at n start len next : ℕ) (so : SoFar) (m : Places) → Same so m → (o : Option Kind) → kind_at schema n ≡ o
-      → Turns (turn_of protobuf at so (if is_of_wire 2 o then field_with n next (bind o (of_span (take len (drop start body)))) else skipped next)) (proto-body.turn_of at (proto.step_of m (proto.of_span (kind_placed o) n start len next)))
+      → Turns (turn_of protobuf at so (when is_of_wire 2 o then field_with n next (bind o (of_span (take len (drop start body)))) else skipped next)) (proto-body.turn_of at (proto.step_of m (proto.of_span (kind_placed o) n start len next)))
   unfolding bind
   span_same at n start len next so m h none e = (refl, h)
   span_same at n start len next so m h (some uint32) e = (refl, h)

@@ -9,7 +9,7 @@ use lib.ListN.{length, take, drop, length-append, length-drop}
 use lib.Seq.{append_snoc}
 use lib.Dec.{ltb}
 use borrow.Author.Tests.{ltb-true, eq-eqb}
-use Rattle.wire.specs.Choice.{if◌then◌else◌}
+use Rattle.wire.specs.Choice.{when◌then◌else◌}
 use Rattle.wire.specs.Scan.{on}
 use Rattle.wire.specs.Lists.{all}
 use Rattle.wire.proofs.TestLaws.{either, and_left, and_right}
@@ -86,7 +86,7 @@ module _ (schema : Schema) (s : List ℕ) (at n : ℕ) (rest : List ℕ) (some' 
   read_field = field_of schema s (proto.field_at s at)
 
   -- a value of its kind's wire type is not skipped
-  not_skipped : (wire : ℕ) (value : Value) (f g : Field) → kind_at schema n ≡ some (kind_of value) → wire_type_of (kind_of value) ≡ wire → (if is_of_wire wire (kind_at schema n) then f else g) ≡ f
+  not_skipped : (wire : ℕ) (value : Value) (f g : Field) → kind_at schema n ≡ some (kind_of value) → wire_type_of (kind_of value) ≡ wire → (when is_of_wire wire (kind_at schema n) then f else g) ≡ f
   not_skipped wire value f g k w = rw (ap (is_of_wire wire) k ∙ eq-eqb _ _ w)
 
   reads_number : (v : ℕ) (kind : Kind) (value : Value) → kind_at schema n ≡ some (kind_of value) → wire_type_of (kind_of value) ≡ 0 → 1 ≤ v → v < 2 ^ 32 → of_varint v (kind_of value) ≡ some value → drop at s ≡ number_field n v ++ rest → read_field ≡ field n value (at + length (number_field n v))

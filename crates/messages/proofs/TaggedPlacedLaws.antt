@@ -9,7 +9,7 @@ use lib.ListN.{length, take, drop, get_or}
 use lib.Seq.{drop-drop}
 use lib.Dec.{eqb}
 use borrow.Author.Tests.{eq-eqb, ne_eqb, lt-ltb, le-ltb, lt-leb, le-leb}
-use Rattle.wire.specs.Choice.{if◌then◌else◌}
+use Rattle.wire.specs.Choice.{when◌then◌else◌}
 use Rattle.wire.specs.Lists.{same}
 use Rattle.wire.specs.Numbers.{little_endian}
 use Rattle.wire.specs.Numbers as wire
@@ -105,7 +105,7 @@ module _ (kinds : Schema) (few : length kinds ≤ 5) (no-lists : NoLists kinds) 
   unfolding field_placed tagged_at listed
   field_placed_lem body at =
       let rest : List ℕ = drop at body in
-      ap (λ (o : Option Kind). if is_whole rest then field_with (record_in rest).tag (at + record_length rest) (bind o (of_value (record_in rest).value)) else unreadable)
+      ap (λ (o : Option Kind). when is_whole rest then field_with (record_in rest).tag (at + record_length rest) (bind o (of_value (record_in rest).value)) else unreadable)
       (placed_kind (record_in rest).tag)
 
   -- ---- the scan

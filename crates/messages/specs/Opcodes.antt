@@ -1,6 +1,6 @@
 -- The listed opcodes, and whose they are ("Operations and their fields"; document 02, "Checking signatures").
 use Rattle.std.specs.Prelude.{ℕ, List, [], ◌∷◌, eqb}
-use Rattle.wire.specs.Choice.{if◌then◌else◌}
+use Rattle.wire.specs.Choice.{when◌then◌else◌}
 
 -- Ping, ListProviders, ListOpcodes
 abbrev pub core_opcodes : List ℕ
@@ -12,4 +12,4 @@ keystore_opcodes = 3 ∷ 5 ∷ 6 ∷ 7 ∷ []
 
 -- provider 0 is core, 1 keystore
 unfoldable pub opcodes_of : (provider : ℕ) → List ℕ
-opcodes_of provider = if eqb provider 0 then core_opcodes else keystore_opcodes
+opcodes_of provider = when eqb provider 0 then core_opcodes else keystore_opcodes

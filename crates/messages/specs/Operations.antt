@@ -2,7 +2,7 @@
 -- bodies.
 use Rattle.std.specs.Prelude.{ℕ, ◌≡◌, List, [], ◌∷◌, length, eqb}
 use Rattle.std.proofs.Math.Option.{Option, none, some}
-use Rattle.wire.specs.Choice.{if◌then◌else◌}
+use Rattle.wire.specs.Choice.{when◌then◌else◌}
 use Rattle.keys.specs.Key.{Key}
 use Rattle.messages.specs.Message.{uint32, bool, bytes, uint32s, number, flag, octets, numbers, Schema, Message, number_of, flag_of, octets_of, numbers_of, value_at}
 use Rattle.messages.specs.Format.{Format, Reading, read, broken, message_bytes, read_message}
@@ -76,11 +76,11 @@ read_body format schema body f = when_read f (read_message format schema body)
 -- the fields of the body that each listed opcode has
 unfoldable pub input_fields : (opcode : ℕ) → Schema
 input_fields opcode =
-    if eqb opcode 9 then uint32 ∷ []
-    else if eqb opcode 6 then bytes ∷ bytes ∷ uint32 ∷ bool ∷ bool ∷ []
-    else if eqb opcode 3 then bytes ∷ []
-    else if eqb opcode 7 then bytes ∷ []
-    else if eqb opcode 5 then bytes ∷ bytes ∷ bytes ∷ []
+    when eqb opcode 9 then uint32 ∷ []
+    else when eqb opcode 6 then bytes ∷ bytes ∷ uint32 ∷ bool ∷ bool ∷ []
+    else when eqb opcode 3 then bytes ∷ []
+    else when eqb opcode 7 then bytes ∷ []
+    else when eqb opcode 5 then bytes ∷ bytes ∷ bytes ∷ []
     else []
 
 -- what a body asks for, or where its first unreadable field starts
@@ -90,13 +90,13 @@ pub data Asking : Type 0 where
 
 unfoldable pub asking_of : (opcode : ℕ) → Message → Asking
 asking_of opcode m =
-    if eqb opcode 1 then asks ping
-    else if eqb opcode 8 then asks list_providers
-    else if eqb opcode 9 then asks (list_opcodes (number_of (value_at m 1)))
-    else if eqb opcode 6 then asks (import_key (key_of m))
-    else if eqb opcode 3 then asks (destroy_key (octets_of (value_at m 1)))
-    else if eqb opcode 7 then asks (export_public_key (octets_of (value_at m 1)))
-    else if eqb opcode 5 then asks (verify_signature (octets_of (value_at m 1)) (octets_of (value_at m 2)) (octets_of (value_at m 3)))
+    when eqb opcode 1 then asks ping
+    else when eqb opcode 8 then asks list_providers
+    else when eqb opcode 9 then asks (list_opcodes (number_of (value_at m 1)))
+    else when eqb opcode 6 then asks (import_key (key_of m))
+    else when eqb opcode 3 then asks (destroy_key (octets_of (value_at m 1)))
+    else when eqb opcode 7 then asks (export_public_key (octets_of (value_at m 1)))
+    else when eqb opcode 5 then asks (verify_signature (octets_of (value_at m 1)) (octets_of (value_at m 2)) (octets_of (value_at m 3)))
     else garbled 0
 
 abbrev pub asking_by : (opcode : ℕ) → Reading → Asking
@@ -157,13 +157,13 @@ output_bytes format output = message_bytes format (message_of output)
 -- with status 0
 unfoldable pub output_of : Format → (opcode : ℕ) (body : List ℕ) → Option Output
 output_of format opcode body =
-    if eqb opcode 1 then read_body format (uint32 ∷ uint32 ∷ []) body (λ m. version (number_of (value_at m 1)) (number_of (value_at m 2)))
-    else if eqb opcode 8 then read_body format (uint32s ∷ []) body (λ m. providers (numbers_of (value_at m 1)))
-    else if eqb opcode 9 then read_body format (uint32s ∷ []) body (λ m. opcodes (numbers_of (value_at m 1)))
-    else if eqb opcode 6 then read_body format [] body (λ m. nothing)
-    else if eqb opcode 3 then read_body format [] body (λ m. nothing)
-    else if eqb opcode 7 then read_body format (bytes ∷ []) body (λ m. exported (octets_of (value_at m 1)))
-    else if eqb opcode 5 then read_body format [] body (λ m. nothing)
+    when eqb opcode 1 then read_body format (uint32 ∷ uint32 ∷ []) body (λ m. version (number_of (value_at m 1)) (number_of (value_at m 2)))
+    else when eqb opcode 8 then read_body format (uint32s ∷ []) body (λ m. providers (numbers_of (value_at m 1)))
+    else when eqb opcode 9 then read_body format (uint32s ∷ []) body (λ m. opcodes (numbers_of (value_at m 1)))
+    else when eqb opcode 6 then read_body format [] body (λ m. nothing)
+    else when eqb opcode 3 then read_body format [] body (λ m. nothing)
+    else when eqb opcode 7 then read_body format (bytes ∷ []) body (λ m. exported (octets_of (value_at m 1)))
+    else when eqb opcode 5 then read_body format [] body (λ m. nothing)
     else none
 
 -- with status 7
@@ -173,7 +173,7 @@ offset_of format body = read_body format (uint32 ∷ []) body (λ m. offset (num
 -- with any status: all but these two have no body
 unfoldable pub answer_of : Format → (opcode status : ℕ) (body : List ℕ) → Option Output
 answer_of format opcode status body =
-    if eqb status 0 then output_of format opcode body
-    else if eqb status 7 then offset_of format body
-    else if eqb (length body) 0 then some nothing
+    when eqb status 0 then output_of format opcode body
+    else when eqb status 7 then offset_of format body
+    else when eqb (length body) 0 then some nothing
     else none

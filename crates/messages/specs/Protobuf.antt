@@ -1,7 +1,7 @@
 -- Format 1, Protocol Buffers: document 01's Reading and Writing, lists packed only, and unlisted fields skipped (document 02).
 use Rattle.std.specs.Prelude.{ℕ, ◌-◌, ◌%◌, ◌^◌, Bool, true, false, not, List, [], ◌∷◌, ◌++◌, length, take, drop, eqb}
 use Rattle.std.proofs.Math.Option.{Option, none, some}
-use Rattle.wire.specs.Choice.{if◌then◌else◌}
+use Rattle.wire.specs.Choice.{when◌then◌else◌}
 use Rattle.wire.specs.Scan.{Turn, on, out, scan_at}
 use Rattle.protobuf.specs.Varint.{varint_at}
 use Rattle.protobuf.specs.Field as proto
@@ -18,7 +18,7 @@ use Rattle.messages.specs.Format.{Field, skipped, unreadable, Format, listed}
 
 abbrev pub protobuf_bytes : (number : ℕ) → Value → List ℕ
 protobuf_bytes n (number v) = number_field n v
-protobuf_bytes n (flag b) = number_field n (if b then 1 else 0)
+protobuf_bytes n (flag b) = number_field n (when b then 1 else 0)
 protobuf_bytes n (octets s) = bytes_field n s
 protobuf_bytes n (numbers ns) = packed_field n ns
 
@@ -62,9 +62,9 @@ of_group noGroup = unreadable
 -- an unlisted number, or a listed one with another wire type, is skipped
 abbrev pub field_of : Schema → (body : List ℕ) → ProtoField → Field
 field_of schema body (Number n v next) =
-    if is_of_wire 0 (kind_at schema n) then listed schema n (of_varint v) next else skipped next
+    when is_of_wire 0 (kind_at schema n) then listed schema n (of_varint v) next else skipped next
 field_of schema body (Span n start len next) =
-    if is_of_wire 2 (kind_at schema n) then listed schema n (of_span (take len (drop start body))) next else skipped next
+    when is_of_wire 2 (kind_at schema n) then listed schema n (of_span (take len (drop start body))) next else skipped next
 field_of schema body (Fixed n next) = skipped next
 field_of schema body (GroupStart n next) = of_group (group_at depth_most body n next)
 field_of schema body (GroupEnd n next) = unreadable

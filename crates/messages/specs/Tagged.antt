@@ -3,7 +3,7 @@
 use Rattle.std.specs.Prelude.{ℕ, ◌+◌, ◌-◌, ◌/◌, ◌%◌, ◌^◌, Bool, true, not, ◌&&◌, length, drop, ltb, leb, eqb}
 use Rattle.std.proofs.Math.Option.{Option, none, some}
 use mathlib.Core.List.{List, [], ◌∷◌, ◌++◌, map, flat_map}
-use Rattle.wire.specs.Choice.{if◌then◌else◌}
+use Rattle.wire.specs.Choice.{when◌then◌else◌}
 use Rattle.wire.specs.Lists.{same, blocks}
 use Rattle.wire.specs.Numbers.{little_endian, little_endian_of}
 use Rattle.records.specs.Records.{record_length, record_in, is_whole}
@@ -12,8 +12,8 @@ use Rattle.messages.specs.Format.{Field, unreadable, Format, listed}
 
 -- integers four bytes, a true bool one byte 1, lists four bytes an entry
 abbrev pub value_bytes : Value → List ℕ
-value_bytes (number n) = if eqb n 0 then [] else little_endian_of 4 n
-value_bytes (flag b) = if b then 1 ∷ [] else []
+value_bytes (number n) = when eqb n 0 then [] else little_endian_of 4 n
+value_bytes (flag b) = when b then 1 ∷ [] else []
 value_bytes (octets s) = s
 value_bytes (numbers ns) = flat_map (little_endian_of 4) ns
 
@@ -30,7 +30,7 @@ abbrev pub fours : List ℕ → List ℕ
 fours s = map little_endian (blocks (length s / 4) 4 s)
 
 abbrev pub given : Bool → Value → Option Value
-given test value = if test then some value else none
+given test value = when test then some value else none
 
 -- a present zero, false or empty value is not read
 abbrev pub of_value : List ℕ → Kind → Option Value
@@ -43,7 +43,7 @@ of_value s uint32s = given (leb 1 (length s) && eqb (length s % 4) 0) (numbers (
 unfoldable pub tagged_at : Schema → (body : List ℕ) (at : ℕ) → Field
 tagged_at schema body at =
     let rest = drop at body in
-    if is_whole rest then listed schema (record_in rest).tag (of_value (record_in rest).value) (at + record_length rest) else unreadable
+    when is_whole rest then listed schema (record_in rest).tag (of_value (record_in rest).value) (at + record_length rest) else unreadable
 
 abbrev pub tagged : Format
 tagged = record {

@@ -1,6 +1,6 @@
 // The formats of a body, and its fields read and written by one of them (document 02, "A second body format").
 ghost use Rattle.std.specs.Prelude.{◌≡◌, true, List, ℕ, ◌+◌, ◌*◌, ◌^◌, ◌<◌, ◌≤◌, length, ltb};
-ghost use Rattle.wire.specs.Choice.{if◌then◌else◌};
+ghost use Rattle.wire.specs.Choice.{when◌then◌else◌};
 ghost use Rattle.wire.specs.Lists.{all, one_of};
 ghost use Rattle.wire.specs.code.Wrote.{Wrote};
 ghost use Rattle.fields.specs.code.Fields.{BodyIn};
@@ -65,7 +65,7 @@ pub fn read_fields(format: BodyFormat, body: &[u8], schema: Schema) -> Body
 
 // A bool as its field's number.
 fn flag_number(b: bool) -> u64
-    ensures { result ≡ (if b then 1 else 0) }
+    ensures { result ≡ (when b then 1 else 0) }
 {
     if b { 1 } else { 0 }
 }

@@ -10,7 +10,7 @@ use lib.ListN.{length, get_or, take}
 use lib.Seq.{length-take-le, get_or-take}
 use lib.Dec.{ltb, leb, eqb}
 use borrow.Author.Tests.{lt-ltb, le-leb, leb-true}
-use Rattle.wire.specs.Choice.{if◌then◌else◌}
+use Rattle.wire.specs.Choice.{when◌then◌else◌}
 use Rattle.wire.specs.Scan.{follow}
 use Rattle.wire.proofs.TestLaws.{either}
 use Rattle.protobuf.specs.Varint.{below, varint_of, varint_at}
@@ -50,7 +50,7 @@ below_kept k low noVarint cut h = tt
 
 -- ---- a field
 
-choose : (k : ℕ) (t : Bool) (a b c d : Field) → FieldKept k a b → FieldKept k c d → FieldKept k (if t then a else c) (if t then b else d)
+choose : (k : ℕ) (t : Bool) (a b c d : Field) → FieldKept k a b → FieldKept k c d → FieldKept k (when t then a else c) (when t then b else d)
 choose k true a b c d h g = h
 choose k false a b c d h g = g
 
@@ -133,11 +133,11 @@ module _ (s : List ℕ) (k : ℕ) (short : k ≤ length s) where
     unfolding span_at
     span_kept at =
         then-kept k (length s) (varint_at s at) (varint_at cut at)
-        (λ len start. if leb (start + len) (length s) then Span f start len (start + len) else Unreadable)
-        (λ len start. if leb (start + len) (length cut) then Span f start len (start + len) else Unreadable)
+        (λ len start. when leb (start + len) (length s) then Span f start len (start + len) else Unreadable)
+        (λ len start. when leb (start + len) (length cut) then Span f start len (start + len) else Unreadable)
         (varint_kept 9 at)
         (λ len start h. either (FieldFrom (length s) start) (leb (start + len) (length s)) (λ e. omega (arith, leb-true (start + len) (length s) e)) (λ _. tt))
-        (λ len start h. either (λ (x : Field). FieldKept k x (if leb (start + len) (length cut) then Span f start len (start + len) else Unreadable)) (leb (start + len) (length s))
+        (λ len start h. either (λ (x : Field). FieldKept k x (when leb (start + len) (length cut) then Span f start len (start + len) else Unreadable)) (leb (start + len) (length s))
         (λ e l.
         let fits : start + len ≤ length cut = omega (arith, cut_length) in
         rw (le-leb _ _ fits))
@@ -157,8 +157,8 @@ module _ (s : List ℕ) (k : ℕ) (short : k ≤ length s) where
   unfolding field_at
   field_kept at =
       then-kept k (length s) (varint_at s at) (varint_at cut at)
-      (λ tag next. if ltb tag (2 ^ 32) then (if eqb (tag / 8) 0 then Unreadable else content_at s (tag / 8) (tag % 8) next) else Unreadable)
-      (λ tag next. if ltb tag (2 ^ 32) then (if eqb (tag / 8) 0 then Unreadable else content_at cut (tag / 8) (tag % 8) next) else Unreadable)
+      (λ tag next. when ltb tag (2 ^ 32) then (when eqb (tag / 8) 0 then Unreadable else content_at s (tag / 8) (tag % 8) next) else Unreadable)
+      (λ tag next. when ltb tag (2 ^ 32) then (when eqb (tag / 8) 0 then Unreadable else content_at cut (tag / 8) (tag % 8) next) else Unreadable)
       (varint_kept 9 at)
       (λ tag next h.
       let P = FieldFrom (length s) next in
@@ -210,7 +210,7 @@ module _ (s : List ℕ) (k : ℕ) (short : k ≤ length s) where
         by_group p next n (group_at depth s n next) a.behind h (group_ahead s depth n next) (deeper n next) ih
     by_field p (GroupEnd n next) a h ih =
         either (λ (x : Group). GroupKept k x (short' p)) (eqb n number)
-        (λ e l. here p next (GroupEnd n next) a.behind l (h l) ∙ ap (λ (t : Bool). if t then Skipped next else noGroup) e)
+        (λ e l. here p next (GroupEnd n next) a.behind l (h l) ∙ ap (λ (t : Bool). when t then Skipped next else noGroup) e)
         (λ _. tt)
     by_field p Unreadable a h ih = tt
 

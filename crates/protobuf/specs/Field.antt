@@ -1,6 +1,6 @@
 -- One field of a body: a tag, then what its wire type says ("Operations and their fields", Reading).
 use Rattle.std.specs.Prelude.{ℕ, ◌+◌, ◌/◌, ◌%◌, ◌^◌, List, length, ltb, leb, eqb}
-use Rattle.wire.specs.Choice.{if◌then◌else◌}
+use Rattle.wire.specs.Choice.{when◌then◌else◌}
 use Rattle.protobuf.specs.Varint.{varint_at}
 use Rattle.protobuf.specs.declared.varint.Varint.{Varint}
 use Rattle.protobuf.specs.declared.varint.Varint.TheVariants.{Read, Unreadable as noVarint}
@@ -18,22 +18,22 @@ number_at s number at = varint_then (varint_at s at) (λ value next. Number numb
 
 -- wire types 1 and 5: `size` bytes
 unfoldable pub fixed_at : List ℕ → (number size at : ℕ) → Field
-fixed_at s number size at = if leb (at + size) (length s) then Fixed number (at + size) else Unreadable
+fixed_at s number size at = when leb (at + size) (length s) then Fixed number (at + size) else Unreadable
 
 -- wire type 2: a length, then that many bytes
 unfoldable pub span_at : List ℕ → (number at : ℕ) → Field
 span_at s number at =
     varint_then (varint_at s at)
-    (λ len start. if leb (start + len) (length s) then Span number start len (start + len) else Unreadable)
+    (λ len start. when leb (start + len) (length s) then Span number start len (start + len) else Unreadable)
 
 unfoldable pub content_at : List ℕ → (number wire at : ℕ) → Field
 content_at s number wire at =
-    if eqb wire 0 then number_at s number at
-    else if eqb wire 1 then fixed_at s number 8 at
-    else if eqb wire 2 then span_at s number at
-    else if eqb wire 3 then GroupStart number at
-    else if eqb wire 4 then GroupEnd number at
-    else if eqb wire 5 then fixed_at s number 4 at
+    when eqb wire 0 then number_at s number at
+    else when eqb wire 1 then fixed_at s number 8 at
+    else when eqb wire 2 then span_at s number at
+    else when eqb wire 3 then GroupStart number at
+    else when eqb wire 4 then GroupEnd number at
+    else when eqb wire 5 then fixed_at s number 4 at
     else Unreadable
 
 -- a tag is at most 2^32 - 1: the field number times 8, plus the wire type; no field has number 0
@@ -41,4 +41,4 @@ unfoldable pub field_at : List ℕ → (at : ℕ) → Field
 field_at s at =
     varint_then (varint_at s at)
     (λ tag next.
-    if ltb tag (2 ^ 32) then (if eqb (tag / 8) 0 then Unreadable else content_at s (tag / 8) (tag % 8) next) else Unreadable)
+    when ltb tag (2 ^ 32) then (when eqb (tag / 8) 0 then Unreadable else content_at s (tag / 8) (tag % 8) next) else Unreadable)

@@ -1,7 +1,7 @@
 -- Groups, which are skipped: the fields between a start tag and the end tag of the same number, in which groups may stand
 -- (document 02, "Unlisted fields").
 use Rattle.std.specs.Prelude.{ℕ, zero, suc, List, length, eqb}
-use Rattle.wire.specs.Choice.{if◌then◌else◌}
+use Rattle.wire.specs.Choice.{when◌then◌else◌}
 use Rattle.wire.specs.Scan.{Turn, on, out, scan_at}
 use Rattle.protobuf.specs.Field.{field_at}
 use Rattle.protobuf.specs.declared.field.Field.{Field}
@@ -23,7 +23,7 @@ in_group number groupIn (Number n v next) = on tt next
 in_group number groupIn (Span n start len next) = on tt next
 in_group number groupIn (Fixed n next) = on tt next
 in_group number groupIn (GroupStart n next) = behind (groupIn n next)
-in_group number groupIn (GroupEnd n next) = out (if eqb n number then Skipped next else noGroup)
+in_group number groupIn (GroupEnd n next) = out (when eqb n number then Skipped next else noGroup)
 in_group number groupIn Unreadable = out noGroup
 
 -- the group `number` whose first field is at `at`, where groups may still stand `depth` deep, itself counted

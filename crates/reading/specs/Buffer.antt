@@ -1,6 +1,6 @@
 -- A buffer that a call is lent, and what it writes there.
 use Rattle.std.specs.Prelude.{ℕ, List, [], ◌∷◌, length, take, eqb}
-use Rattle.wire.specs.Choice.{if◌then◌else◌}
+use Rattle.wire.specs.Choice.{when◌then◌else◌}
 use Rattle.wire.specs.Lists.{over}
 
 pub record Written : Type 0 where
@@ -17,4 +17,4 @@ bytes_of w = take w.count w.buffer
 
 -- they as one, if any were
 unfoldable pub as_one : Written → List (List ℕ)
-as_one w = if eqb w.count 0 then [] else bytes_of w ∷ []
+as_one w = when eqb w.count 0 then [] else bytes_of w ∷ []

@@ -10,7 +10,7 @@ use borrow.Author.Tests.{lt-ltb, le-ltb, ltb-false, not-true}
 use lib.Dec.{ltb}
 use lib.ListN.{length, take, drop, length-append, length-drop}
 use lib.Seq.{drop-drop, drop-append-le, take-append_seam, length-take-le}
-use Rattle.wire.specs.Choice.{if◌then◌else◌}
+use Rattle.wire.specs.Choice.{when◌then◌else◌}
 use Rattle.wire.specs.Numbers.{field}
 use Rattle.wire.specs.Scan.{Turn, out, follow, scan_from, scan_at}
 use Rattle.wire.proofs.TestLaws.{or_right}
@@ -90,7 +90,7 @@ module _ {S A : Type 0} (cut : A) (step : S → Record → Step S A) (done : S �
   unfolding record_turn
   turn_ahead file at state = go (is_whole (drop at file))
     where
-      go : (t : Bool) → TurnAhead at (if t then turn_by (step state (record_in (drop at file))) (at + record_length (drop at file)) else out cut)
+      go : (t : Bool) → TurnAhead at (when t then turn_by (step state (record_in (drop at file))) (at + record_length (drop at file)) else out cut)
       go true = by_ahead at (field 1 2 (drop at file)) (step state (record_in (drop at file)))
       go false = tt
 
@@ -112,8 +112,8 @@ module _ {S A : Type 0} (cut : A) (step : S → Record → Step S A) (done : S �
         ∙ go (drop at (drop k file)) (is_whole (drop at (drop k file)))
       where
         go : (x : List ℕ) (t : Bool)
-            → follow (if t then turn_by (step state (record_in x)) (k + at + record_length x) else out cut) f
-            ≡ follow (if t then turn_by (step state (record_in x)) (at + record_length x) else out cut) g
+            → follow (when t then turn_by (step state (record_in x)) (k + at + record_length x) else out cut) f
+            ≡ follow (when t then turn_by (step state (record_in x)) (at + record_length x) else out cut) g
         go x true = by_rest f g ih (step state (record_in x)) (k + at + record_length x) (at + record_length x) (omega arith)
         go x false = refl
 
@@ -129,7 +129,7 @@ module _ {S A : Type 0} (cut : A) (step : S → Record → Step S A) (done : S �
     unfolding scan_from
     from_rest zero at state = refl
     from_rest (suc n) at state =
-        ap₂ (λ (t : Bool) (a : A). if t then a else done state) (test_rest at)
+        ap₂ (λ (t : Bool) (a : A). when t then a else done state) (test_rest at)
         (turn_rest (scan_from (turn file) done (length file) n) (scan_from (turn (drop k file)) done (length (drop k file)) n) (λ at' state'. from_rest n at' state') at state)
 
     scan_rest : (state : S) → scan_at (turn file) done (length file) k state ≡ read_records cut step done (drop k file) state
@@ -170,7 +170,7 @@ module _ {S A : Type 0} (cut : A) (step : S → Record → Step S A) (done : S �
         by (next state') n g = g
         by (stop answer) n g = g
 
-        go : (t : Bool) → TurnHas (λ at state. P state) Q (if t then turn_by (step state (record_in (drop at file))) (at + record_length (drop at file)) else out cut)
+        go : (t : Bool) → TurnHas (λ at state. P state) Q (when t then turn_by (step state (record_in (drop at file))) (at + record_length (drop at file)) else out cut)
         go true = by (step state (record_in (drop at file))) (at + record_length (drop at file)) (more state (record_in (drop at file)) h)
         go false = none
 

@@ -1,6 +1,6 @@
 -- A file of records, one behind the other: tag, length, value ("Roster, registry, connection, tally").
 use Rattle.std.specs.Prelude.{ℕ, ◌+◌, Bool, not, ◌||◌, List, length, take, drop, ltb}
-use Rattle.wire.specs.Choice.{if◌then◌else◌}
+use Rattle.wire.specs.Choice.{when◌then◌else◌}
 use Rattle.wire.specs.Numbers.{field}
 use Rattle.wire.specs.Scan.{Turn, on, out, scan_at}
 
@@ -37,7 +37,7 @@ turn_by (stop answer) behind = out answer
 -- the record that `bytes` begin with, at byte `at` of the file
 unfoldable pub record_turn : {S A : Type 0} → (cut : A) (step : S → Record → Step S A) → (state : S) (at : ℕ) (bytes : List ℕ) → Turn S A
 record_turn cut step state at bytes =
-    if is_whole bytes then turn_by (step state (record_in bytes)) (at + record_length bytes) else out cut
+    when is_whole bytes then turn_by (step state (record_in bytes)) (at + record_length bytes) else out cut
 
 -- record by record from the file's front; `cut` where the bytes that are left begin with no whole record, `done` at its end
 unfoldable pub read_records : {S A : Type 0} → (cut : A) (step : S → Record → Step S A) (done : S → A) → (file : List ℕ) → S → A

@@ -8,7 +8,7 @@ use borrow.Author.Tests.{eqb-false, eq-eqb}
 use lib.ListN.{length, take, drop, get_or, replicate, length-take, length-drop, take-append-drop, drop_of_length-le}
 use lib.Seq.{get_or-take, take_all, drop_at, length-take-le}
 use lib.Dec.{eqb}
-use Rattle.wire.specs.Choice.{if◌then◌else◌}
+use Rattle.wire.specs.Choice.{when◌then◌else◌}
 use Rattle.wire.specs.Lists.{every, is_zero, put, all}
 use Rattle.wire.specs.Numbers.{little_endian, little_endian_of, field}
 use Rattle.wire.proofs.PutLaws.{length_put, part_before, part_behind}
@@ -55,10 +55,10 @@ module _ (slot : List ℕ) (long : length slot ≡ slot_size) where
   -- and so does what it holds
   pub slot_kept : well_formed_slot slot ≡ true → slot_of (unused_slot slot) ≡ slot_of slot
   unfolding slot_of
-  slot_kept good = ap (λ (x : ℕ). if eqb x 0 then free else held (key_in (unused_slot slot))) (byte 0 (omega arith)) ∙ go (eqb (get_or slot 0 0) 0) refl
+  slot_kept good = ap (λ (x : ℕ). when eqb x 0 then free else held (key_in (unused_slot slot))) (byte 0 (omega arith)) ∙ go (eqb (get_or slot 0 0) 0) refl
     where
       go : (t : Bool) → eqb (get_or slot 0 0) 0 ≡ t
-          → (if t then free else held (key_in (unused_slot slot))) ≡ (if t then free else held (key_in slot))
+          → (when t then free else held (key_in (unused_slot slot))) ≡ (when t then free else held (key_in slot))
       go true e = refl
       go false e =
           let tests : every (key_tests slot) ≡ true = sym (key_slot slot (eqb-false _ _ e)) ∙ good in

@@ -10,7 +10,7 @@ use borrow.Author.Tests.{leb-true, leb-false}
 use lib.ListN.{length, take, drop, length-append, length-drop, take-append-drop}
 use lib.Seq.{take-nil, take-append-le, take-append-add, take_at}
 use lib.Dec.{leb, eqb}
-use Rattle.wire.specs.Choice.{if◌then◌else◌}
+use Rattle.wire.specs.Choice.{when◌then◌else◌}
 use Rattle.wire.specs.Lists.{all}
 use Rattle.wire.proofs.NumberLaws.{is_byte}
 use Rattle.wire.proofs.ListLaws.{all_append, all_take}
@@ -388,7 +388,7 @@ first_start roster memory e = go (eqb (length memory) registry_size) e
     read_as (faulty fault) q f = absurd (let z : ◌≡◌ {A = ℕ} 0 1 = cc in omega arith)
 
     go : (t : Bool)
-        → (let o : RosterOutcome = if t then roster_into memory (roster_of roster) else roster_into memory (faulty WrongMemorySize) in
+        → (let o : RosterOutcome = when t then roster_into memory (roster_of roster) else roster_into memory (faulty WrongMemorySize) in
         o.answer ≡ Good → Start o.registry [] o.registry)
     go false f = absurd (let z : ◌≡◌ {A = ℕ} 0 1 = cc in omega arith)
     go true f = read_as (roster_of roster) refl f

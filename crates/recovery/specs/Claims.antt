@@ -2,7 +2,7 @@
 -- into chunks, and about whatever code meets the contracts of the call and of the journal's reader.
 use Rattle.std.specs.Prelude.{◌≡◌, ℕ, ◌≤◌, true, length, take, eqb}
 use mathlib.Core.List.{List, [], ◌++◌, flatten}
-use Rattle.wire.specs.Choice.{if◌then◌else◌}
+use Rattle.wire.specs.Choice.{when◌then◌else◌}
 use Rattle.reading.specs.Calls.{taken_stream}
 use Rattle.registry.specs.WellFormed.{well_formed_registry}
 use Rattle.roster.specs.Roster.{load_roster}
@@ -64,7 +64,7 @@ module _ (list first journal registry : List ℕ) (calls : List Call) (runs : Li
     pub most : count ≤ length answered_requests
     -- reading what is left gives the registry after these, and the bytes up to and with their records
     pub kept : ℕ
-    pub reads : ReadsAs first (on_disk n) (record { said = if eqb kept (length (on_disk n)) then AtBorder else Waiting; taken = length (on_disk n); kept = kept; registry = left_by count })
+    pub reads : ReadsAs first (on_disk n) (record { said = when eqb kept (length (on_disk n)) then AtBorder else Waiting; taken = length (on_disk n); kept = kept; registry = left_by count })
     -- and with the record that was cut dropped it is the next start
     pub again : Start first (take kept (on_disk n)) (left_by count)
 

@@ -8,7 +8,7 @@ use borrow.Author.Tests.{eqb-true, eq-eqb}
 use lib.ListN.{length, take, drop, get_or, length-take, length-drop, take-append-drop}
 use lib.Seq.{drop-drop}
 use lib.Dec.{eqb}
-use Rattle.wire.specs.Choice.{if◌then◌else◌}
+use Rattle.wire.specs.Choice.{when◌then◌else◌}
 use Rattle.wire.specs.Lists.{all, every, is_zero, same, blocks}
 use Rattle.wire.proofs.TestLaws.{and_left, and_right, every_at, both}
 use Rattle.wire.proofs.ListLaws.{all_append}
@@ -35,7 +35,7 @@ registry_checks b =
 
 used : List (List ℕ) → ℕ
 used [] = 0
-used (l ∷ ls) = if same [] (name_in l) then 0 else suc (used ls)
+used (l ∷ ls) = when same [] (name_in l) then 0 else suc (used ls)
 
 index_used : (ls : List (List ℕ)) (i : ℕ) → index_from [] (map name_in ls) i ≡ i + used ls
 unfolding used index_from
@@ -43,7 +43,7 @@ index_used [] i = omega arith
 index_used (l ∷ ls) i = go (index_used ls (i + 1)) (same [] (name_in l))
   where
     go : index_from [] (map name_in ls) (i + 1) ≡ i + 1 + used ls → (t : Bool)
-        → (if t then i else index_from [] (map name_in ls) (i + 1)) ≡ i + (if t then 0 else suc (used ls))
+        → (when t then i else index_from [] (map name_in ls) (i + 1)) ≡ i + (when t then 0 else suc (used ls))
     go r true = omega arith
     go r false = omega arith
 
@@ -52,7 +52,7 @@ unfolding used
 used_le [] = omega arith
 used_le (l ∷ ls) = go (used_le ls) (same [] (name_in l))
   where
-    go : used ls ≤ length ls → (t : Bool) → (if t then 0 else suc (used ls)) ≤ suc (length ls)
+    go : used ls ≤ length ls → (t : Bool) → (when t then 0 else suc (used ls)) ≤ suc (length ls)
     go r true = omega arith
     go r false = omega arith
 
@@ -139,7 +139,7 @@ tested_of (l ∷ ls) s p = go (name_in l) refl (tested_of ls s.1 (tail_of l ls p
     go [] e ih =
         let none : none_used (map name_in ls) ≡ true
         = subst (λ (n : List ℕ). is_used n || none_used (map name_in ls) ≡ true) e (and_left _ _ p.first) in
-        let u : used (l ∷ ls) ≡ 0 = ap (λ (n : List ℕ). if same [] n then 0 else suc (used ls)) e in
+        let u : used (l ∷ ls) ≡ 0 = ap (λ (n : List ℕ). when same [] n then 0 else suc (used ls)) e in
         let z : all is_zero l ≡ true = unused_zero l s.0 e (and_left (zeros_behind_name l) _ p.zeros) (and_left (free_if_unused l) _ p.unused) in
         let more : all is_zero (flatten ls) ≡ true = zero_flatten ls (unused_zeros ls s.1 (tail_of l ls p) none) in
         record {
@@ -147,7 +147,7 @@ tested_of (l ∷ ls) s p = go (name_in l) refl (tested_of ls s.1 (tail_of l ls p
           front = ap (λ (k : ℕ). all well_formed_line (take k (l ∷ ls))) u;
         }
     go (x ∷ n) e ih =
-        let u : used (l ∷ ls) ≡ suc (used ls) = ap (λ (n : List ℕ). if same [] n then 0 else suc (used ls)) e in
+        let u : used (l ∷ ls) ≡ suc (used ls) = ap (λ (n : List ℕ). when same [] n then 0 else suc (used ls)) e in
         let ok = line_ok l x n e (and_left _ _ p.legal) (and_left (slots_well_formed l) _ p.slots) (and_left (zeros_behind_name l) _ p.zeros) (and_left (keys_distinct l) _ p.keys) in
         record {
           rest = ap (λ (k : ℕ). all is_zero (flatten (drop k (l ∷ ls)))) u ∙ ih.rest;
@@ -161,11 +161,11 @@ lines_of (l ∷ ls) s t = go (name_in l) refl (lines_of ls s.1)
   where
     go : (n : List ℕ) → name_in l ≡ n → (Tested ls → Lines ls) → Lines (l ∷ ls)
     go [] e ih =
-        let u : used (l ∷ ls) ≡ 0 = ap (λ (n : List ℕ). if same [] n then 0 else suc (used ls)) e in
+        let u : used (l ∷ ls) ≡ 0 = ap (λ (n : List ℕ). when same [] n then 0 else suc (used ls)) e in
         let z : all is_zero (flatten (l ∷ ls)) ≡ true = sym (ap (λ (k : ℕ). all is_zero (flatten (drop k (l ∷ ls)))) u) ∙ t.rest in
         (zero_lines (l ∷ ls) (flatten_zero (l ∷ ls) z)).1
     go (x ∷ n) e ih =
-        let u : used (l ∷ ls) ≡ suc (used ls) = ap (λ (n : List ℕ). if same [] n then 0 else suc (used ls)) e in
+        let u : used (l ∷ ls) ≡ suc (used ls) = ap (λ (n : List ℕ). when same [] n then 0 else suc (used ls)) e in
         let f : well_formed_line l && all well_formed_line (take (used ls) ls) ≡ true = sym (ap (λ (k : ℕ). all well_formed_line (take k (l ∷ ls))) u) ∙ t.front in
         let ok : well_formed_line l ≡ true = and_left (well_formed_line l) _ f in
         let p = ih (record { rest = sym (ap (λ (k : ℕ). all is_zero (flatten (drop k (l ∷ ls)))) u) ∙ t.rest; front = and_right (well_formed_line l) _ f }) in

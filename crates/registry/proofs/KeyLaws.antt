@@ -8,7 +8,7 @@ use borrow.Author.Tests.{eqb-true, eqb-false}
 use lib.ListN.{length, take, drop, get_or, length-take, length-drop}
 use lib.Seq.{drop-drop, get_or-take, get_or-drop}
 use lib.Dec.{eqb}
-use Rattle.wire.specs.Choice.{if◌then◌else◌}
+use Rattle.wire.specs.Choice.{when◌then◌else◌}
 use Rattle.wire.specs.Lists.{all, is_zero}
 use Rattle.wire.specs.Numbers.{field}
 use Rattle.wire.proofs.TestLaws.{every_at}
@@ -33,7 +33,7 @@ module _ (slot : List ℕ) (good : well_formed_slot slot ≡ true) where
   unfolding slot_of bytes_in
   data_in_lem = go (eqb (get_or slot 0 0) 0) refl
     where
-      go : (t : Bool) → eqb (get_or slot 0 0) 0 ≡ t → bytes_in (if t then free else held (key_in slot)) ≡ data_in slot
+      go : (t : Bool) → eqb (get_or slot 0 0) 0 ≡ t → bytes_in (when t then free else held (key_in slot)) ≡ data_in slot
       go true e = sym (ap (λ (n : ℕ). take n (drop data_at slot)) (zero_field data_length_at 2 slot (all_zero e)))
       go false e = refl
 
@@ -41,7 +41,7 @@ module _ (slot : List ℕ) (good : well_formed_slot slot ≡ true) where
   unfolding slot_of export_in
   export_in_lem = go (eqb (get_or slot 0 0) 0) refl
     where
-      go : (t : Bool) → eqb (get_or slot 0 0) 0 ≡ t → export_in (if t then free else held (key_in slot)) ≡ eqb (get_or slot export_at 0) 1
+      go : (t : Bool) → eqb (get_or slot 0 0) 0 ≡ t → export_in (when t then free else held (key_in slot)) ≡ eqb (get_or slot export_at 0) 1
       go true e = sym (ap (λ (n : ℕ). eqb n 1) (zero_at slot export_at (all_zero e)))
       go false e = refl
 
@@ -49,7 +49,7 @@ module _ (slot : List ℕ) (good : well_formed_slot slot ≡ true) where
   unfolding slot_of bits_in
   bits_in_lem = go (eqb (get_or slot 0 0) 0) refl
     where
-      go : (t : Bool) → eqb (get_or slot 0 0) 0 ≡ t → bits_in (if t then free else held (key_in slot)) ≡ field bits_at 2 slot
+      go : (t : Bool) → eqb (get_or slot 0 0) 0 ≡ t → bits_in (when t then free else held (key_in slot)) ≡ field bits_at 2 slot
       go true e = sym (zero_field bits_at 2 slot (all_zero e))
       go false e = refl
 
@@ -57,7 +57,7 @@ module _ (slot : List ℕ) (good : well_formed_slot slot ≡ true) where
   unfolding slot_of verify_in
   verify_in_lem = go (eqb (get_or slot 0 0) 0) refl
     where
-      go : (t : Bool) → eqb (get_or slot 0 0) 0 ≡ t → verify_in (if t then free else held (key_in slot)) ≡ eqb (get_or slot verify_at 0) 1
+      go : (t : Bool) → eqb (get_or slot 0 0) 0 ≡ t → verify_in (when t then free else held (key_in slot)) ≡ eqb (get_or slot verify_at 0) 1
       go true e = sym (ap (λ (n : ℕ). eqb n 1) (zero_at slot verify_at (all_zero e)))
       go false e = refl
 

@@ -7,7 +7,7 @@ use native.Mathlib.Omega.{arith}
 use borrow.Author.Tests.{ne_eqb, not-true}
 use lib.ListN.{length, get_or, set}
 use lib.Dec.{eqb}
-use Rattle.wire.specs.Choice.{if◌then◌else◌}
+use Rattle.wire.specs.Choice.{when◌then◌else◌}
 use Rattle.wire.specs.Lists.{all, same}
 use Rattle.wire.proofs.TestLaws.{and_left, and_right}
 use Rattle.wire.proofs.ListLaws.{same_comm, all_append, all_set}
@@ -21,7 +21,7 @@ unfolding index_from
 index_from_lem x [] i = omega arith
 index_from_lem x (y ∷ ys) i = go (index_from_lem x ys (i + 1)) (same x y)
   where
-    go : i + 1 ≤ index_from x ys (i + 1) → (t : Bool) → i ≤ (if t then i else index_from x ys (i + 1))
+    go : i + 1 ≤ index_from x ys (i + 1) → (t : Bool) → i ≤ (when t then i else index_from x ys (i + 1))
     go r true = omega arith
     go r false = omega arith
 
@@ -32,8 +32,8 @@ index_same x [] i h = absurd (let z : ⊥ = omega arith in z)
 index_same x (y ∷ ys) i h = go (λ u. index_same x ys (i + 1) u) (same x y) refl h
   where
     go : (index_from x ys (i + 1) < i + 1 + length ys → same x (get_or ys (index_from x ys (i + 1) - (i + 1)) []) ≡ true)
-        → (t : Bool) → same x y ≡ t → (if t then i else index_from x ys (i + 1)) < i + suc (length ys)
-        → same x (get_or (y ∷ ys) ((if t then i else index_from x ys (i + 1)) - i) []) ≡ true
+        → (t : Bool) → same x y ≡ t → (when t then i else index_from x ys (i + 1)) < i + suc (length ys)
+        → same x (get_or (y ∷ ys) ((when t then i else index_from x ys (i + 1)) - i) []) ≡ true
     go r true e u = let z : i - i ≡ 0 = omega arith in rw z e
     go r false e u =
         let z : index_from x ys (i + 1) - i ≡ suc (index_from x ys (i + 1) - (i + 1)) = omega (arith, index_from_lem x ys (i + 1)) in
@@ -45,7 +45,7 @@ index_none x [] i h = refl
 index_none x (y ∷ ys) i h = go (λ u. index_none x ys (i + 1) u) (same x y) h
   where
     go : (i + 1 + length ys ≤ index_from x ys (i + 1) → is_new x ys ≡ true) → (t : Bool)
-        → i + suc (length ys) ≤ (if t then i else index_from x ys (i + 1)) → not t && is_new x ys ≡ true
+        → i + suc (length ys) ≤ (when t then i else index_from x ys (i + 1)) → not t && is_new x ys ≡ true
     go r true u = absurd (let z : ⊥ = omega arith in z)
     go r false u = r (omega arith)
 

@@ -9,7 +9,7 @@ use borrow.Author.Tests.{ltb-true, ltb-false, ne_eqb}
 use lib.ListN.{length, take, drop, get_or, length-map}
 use lib.Seq.{drop-drop}
 use lib.Dec.{ltb}
-use Rattle.wire.specs.Choice.{if◌then◌else◌}
+use Rattle.wire.specs.Choice.{when◌then◌else◌}
 use Rattle.wire.specs.Lists.{same}
 use Rattle.wire.proofs.TestLaws.{and_left, and_right, some≢none}
 use Rattle.wire.proofs.ListLaws.{part_of_part, same_true, map_at}
@@ -47,7 +47,7 @@ named_used registry name line e = go (ltb 0 (length name) && ltb i line_count) r
     i = index_from name (names_in registry) 0
 
     go : (t : Bool) → ltb 0 (length name) && ltb i line_count ≡ t
-        → (let found : Option Line = if t then some (record { 0 = i }) else none in found) ≡ some line → Used registry line
+        → (let found : Option Line = when t then some (record { 0 = i }) else none in found) ≡ some line → Used registry line
     go false q w = absurd (some≢none line (sym w))
     go true q w =
         let n : i ≡ line.0 = ap line_number w in
@@ -78,7 +78,7 @@ module _ (name : List ℕ) (slots : List Entry) where
   unfolding slot_named slot_number k
   found_below slot e = go (ltb k (length slots)) refl e
     where
-      go : (t : Bool) → ltb k (length slots) ≡ t → (let found : Found = if t then At (record { 0 = k }) else Nothing in found) ≡ At slot → slot.0 < length slots
+      go : (t : Bool) → ltb k (length slots) ≡ t → (let found : Found = when t then At (record { 0 = k }) else Nothing in found) ≡ At slot → slot.0 < length slots
       go true q w =
           let n : k ≡ slot.0 = ap slot_number w in
           let h : k < length slots = ltb-true _ _ q in
@@ -89,7 +89,7 @@ module _ (name : List ℕ) (slots : List Entry) where
   unfolding slot_named slot_number k
   found_name slot e = go (ltb k (length slots)) refl e
     where
-      go : (t : Bool) → ltb k (length slots) ≡ t → (let found : Found = if t then At (record { 0 = k }) else Nothing in found) ≡ At slot
+      go : (t : Bool) → ltb k (length slots) ≡ t → (let found : Found = when t then At (record { 0 = k }) else Nothing in found) ≡ At slot
           → name_of (get_or slots slot.0 free) ≡ name
       go true q w =
           let n : k - 0 ≡ slot.0 = (let z : k - 0 ≡ k = omega arith in z) ∙ ap slot_number w in
@@ -103,7 +103,7 @@ module _ (name : List ℕ) (slots : List Entry) where
   unfolding slot_named k
   found_none e = go (ltb k (length slots)) refl e
     where
-      go : (t : Bool) → ltb k (length slots) ≡ t → (let found : Found = if t then At (record { 0 = k }) else Nothing in found) ≡ Nothing
+      go : (t : Bool) → ltb k (length slots) ≡ t → (let found : Found = when t then At (record { 0 = k }) else Nothing in found) ≡ Nothing
           → is_new name (map name_of slots) ≡ true
       go true q w = cc
       go false q w =
@@ -150,7 +150,7 @@ found_line registry name line e = go (ltb 0 (length name) && ltb i line_count) r
     i = index_from name (names_in registry) 0
 
     go : (t : Bool) → ltb 0 (length name) && ltb i line_count ≡ t
-        → (let found : Option Line = if t then some (record { 0 = i }) else none in found) ≡ some line → get_or (names_in registry) line.0 [] ≡ name
+        → (let found : Option Line = when t then some (record { 0 = i }) else none in found) ≡ some line → get_or (names_in registry) line.0 [] ≡ name
     go false q w = absurd (some≢none line (sym w))
     go true q w =
         let n : i ≡ line.0 = ap line_number w in

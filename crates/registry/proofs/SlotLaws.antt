@@ -8,7 +8,7 @@ use borrow.Author.Tests.{ne_eqb, eqb-false, leb-true, leb-false}
 use lib.ListN.{length, take, drop, get_or, replicate, length-append, length-replicate, length-take, length-drop}
 use lib.Seq.{take_at, take-append_seam, drop-append_seam, drop_at, drop-drop, get_or-drop}
 use lib.Dec.{leb, eqb}
-use Rattle.wire.specs.Choice.{if◌then◌else◌}
+use Rattle.wire.specs.Choice.{when◌then◌else◌}
 use Rattle.wire.specs.Lists.{all, every, is_zero, padded}
 use Rattle.wire.specs.Numbers.{little_endian_of, field}
 use Rattle.keys.proofs.KeyLaws.{legal_data_lem, data_by_length, long_data}
@@ -28,7 +28,7 @@ pub name_of_lem : (slot : List ℕ) → name_of (slot_of slot) ≡ name_in slot
 unfolding slot_of
 name_of_lem slot = go (get_or slot 0 0) refl
   where
-    go : (n : ℕ) → get_or slot 0 0 ≡ n → name_of (if eqb n 0 then free else held (key_in slot)) ≡ take n (drop 1 slot)
+    go : (n : ℕ) → get_or slot 0 0 ≡ n → name_of (when eqb n 0 then free else held (key_in slot)) ≡ take n (drop 1 slot)
     go zero e = refl
     go (suc n) e = rw (ne_eqb (suc n) 0 (λ q. (let w : ⊥ = omega arith in w)), e)
 
@@ -51,7 +51,7 @@ pub entry_short : (slot : List ℕ) → well_formed_slot slot ≡ true → Short
 unfolding slot_of
 entry_short slot ok = go (eqb (get_or slot 0 0) 0) refl
   where
-    go : (t : Bool) → eqb (get_or slot 0 0) 0 ≡ t → ShortEntry (if t then free else held (key_in slot))
+    go : (t : Bool) → eqb (get_or slot 0 0) 0 ≡ t → ShortEntry (when t then free else held (key_in slot))
     go true e = tt
     go false e = legal_data_lem (data_in slot) (every_at (key_tests slot) 2 (sym (key_slot slot (eqb-false _ _ e)) ∙ ok))
 

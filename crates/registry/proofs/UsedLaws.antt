@@ -7,7 +7,7 @@ use native.Mathlib.Omega.{arith}
 use lib.ListN.{length, take, drop, get_or, length-take, length-drop}
 use lib.Seq.{get_or-take}
 use lib.Dec.{eqb, leb}
-use Rattle.wire.specs.Choice.{if◌then◌else◌}
+use Rattle.wire.specs.Choice.{when◌then◌else◌}
 use Rattle.wire.specs.Lists.{all, every, is_zero}
 use Rattle.wire.specs.Numbers.{little_endian, little_endian_of, field}
 use Rattle.wire.proofs.PutLaws.{length_put, part_put, part_before}
@@ -70,8 +70,8 @@ module _ (slot : List ℕ) (long : length slot ≡ slot_size) where
     entry_used : slot_of (used_slot slot) ≡ slot_of slot
     unfolding slot_of
     entry_used =
-        ap (λ (x : ℕ). if eqb x 0 then free else held (key_in (used_slot slot))) (byte 0 (omega arith))
-        ∙ ap (λ (k : Key). if eqb (get_or slot 0 0) 0 then free else held k) key_used_lem
+        ap (λ (x : ℕ). when eqb x 0 then free else held (key_in (used_slot slot))) (byte 0 (omega arith))
+        ∙ ap (λ (k : Key). when eqb (get_or slot 0 0) 0 then free else held k) key_used_lem
 
     zeros_behind_name_lem : behind_name key_name_most (used_slot slot) ≡ behind_name key_name_most slot
     zeros_behind_name_lem =
@@ -97,7 +97,7 @@ module _ (slot : List ℕ) (long : length slot ≡ slot_size) where
 -- a slot that holds a key has a name
 pub held_named : (slot : List ℕ) (key : Key) → slot_of slot ≡ held key → get_or slot 0 0 ≡ 0 → ⊥
 unfolding slot_of
-held_named slot key e z = true≢false (sym (ap is_held (sym (ap (λ (n : ℕ). if eqb n 0 then free else held (key_in slot)) z) ∙ e)))
+held_named slot key e z = true≢false (sym (ap is_held (sym (ap (λ (n : ℕ). when eqb n 0 then free else held (key_in slot)) z) ∙ e)))
   where
     is_held : Entry → Bool
     is_held free = false

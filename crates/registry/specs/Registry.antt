@@ -3,7 +3,7 @@
 use Rattle.std.specs.Prelude.{ℕ, ◌+◌, ◌*◌, ◌&&◌, length, take, drop, replicate, ltb}
 use Rattle.std.proofs.Math.Option.{Option, none, some}
 use mathlib.Core.List.{List, ◌∷◌, ◌++◌, map, flatten}
-use Rattle.wire.specs.Choice.{if◌then◌else◌}
+use Rattle.wire.specs.Choice.{when◌then◌else◌}
 use Rattle.wire.specs.Lists.{padded, put, blocks}
 use Rattle.keys.specs.Names.{application_name_most}
 use Rattle.keys.specs.Key.{Key}
@@ -51,7 +51,7 @@ slots_in line = blocks slot_count slot_size (drop line_head line)
 unfoldable pub application_named : List ℕ → (name : List ℕ) → Option Line
 application_named registry name =
     let number = index_from name (names_in registry) 0 in
-    if ltb 0 (length name) && ltb number line_count then some (record { 0 = number }) else none
+    when ltb 0 (length name) && ltb number line_count then some (record { 0 = number }) else none
 
 -- the bytes of a line
 abbrev pub line_at : List ℕ → Line → List ℕ
@@ -69,7 +69,7 @@ uses_of registry line = map uses_in (slots_in (line_at registry line))
 unfoldable pub slot_named : (name : List ℕ) → List Entry → Found
 slot_named name slots =
     let number = index_from name (map name_of slots) 0 in
-    if ltb number (length slots) then At (record { 0 = number }) else Nothing
+    when ltb number (length slots) then At (record { 0 = number }) else Nothing
 
 -- ---- what an operation changes, of the slots of the application that asks
 

@@ -1,7 +1,7 @@
 -- A slot: the key that it holds, its bytes, and which bytes are a slot ("Roster, registry, connection, tally"); how often its key
 -- was used (document 02, "Use per key").
 use Rattle.std.specs.Prelude.{ℕ, ◌+◌, ◌-◌, Bool, true, false, ◌||◌, List, [], ◌∷◌, ◌++◌, length, get_or, take, drop, replicate, leb, ltb, eqb}
-use Rattle.wire.specs.Choice.{if◌then◌else◌}
+use Rattle.wire.specs.Choice.{when◌then◌else◌}
 use Rattle.wire.specs.Lists.{all, every, is_zero, padded, put}
 use Rattle.wire.specs.Numbers.{little_endian_of, field}
 use Rattle.keys.specs.Key.{Key, data_most, legal_data, legal_bits}
@@ -74,7 +74,7 @@ key_in slot = record {
 }
 
 unfoldable pub slot_of : List ℕ → Entry
-slot_of slot = if eqb (get_or slot 0 0) 0 then free else held (key_in slot)
+slot_of slot = when eqb (get_or slot 0 0) 0 then free else held (key_in slot)
 
 -- ---- how often its key was used: served Export and verify requests
 
@@ -87,7 +87,7 @@ uses_most = 4294967295
 
 -- one use more
 unfoldable pub used : ℕ → ℕ
-used uses = if ltb uses uses_most then uses + 1 else uses
+used uses = when ltb uses uses_most then uses + 1 else uses
 
 -- the slot's other bytes stay
 unfoldable pub used_slot : List ℕ → List ℕ

@@ -11,7 +11,7 @@ use borrow.Author.Tests.{leb-false}
 use lib.Dec.{leb, eqb}
 use lib.ListN.{length, take, drop, get_or, length-map, length-set, length-drop, drop_of_length-le}
 use lib.Seq.{drop-drop, length-take-le, take-suc, take-suc-set, get_or-take}
-use Rattle.wire.specs.Choice.{if◌then◌else◌, first_of}
+use Rattle.wire.specs.Choice.{when◌then◌else◌, first_of}
 use Rattle.wire.specs.Lists.{all}
 use Rattle.wire.specs.Numbers.{field}
 use Rattle.wire.proofs.TestLaws.{some≢none, none_at}
@@ -106,7 +106,7 @@ module _ (file : List ℕ) (at : ℕ) (names : List (List ℕ)) where
   unfolding record_step fault_in
   roster_fault fault h e = go (is_whole (drop at file)) refl e
     where
-      go : (t : Bool) → is_whole (drop at file) ≡ t → (if t then first_of (record_faults names (record_in (drop at file))) else some CutRecord) ≡ some fault
+      go : (t : Bool) → is_whole (drop at file) ≡ t → (when t then first_of (record_faults names (record_in (drop at file))) else some CutRecord) ≡ some fault
           → roster_from file at names ≡ faulty fault
       go true w q = records_on (faulty CutRecord) record_step applications (drop at file) names w ∙ rw (record_step, q)
       go false w q =

@@ -8,7 +8,7 @@ use native.Mathlib.Omega.{arith}
 use borrow.Author.Tests.{leb-false, not-false}
 use lib.ListN.{length, length-append}
 use lib.Dec.{eqb}
-use Rattle.wire.specs.Choice.{if◌then◌else◌, first_of}
+use Rattle.wire.specs.Choice.{when◌then◌else◌, first_of}
 use Rattle.wire.proofs.TestLaws.{none_at}
 use Rattle.wire.proofs.ListLaws.{all_append}
 use Rattle.registry.specs.Names.{distinct}
@@ -67,7 +67,7 @@ roster_good file memory e = go (eqb (length memory) registry_size) e
     read (faulty fault) q f = cc
 
     go : (t : Bool)
-        → (let o : RosterOutcome = if t then roster_into memory (roster_of file) else roster_into memory (faulty WrongMemorySize) in
+        → (let o : RosterOutcome = when t then roster_into memory (roster_of file) else roster_into memory (faulty WrongMemorySize) in
         o.answer ≡ Good → well_formed_registry o.registry ≡ true)
     go false f = cc
     go true f = read (roster_of file) refl f

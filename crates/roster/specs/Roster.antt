@@ -2,7 +2,7 @@
 -- tally", R0 to R5).
 use Rattle.std.specs.Prelude.{ℕ, Bool, not, List, [], ◌∷◌, ◌++◌, length, leb, eqb}
 use Rattle.std.proofs.Math.Option.{none, some}
-use Rattle.wire.specs.Choice.{if◌then◌else◌, first_of}
+use Rattle.wire.specs.Choice.{when◌then◌else◌, first_of}
 use Rattle.keys.specs.Names.{legal_name, application_name_most, is_new}
 use Rattle.registry.specs.Registry.{line_count, registry_size, registry_of}
 use Rattle.records.specs.Records.{Record, Step, next, stop, read_records}
@@ -57,4 +57,4 @@ roster_into memory (faulty fault) = record { answer = Faulty fault; registry = m
 -- memory of another size is refused before any record; a refused file leaves it as it came
 unfoldable pub load_roster : (file memory : List ℕ) → RosterOutcome
 load_roster file memory =
-    if eqb (length memory) registry_size then roster_into memory (roster_of file) else roster_into memory (faulty WrongMemorySize)
+    when eqb (length memory) registry_size then roster_into memory (roster_of file) else roster_into memory (faulty WrongMemorySize)

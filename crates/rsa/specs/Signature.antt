@@ -1,6 +1,6 @@
 -- RSASSA-PKCS1-v1_5 with SHA-256, the hash handed in (RFC 8017, sections 5.2.2, 8.2.2 and 9.2).
 use Rattle.std.specs.Prelude.{ℕ, ◌-◌, ◌/◌, ◌%◌, ◌^◌, Bool, ◌&&◌, List, [], ◌∷◌, ◌++◌, length, replicate, eqb, ltb}
-use Rattle.wire.specs.Choice.{if◌then◌else◌}
+use Rattle.wire.specs.Choice.{when◌then◌else◌}
 use Rattle.wire.specs.Lists.{every, same}
 use Rattle.rsa_key.specs.Octets.{os2ip, i2osp}
 use Rattle.rsa.specs.Power.{square_and_multiply}
@@ -25,7 +25,7 @@ abbrev pub encoded : (size : ℕ) → (hash : List ℕ) → List ℕ
 encoded size hash = 0 ∷ 1 ∷ (replicate (size - 54) 0xff ++ (0 ∷ (digest_prefix ++ hash)))
 
 abbrev pub outcome_of : Bool → Outcome
-outcome_of valid = if valid then ValidSignature else InvalidSignature
+outcome_of valid = when valid then ValidSignature else InvalidSignature
 
 abbrev pub report : Outcome → (multiplications : ℕ) → Verification
 report outcome multiplications = record { outcome = outcome; multiplications = multiplications }
@@ -38,14 +38,14 @@ compared n e k hash signature =
 -- section 8.2.2 for a modulus n of k octets; step 1: the signature's length; step 2b: it is below n
 unfoldable pub verified : (n e k : ℕ) → (hash signature : List ℕ) → Verification
 verified n e k hash signature =
-    if every (eqb (length hash) 32 ∷ eqb (length signature) k ∷ ltb (os2ip signature) n ∷ []) then
+    when every (eqb (length hash) 32 ∷ eqb (length signature) k ∷ ltb (os2ip signature) n ∷ []) then
     report (compared n e k hash signature) (square_and_multiply n (os2ip signature) e).count
     else report InvalidSignature 0
 
 unfoldable pub verified_by : (key : List ℕ) → (bits : ℕ) → (hash signature : List ℕ) → PublicKey → Verification
 verified_by key bits hash signature Invalid = report InvalidKey 0
 verified_by key bits hash signature (Valid modulus size e) =
-    if supported_bits bits && has_bits (number_in key modulus size) bits then
+    when supported_bits bits && has_bits (number_in key modulus size) bits then
     verified (number_in key modulus size) e (bits / 8) hash signature
     else report InvalidKey 0
 

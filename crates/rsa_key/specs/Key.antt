@@ -1,6 +1,6 @@
 -- RSAPublicKey (RFC 8017, appendix A.1.1) in DER (X.690), and what is demanded of its numbers ("Checking signatures", document 02).
 use Rattle.std.specs.Prelude.{ℕ, zero, suc, ◌+◌, ◌-◌, ◌*◌, ◌/◌, ◌%◌, ◌^◌, Bool, ◌&&◌, ◌||◌, List, [], ◌∷◌, length, get_or, take, drop, eqb, leb, ltb}
-use Rattle.wire.specs.Choice.{if◌then◌else◌}
+use Rattle.wire.specs.Choice.{when◌then◌else◌}
 use Rattle.wire.specs.Lists.{every}
 use Rattle.rsa_key.specs.Octets.{os2ip}
 use Rattle.rsa_key.specs.declared.der.Element.{Element}
@@ -12,21 +12,21 @@ use Rattle.rsa_key.specs.declared.key.PublicKey.TheVariants.{Valid, Invalid}
 
 -- contents that end within the data
 abbrev pub within : List ℕ → (start len : ℕ) → Element
-within s start len = if leb (start + len) (length s) then Contents start len else Unreadable
+within s start len = when leb (start + len) (length s) then Contents start len else Unreadable
 
 -- the length behind the tag at `at`, in its shortest form (X.690, 10.1): one octet below 128, behind 0x81 one, behind 0x82 two;
 -- no element of a key of at most 4,096 bits is longer
 abbrev pub length_at : List ℕ → (at : ℕ) → Element
 length_at s at =
-    if ltb (get_or s (at + 1) 0) 128 then within s (at + 2) (get_or s (at + 1) 0)
-    else if eqb (get_or s (at + 1) 0) 0x81 then
-    (if ltb (get_or s (at + 2) 0) 128 then Unreadable else within s (at + 3) (get_or s (at + 2) 0))
-    else if eqb (get_or s (at + 1) 0) 0x82 then
-    (if eqb (get_or s (at + 2) 0) 0 then Unreadable else within s (at + 4) (256 * get_or s (at + 2) 0 + get_or s (at + 3) 0))
+    when ltb (get_or s (at + 1) 0) 128 then within s (at + 2) (get_or s (at + 1) 0)
+    else when eqb (get_or s (at + 1) 0) 0x81 then
+    (when ltb (get_or s (at + 2) 0) 128 then Unreadable else within s (at + 3) (get_or s (at + 2) 0))
+    else when eqb (get_or s (at + 1) 0) 0x82 then
+    (when eqb (get_or s (at + 2) 0) 0 then Unreadable else within s (at + 4) (256 * get_or s (at + 2) 0 + get_or s (at + 3) 0))
     else Unreadable
 
 unfoldable pub element_at : List ℕ → (tag at : ℕ) → Element
-element_at s tag at = if eqb (get_or s at 0) tag then length_at s at else Unreadable
+element_at s tag at = when eqb (get_or s at 0) tag then length_at s at else Unreadable
 
 -- ---- INTEGER: 2, SEQUENCE: 0x30
 
@@ -52,16 +52,16 @@ is_exponent s start len =
 unfoldable pub with_exponent : List ℕ → (modulus size : ℕ) → Element → PublicKey
 with_exponent s modulus size Unreadable = Invalid
 with_exponent s modulus size (Contents start len) =
-    if eqb (start + len) (length s) && is_exponent s start len then Valid modulus size (number_in s start len) else Invalid
+    when eqb (start + len) (length s) && is_exponent s start len then Valid modulus size (number_in s start len) else Invalid
 
 unfoldable pub with_modulus : List ℕ → Element → PublicKey
 with_modulus s Unreadable = Invalid
 with_modulus s (Contents start len) =
-    if is_modulus s start len then with_exponent s start len (element_at s 2 (start + len)) else Invalid
+    when is_modulus s start len then with_exponent s start len (element_at s 2 (start + len)) else Invalid
 
 unfoldable pub in_sequence : List ℕ → Element → PublicKey
 in_sequence s Unreadable = Invalid
-in_sequence s (Contents start len) = if eqb (start + len) (length s) then with_modulus s (element_at s 2 start) else Invalid
+in_sequence s (Contents start len) = when eqb (start + len) (length s) then with_modulus s (element_at s 2 start) else Invalid
 
 -- where the modulus's contents stand, and the exponent
 unfoldable pub public_key : List ℕ → PublicKey
@@ -86,7 +86,7 @@ has_bits n bits = eqb (n / 2 ^ (bits - 1)) 1
 -- how many bits n has, a number below 2 ^ w
 abbrev pub bit_count : (w n : ℕ) → ℕ
 bit_count zero n = 0
-bit_count (suc w) n = if leb (2 ^ w) n then suc w else bit_count w n
+bit_count (suc w) n = when leb (2 ^ w) n then suc w else bit_count w n
 
 unfoldable pub bits_in : (key : List ℕ) → PublicKey → ℕ
 bits_in key Invalid = 0

@@ -4,7 +4,7 @@ use mathlib.Core.Bool.{Bool, true, false}
 use mathlib.Core.Option.{Option, none, some}
 use mathlib.Core.List.{List, [], ◌∷◌, ◌++◌}
 use Prim.Native.Nat.{ℕ}
-use Rattle.wire.specs.Choice.{if◌then◌else◌}
+use Rattle.wire.specs.Choice.{when◌then◌else◌}
 use Rattle.wire.specs.Lists.{all, same, every}
 use Rattle.wire.proofs.TestLaws.{some≢none, and_left, and_right, every_at}
 use Rattle.wire.proofs.ListLaws.{all_append}
@@ -28,13 +28,13 @@ step_legal : (state : Pairs) (r : Record) → PairsLegal state → StepHas Pairs
 unfolding pair_step
 step_legal (whole keys) r l = go (every (name_tests keys r))
   where
-    go : (t : Bool) → StepHas PairsLegal AllLegal (if t then next (named keys r.value) else stop none)
+    go : (t : Bool) → StepHas PairsLegal AllLegal (when t then next (named keys r.value) else stop none)
     go true = l
     go false = tt
 step_legal (named keys n) r l = go (every (data_tests r)) refl
   where
     go : (t : Bool) → every (data_tests r) ≡ t
-        → StepHas PairsLegal AllLegal (if t then next (whole (keys ++ (record { name = n; bytes = r.value } ∷ []))) else stop none)
+        → StepHas PairsLegal AllLegal (when t then next (whole (keys ++ (record { name = n; bytes = r.value } ∷ []))) else stop none)
     go true e = all_append is_legal keys (record { name = n; bytes = r.value } ∷ []) l (rw (every_at (data_tests r) 1 e))
     go false e = tt
 
@@ -58,7 +58,7 @@ named_legal name [] key l e = absurd (some≢none key (sym e))
 named_legal name (k ∷ keys) key l e = go (λ q. named_legal name keys key (and_right (is_legal k) _ l) q) (same name k.name) e
   where
     go : (listed_named name keys ≡ some key → legal_data key.bytes ≡ true) → (t : Bool)
-        → (if t then some k else listed_named name keys) ≡ some key → legal_data key.bytes ≡ true
+        → (when t then some k else listed_named name keys) ≡ some key → legal_data key.bytes ≡ true
     go rest true q =
         let w : k ≡ key = cc in
         subst (λ (x : ListedKey). is_legal x ≡ true) w (and_left (is_legal k) _ l)

@@ -9,7 +9,7 @@ use native.Mathlib.Decide.{dec_lt}
 use borrow.Author.Tests.{not-true}
 use lib.ListN.{length, take, drop, length-drop, take-append-drop}
 use lib.Seq.{drop-drop, take-add, length-take-le}
-use Rattle.wire.specs.Choice.{if◌then◌else◌, is_some}
+use Rattle.wire.specs.Choice.{when◌then◌else◌, is_some}
 use Rattle.wire.specs.Lists.{same, every}
 use Rattle.wire.specs.Numbers.{field}
 use Rattle.wire.proofs.TestLaws.{some≢none, and_left, and_right}
@@ -61,12 +61,12 @@ goes : (keys : List ListedKey) (state : Pairs) (r : Record) → pair_step state 
 unfolding pair_step
 goes keys (whole ks) r e = go (every (name_tests ks r)) e
   where
-    go : (t : Bool) → (if t then next (named ks r.value) else stop none) ≡ stop (some keys) → ⊥
+    go : (t : Bool) → (when t then next (named ks r.value) else stop none) ≡ stop (some keys) → ⊥
     go true q = true≢false cc
     go false q = true≢false cc
 goes keys (named ks n) r e = go (every (data_tests r)) e
   where
-    go : (t : Bool) → (if t then next (whole (ks ++ (record { name = n; bytes = r.value } ∷ []))) else stop none) ≡ stop (some keys) → ⊥
+    go : (t : Bool) → (when t then next (whole (ks ++ (record { name = n; bytes = r.value } ∷ []))) else stop none) ≡ stop (some keys) → ⊥
     go true q = true≢false cc
     go false q = true≢false cc
 
@@ -155,12 +155,12 @@ step_begins : (keys : List ListedKey) (state : Pairs) (r : Record) → PairsBegi
 unfolding pair_step
 step_begins keys (whole ks) r b = go (every (name_tests ks r))
   where
-    go : (t : Bool) → StepHas (PairsBegin keys) (AllBegin keys) (if t then next (named ks r.value) else stop none)
+    go : (t : Bool) → StepHas (PairsBegin keys) (AllBegin keys) (when t then next (named ks r.value) else stop none)
     go true = b
     go false = tt
 step_begins keys (named ks n) r b = go (every (data_tests r))
   where
-    go : (t : Bool) → StepHas (PairsBegin keys) (AllBegin keys) (if t then next (whole (ks ++ (record { name = n; bytes = r.value } ∷ []))) else stop none)
+    go : (t : Bool) → StepHas (PairsBegin keys) (AllBegin keys) (when t then next (whole (ks ++ (record { name = n; bytes = r.value } ∷ []))) else stop none)
     go true = begins_more keys ks (record { name = n; bytes = r.value }) b
     go false = tt
 
@@ -182,7 +182,7 @@ new_named name [] = refl
 new_named name (key ∷ keys) = go (same name key.name) (new_named name keys)
   where
     go : (t : Bool) → is_new name (names_of keys) ≡ not (is_some (listed_named name keys))
-        → not t && is_new name (names_of keys) ≡ not (is_some (if t then some key else listed_named name keys))
+        → not t && is_new name (names_of keys) ≡ not (is_some (when t then some key else listed_named name keys))
     go true e = refl
     go false e = e
 

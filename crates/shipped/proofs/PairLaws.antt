@@ -10,7 +10,7 @@ use borrow.Author.Tests.{lt-ltb, le-ltb}
 use lib.Dec.{ltb, eqb}
 use lib.ListN.{length, drop, length-drop}
 use lib.Seq.{drop-drop, drop-append-le}
-use Rattle.wire.specs.Choice.{if◌then◌else◌}
+use Rattle.wire.specs.Choice.{when◌then◌else◌}
 use Rattle.wire.specs.Lists.{every}
 use Rattle.wire.specs.Numbers.{field}
 use Rattle.wire.proofs.TestLaws.{and_left, and_right}
@@ -72,11 +72,11 @@ pair_not bytes n q h = go (is_pair bytes) refl
 
 -- ---- a record's length tells what it is
 
-told : (t : Bool) (size n : ℕ) → n ≡ (if t then 3 + size else 0) → (n ≡ 0 → ⊥) → t ≡ true
+told : (t : Bool) (size n : ℕ) → n ≡ (when t then 3 + size else 0) → (n ≡ 0 → ⊥) → t ≡ true
 told true size n q h = refl
 told false size n q h = absurd (h q)
 
-untold : (t : Bool) (size n : ℕ) → n ≡ (if t then 3 + size else 0) → n ≡ 0 → t ≡ false
+untold : (t : Bool) (size n : ℕ) → n ≡ (when t then 3 + size else 0) → n ≡ 0 → t ≡ false
 untold true size n q h = absurd (let z : ⊥ = omega arith in z)
 untold false size n q h = refl
 
@@ -133,7 +133,7 @@ module _ (keys : List ListedKey) (bytes : List ℕ) where
           records_on none pair_step pairs_done bytes (whole keys) w ∙ rw fails
 
   name_good : is_name bytes ≡ true
-      → read_pairs bytes (whole keys) ≡ (if is_new (value_in bytes) (names_of keys) && (ltb (length keys) listed_most && true) then read_pairs (behind bytes) (named keys (value_in bytes)) else none)
+      → read_pairs bytes (whole keys) ≡ (when is_new (value_in bytes) (names_of keys) && (ltb (length keys) listed_most && true) then read_pairs (behind bytes) (named keys (value_in bytes)) else none)
   unfolding is_name pair_step
   name_good e =
       let w = and_left (is_whole bytes) _ e in
@@ -144,8 +144,8 @@ module _ (keys : List ListedKey) (bytes : List ℕ) where
       ∙ rw (tag, legal) (go (is_new (value_in bytes) (names_of keys) && (ltb (length keys) listed_most && true)))
     where
       go : (t : Bool)
-          → after_step (if t then next (named keys (value_in bytes)) else stop none) (read_records none pair_step pairs_done (behind bytes))
-          ≡ (if t then read_pairs (behind bytes) (named keys (value_in bytes)) else none)
+          → after_step (when t then next (named keys (value_in bytes)) else stop none) (read_records none pair_step pairs_done (behind bytes))
+          ≡ (when t then read_pairs (behind bytes) (named keys (value_in bytes)) else none)
       go true = refl
       go false = refl
 
@@ -179,7 +179,7 @@ module _ (keys : List ListedKey) (bytes : List ℕ) where
   unfolding is_pair
   pairs_none h e = go (is_name bytes) refl e
     where
-      by : (t : Bool) → read_pairs (behind bytes) (named keys (value_in bytes)) ≡ none → (if t then read_pairs (behind bytes) (named keys (value_in bytes)) else none) ≡ none
+      by : (t : Bool) → read_pairs (behind bytes) (named keys (value_in bytes)) ≡ none → (when t then read_pairs (behind bytes) (named keys (value_in bytes)) else none) ≡ none
       by true q = q
       by false q = refl
 

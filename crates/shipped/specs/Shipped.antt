@@ -1,7 +1,7 @@
 -- The list of keys that we ship: which lists are good, and the keys of one (document 02, "Keys we ship").
 use Rattle.std.specs.Prelude.{ℕ, Bool, List, [], ◌∷◌, ◌++◌, map, length, ltb, eqb}
 use Rattle.std.proofs.Math.Option.{Option, none, some}
-use Rattle.wire.specs.Choice.{if◌then◌else◌, is_some}
+use Rattle.wire.specs.Choice.{when◌then◌else◌, is_some}
 use Rattle.wire.specs.Lists.{every, same}
 use Rattle.keys.specs.Key.{legal_data}
 use Rattle.keys.specs.Names.{legal_name, key_name_most, is_new}
@@ -39,9 +39,9 @@ abbrev pub data_tests : Record → List Bool
 data_tests r = eqb r.tag 2 ∷ legal_data r.value ∷ []
 
 unfoldable pub pair_step : Pairs → Record → Step Pairs (Option (List ListedKey))
-pair_step (whole keys) r = if every (name_tests keys r) then next (named keys r.value) else stop none
+pair_step (whole keys) r = when every (name_tests keys r) then next (named keys r.value) else stop none
 pair_step (named keys n) r =
-    if every (data_tests r) then next (whole (keys ++ (record { name = n; bytes = r.value } ∷ []))) else stop none
+    when every (data_tests r) then next (whole (keys ++ (record { name = n; bytes = r.value } ∷ []))) else stop none
 
 unfoldable pub pairs_done : Pairs → Option (List ListedKey)
 pairs_done (whole keys) = some keys
@@ -65,4 +65,4 @@ keys_in list = elim (list_of list) [
 
 unfoldable pub listed_named : (name : List ℕ) → List ListedKey → Option ListedKey
 listed_named n [] = none
-listed_named n (key ∷ keys) = if same n key.name then some key else listed_named n keys
+listed_named n (key ∷ keys) = when same n key.name then some key else listed_named n keys

@@ -11,7 +11,7 @@ use borrow.Author.Tests.{ltb-true, not-false}
 use lib.Dec.{eqb}
 use lib.ListN.{length, take, drop, length-append, length-drop, take-append-drop}
 use lib.Seq.{drop-append-le, length-take-le, take_all}
-use Rattle.wire.specs.Choice.{if◌then◌else◌, first_of}
+use Rattle.wire.specs.Choice.{when◌then◌else◌, first_of}
 use Rattle.wire.specs.Lists.{all}
 use Rattle.wire.specs.Numbers.{little_endian, field}
 use Rattle.wire.proofs.TestLaws.{some≢none, and_left, and_right, none_at}
@@ -67,7 +67,7 @@ module _ (names : List (List ℕ)) (bytes : List ℕ) (e : fault_in names bytes 
 same_fault : (names : List (List ℕ)) (x rest : List ℕ) → record_length x ≤ length x → fault_in names (x ++ rest) ≡ fault_in names x
 unfolding fault_in
 same_fault names x rest room =
-    ap₂ (λ (whole : Bool) (r : Record). if whole then first_of (record_faults names r) else some CutRecord)
+    ap₂ (λ (whole : Bool) (r : Record). when whole then first_of (record_faults names r) else some CutRecord)
     (whole_append x rest room ∙ sym (whole_fit x room)) (record_append x rest room)
 
 -- ---- record after record
@@ -181,8 +181,8 @@ module _ (file : List ℕ) (long : list_most < length file) where
   same_line roster stream = go (roster_of roster)
     where
       go : (r : Roster)
-          → (if is_list_refused r (take list_front_most file) then refused_list else bill_for (take list_front_most file) r stream)
-          ≡ (if is_list_refused r file then refused_list else bill_for file r stream)
+          → (when is_list_refused r (take list_front_most file) then refused_list else bill_for (take list_front_most file) r stream)
+          ≡ (when is_list_refused r file then refused_list else bill_for file r stream)
       go (applications names) = rw (front_bad, longer_bad file long) refl
       go (faulty fault) = refl
 

@@ -10,7 +10,7 @@ use denote.Enum.Declared.{tag_of}
 use types.Run.{OneOf, miss}
 use lib.ListN.{length, take}
 use lib.IntN.{ℤ}
-use Rattle.wire.specs.Choice.{if◌then◌else◌}
+use Rattle.wire.specs.Choice.{when◌then◌else◌}
 use Rattle.wire.proofs.TestLaws.{some≢none}
 use Rattle.stream.specs.Rules.{rules}
 use Rattle.stream.proofs.KeptLaws.{rules_connection, rules_kept}
@@ -216,7 +216,7 @@ start_bills (some roster) (some stream) none e = refl
 start_bills (some roster) (some stream) (some list) e = go (roster_of roster) (well_formed_list list) refl e
   where
     go : (r : Roster) (t : Bool) → well_formed_list list ≡ t → is_good (with_list (roster_source r) t) ≡ false
-        → line_of (with_list (roster_source r) t) ≡ (if bills.is_list_refused r list then refused_list else bill_for list r stream)
+        → line_of (with_list (roster_source r) t) ≡ (when bills.is_list_refused r list then refused_list else bill_for list r stream)
     go (applications names) true q e = absurd (true≢false e)
     go (applications names) false q e = rw q refl
     go (faulty fault) t q e = refl

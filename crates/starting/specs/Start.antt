@@ -2,7 +2,7 @@
 -- ship".
 use Rattle.std.specs.Prelude.{ℕ, ◌≡◌, Bool, true, false, not, List, []}
 use Rattle.std.proofs.Math.Option.{Option, none, some}
-use Rattle.wire.specs.Choice.{if◌then◌else◌}
+use Rattle.wire.specs.Choice.{when◌then◌else◌}
 use Rattle.roster.specs.Roster.{Roster, applications, faulty, roster_of}
 use Rattle.shipped.specs.Shipped.{well_formed_list}
 use Rattle.billing.specs.Bill.{refused_roster, refused_list, no_file}
@@ -38,7 +38,7 @@ is_list_refused BadList isListGood = false
 is_list_refused Unreadable isListGood = false
 
 unfoldable pub with_list : Source → (isListGood : Bool) → Source
-with_list source isListGood = if is_list_refused source isListGood then BadList else source
+with_list source isListGood = when is_list_refused source isListGood then BadList else source
 
 unfoldable pub start_of : (roster list : Option (List ℕ)) → Source
 start_of roster none = Unreadable

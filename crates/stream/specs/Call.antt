@@ -1,7 +1,7 @@
 -- The rules byte by byte, as a reader of the stream: what calls on it do and say is crate `reading`'s.
 use Rattle.std.specs.Prelude.{ℕ, suc, ◌+◌, ◌-◌, Bool, true, false, ◌&&◌, List, [], ◌∷◌, ◌++◌, length, leb, eqb}
 use Rattle.std.proofs.Math.Option.{none, some}
-use Rattle.wire.specs.Choice.{if◌then◌else◌}
+use Rattle.wire.specs.Choice.{when◌then◌else◌}
 use Rattle.wire.specs.Request.{content_length, auth_length, header_length, request_length}
 use Rattle.stream.specs.Frame.{legal_start, oversized, unfinished, bad_start, skipped, whole, next}
 use Rattle.reading.specs.Reader.{Step, Reader, Reading}
@@ -61,7 +61,7 @@ module _ {Reg Count Out : Type 0} (J : Judgement Reg Count Out) where
 
   unfoldable pub skip_rule : State Reg Count → (header : List ℕ) (to_go : ℕ) → Step (State Reg Count) Out
   skip_rule s header to_go =
-      if leb to_go 1 then respond s (request_length header) (J.on_oversized s.registry s.totals.counts header) (opened [])
+      when leb to_go 1 then respond s (request_length header) (J.on_oversized s.registry s.totals.counts header) (opened [])
       else keep s (skipping header (to_go - 1))
 
   unfoldable pub byte_rule : State Reg Count → (byte : ℕ) → Step (State Reg Count) Out

@@ -1,6 +1,6 @@
 -- What the bytes not yet read begin with ("A whole stream under the rules").
 use Rattle.std.specs.Prelude.{ℕ, ◌-◌, Bool, ◌&&◌, ◌||◌, not, List, length, take, leb, ltb, eqb}
-use Rattle.wire.specs.Choice.{if◌then◌else◌}
+use Rattle.wire.specs.Choice.{when◌then◌else◌}
 use Rattle.wire.specs.Request.{magic_number, magic, header_size, content_length, auth_length, header_length, request_length}
 -- the bounds of H, C and A
 pub use Rattle.wire.specs.Request.{header_least, content_most}
@@ -27,9 +27,9 @@ pub data Next : Type 0 where
 
 unfoldable pub next : List ℕ → Next
 next bytes =
-    if ltb (length bytes) 6 then unfinished
-    else if not (legal_start bytes) then bad_start
-    else if ltb (length bytes) (header_length bytes) then unfinished
-    else if ltb (length bytes) (request_length bytes) then
-    (if oversized bytes then skipped (take (header_length bytes) bytes) (request_length bytes - length bytes) else unfinished)
+    when ltb (length bytes) 6 then unfinished
+    else when not (legal_start bytes) then bad_start
+    else when ltb (length bytes) (header_length bytes) then unfinished
+    else when ltb (length bytes) (request_length bytes) then
+    (when oversized bytes then skipped (take (header_length bytes) bytes) (request_length bytes - length bytes) else unfinished)
     else whole (request_length bytes)

@@ -2,7 +2,7 @@
 -- them, one for each ("A whole stream under the rules").
 use Rattle.std.specs.Prelude.{ℕ, zero, suc, length, take, drop}
 use mathlib.Core.List.{List, [], ◌∷◌, ◌++◌, flatten}
-use Rattle.wire.specs.Choice.{if◌then◌else◌}
+use Rattle.wire.specs.Choice.{when◌then◌else◌}
 use Rattle.stream.specs.Frame.{legal_start, unfinished, bad_start, skipped, whole, next}
 use Rattle.stream.specs.Rules.{Verdict, Judgement, judge}
 
@@ -44,7 +44,7 @@ parts_of stream = parts_within (suc (length stream)) stream
 module _ {Reg Count Out : Type 0} (J : Judgement Reg Count Out) where
   unfoldable pub verdict_on : Reg → Count → (request : List ℕ) → Verdict Reg Count Out
   verdict_on registry counts request =
-      if legal_start request then judge J registry counts request else J.on_bad_start registry counts
+      when legal_start request then judge J registry counts request else J.on_bad_start registry counts
 
   -- one response for each request, each judged on what the one before it left
   unfoldable pub responses_from : Reg → Count → (requests : List (List ℕ)) → List Out

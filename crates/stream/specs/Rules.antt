@@ -1,6 +1,6 @@
 -- "A whole stream under the rules": an uncut stream, request by request, whatever the judgement of a request may be.
 use Rattle.std.specs.Prelude.{ℕ, zero, suc, ◌+◌, ◌-◌, List, [], ◌∷◌, ◌++◌, length, take, drop}
-use Rattle.wire.specs.Choice.{if◌then◌else◌}
+use Rattle.wire.specs.Choice.{when◌then◌else◌}
 use Rattle.wire.specs.Request.{header_length, request_length}
 use Rattle.stream.specs.Frame.{oversized, unfinished, bad_start, skipped, whole, next}
 
@@ -82,7 +82,7 @@ module _ {Reg Count Out : Type 0} (J : Judgement Reg Count Out) where
   -- a whole request
   unfoldable pub judge : Reg → Count → (request : List ℕ) → Verdict Reg Count Out
   judge registry counts request =
-      if oversized request then J.on_oversized registry counts (take (header_length request) request)
+      when oversized request then J.on_oversized registry counts (take (header_length request) request)
       else J.on_request registry counts request
 
   -- of the bytes not yet read; `taken` is the length of the whole stream, and `fuel` is more than the requests left

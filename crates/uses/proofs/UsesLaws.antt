@@ -7,7 +7,7 @@ use Prim.Native.Nat.{ℕ, zero, suc, ◌+◌, ◌<◌}
 use native.Mathlib.Omega.{arith}
 use lib.ListN.{get_or, set}
 use lib.Dec.{ltb}
-use Rattle.wire.specs.Choice.{if◌then◌else◌}
+use Rattle.wire.specs.Choice.{when◌then◌else◌}
 use Rattle.wire.specs.Lists.{all}
 use Rattle.wire.proofs.TestLaws.{and_left, and_right}
 use Rattle.wire.proofs.ListLaws.{all_at}
@@ -41,7 +41,7 @@ used_more : (n : ℕ) → ltb (used n) uses_most ≡ true → ltb n uses_most �
 unfolding used
 used_more n = go (ltb n uses_most) refl
   where
-    go : (t : Bool) → ltb n uses_most ≡ t → ltb (if t then n + 1 else n) uses_most ≡ true → t ≡ true
+    go : (t : Bool) → ltb n uses_most ≡ t → ltb (when t then n + 1 else n) uses_most ≡ true → t ≡ true
     go true q e = refl
     go false q e = sym q ∙ e
 
@@ -54,7 +54,7 @@ step_back : {before after : List ℕ} {t : Bool} → Step before after t → not
 step_back (stays same none) e = subst (λ (l : List ℕ). not_full l ≡ true) same e
 step_back {before} (adds k h more one-use) e = set_back before k (subst (λ (l : List ℕ). not_full l ≡ true) more e)
 
-step_sum : {before after : List ℕ} {t : Bool} → Step before after t → not_full before ≡ true → sum after ≡ sum before + (if t then 1 else 0)
+step_sum : {before after : List ℕ} {t : Bool} → Step before after t → not_full before ≡ true → sum after ≡ sum before + (when t then 1 else 0)
 unfolding used increment
 step_sum {before} (stays same none) e = rw none (omega (arith, ap sum same))
 step_sum {before} (adds k h more one-use) e =
@@ -101,7 +101,7 @@ module _ (list : List ℕ) where
         let before = step_back step full in
         (before, omega (arith, ap (λ (s : List ℕ). sum (left s v.counts requests)) same, total, step_sum step before))
       where
-        none_there : (t : Bool) (n : ℕ) → (if t then 1 else 0) + n ≡ 0 → (t ≡ false) × (n ≡ 0)
+        none_there : (t : Bool) (n : ℕ) → (when t then 1 else 0) + n ≡ 0 → (t ≡ false) × (n ≡ 0)
         none_there false n e = (refl, omega arith)
         none_there true n e = absurd (omega arith)
 

@@ -1,7 +1,7 @@
 -- Which requests of a stream use an application's own keys (document 02, "Use per key").
 use Rattle.std.specs.Prelude.{ℕ, ◌+◌, Bool, false, not, ◌&&◌, List, [], ◌∷◌, map, eqb}
 use Rattle.std.proofs.Math.Option.{Option, none, some, bind}
-use Rattle.wire.specs.Choice.{if◌then◌else◌, is_some}
+use Rattle.wire.specs.Choice.{when◌then◌else◌, is_some}
 use Rattle.wire.specs.Lists.{every}
 use Rattle.wire.specs.Request.{request_of}
 use Rattle.messages.specs.Formats.{format_of, format_for}
@@ -81,4 +81,4 @@ registry_after list registry request = (verdict_on (judgement list) registry no_
 unfoldable pub count_if : (test : (registry request : List ℕ) → Bool) → (list registry : List ℕ) (requests : List (List ℕ)) → ℕ
 count_if test list registry [] = 0
 count_if test list registry (request ∷ requests) =
-    (if test registry request then 1 else 0) + count_if test list (registry_after list registry request) requests
+    (when test registry request then 1 else 0) + count_if test list (registry_after list registry request) requests

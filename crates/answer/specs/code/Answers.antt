@@ -1,7 +1,7 @@
 -- What an answered request leaves, in the reading copy's terms.
 use Rattle.std.specs.Prelude.{ℕ, ◌≡◌, List, [], eqb}
 use Rattle.std.proofs.Math.Option.{none}
-use Rattle.wire.specs.Choice.{if◌then◌else◌, first_of}
+use Rattle.wire.specs.Choice.{when◌then◌else◌, first_of}
 use Rattle.wire.specs.Response.{response_bytes}
 use Rattle.wire.specs.code.Wrote.{Wrote}
 use Rattle.wire.specs.declared.header.Header.{Header}
@@ -47,7 +47,7 @@ result_for_named h body registry list line = operated (format_of (format_for h.c
 
 -- and for nobody that is named: the keystore is not for them
 unfoldable pub result_for_nobody : Header → (body list : List ℕ) → Result
-result_for_nobody h body list = if eqb h.provider 1 then refuse NotAuthenticated else operated (format_of (format_for h.content_type)) h.opcode body [] (keys_in list)
+result_for_nobody h body list = when eqb h.provider 1 then refuse NotAuthenticated else operated (format_of (format_for h.content_type)) h.opcode body [] (keys_in list)
 
 -- the result `x` was answered for `who`: its response, with the header's provider, session and opcode, stands at the front of
 -- the buffer `before`, which is now `after`

@@ -1,6 +1,6 @@
 -- What the writers of the bill's text do with a lent buffer.
 use Rattle.std.specs.Prelude.{ℕ, ◌+◌, ◌≤◌, ◌≡◌, List, [], ◌∷◌, length, eqb}
-use Rattle.wire.specs.Choice.{if◌then◌else◌}
+use Rattle.wire.specs.Choice.{when◌then◌else◌}
 use Rattle.wire.specs.Lists.{put}
 use Rattle.billing.specs.Ascii.{ascii}
 use Rattle.billing.specs.Bill.{decimal, text_line}
@@ -13,4 +13,4 @@ pub record Placed (text d e : List ℕ) (at r : ℕ) : Type 0 where
 
 -- the line of a status with this number, where its count isn't 0
 unfoldable pub refused_line : (number n : ℕ) → List ℕ
-refused_line number n = if eqb n 0 then [] else text_line (ascii "refused") (decimal number ∷ decimal n ∷ [])
+refused_line number n = when eqb n 0 then [] else text_line (ascii "refused") (decimal number ∷ decimal n ∷ [])

@@ -1,7 +1,7 @@
 -- What looking at the bytes held comes to, and what filling up does.
 use Rattle.std.specs.Prelude.{ℕ, ◌+◌, ◌≤◌, ◌<◌, ◌≡◌, true, List, ◌++◌, length, take, drop, ltb}
 use Rattle.std.proofs.Math.Option.{Option, none, some}
-use Rattle.wire.specs.Choice.{if◌then◌else◌}
+use Rattle.wire.specs.Choice.{when◌then◌else◌}
 use Rattle.wire.specs.Response.{response_least, response_of}
 use Rattle.messages.specs.declared.read.Span.{Span}
 use Rattle.messages.specs.declared.read.Output.{Output as OutputPlaces}
@@ -47,8 +47,8 @@ pub record Looked (memory : List ℕ) (reply : Option Reply) (r : SaidPlaces) : 
 -- how many bytes must be there before more can be said
 unfoldable pub wanted_of : (bytes : List ℕ) → ℕ
 wanted_of bytes =
-    if ltb (length bytes) 6 then 6
-    else if ltb (length bytes) response_least then response_least
+    when ltb (length bytes) 6 then 6
+    else when ltb (length bytes) response_least then response_least
     else response_least + (response_of bytes).content_length
 
 -- a state that holds the beginning of a response

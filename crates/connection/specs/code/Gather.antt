@@ -1,6 +1,6 @@
 -- What gathering the bytes of a request does.
 use Rattle.std.specs.Prelude.{ℕ, ◌+◌, ◌≤◌, ◌<◌, ◌≡◌, List, ◌++◌, length, take, drop, ltb}
-use Rattle.wire.specs.Choice.{if◌then◌else◌}
+use Rattle.wire.specs.Choice.{when◌then◌else◌}
 use Rattle.wire.specs.Request.{header_length, request_length}
 use Rattle.stream.specs.Frame.{unfinished, bad_start, skipped, whole as is_whole, next}
 use Rattle.stream.specs.code.Framed.{frame_of}
@@ -9,7 +9,7 @@ use Rattle.connection.specs.Connection.{bytes_at, connection_bytes}
 use Rattle.connection.specs.declared.gather.Gathered.{Gathered}
 
 unfoldable pub wanted_of : List ℕ → ℕ
-wanted_of s = if ltb (length s) 6 then 6 else if ltb (length s) (header_length s) then header_length s else request_length s
+wanted_of s = when ltb (length s) 6 then 6 else when ltb (length s) (header_length s) then header_length s else request_length s
 
 -- the first n bytes that a connection's memory has room for
 abbrev pub held_in : (n : ℕ) (memory : List ℕ) → List ℕ

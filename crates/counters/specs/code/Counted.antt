@@ -1,7 +1,7 @@
 -- The counters after a call, in the reading copy's terms.
 use Rattle.std.specs.Prelude.{ℕ, ◌+◌, ◌≤◌, ◌<◌, ◌^◌, List, [], eqb}
 use Rattle.std.proofs.Math.Option.{none, some}
-use Rattle.wire.specs.Choice.{if◌then◌else◌}
+use Rattle.wire.specs.Choice.{when◌then◌else◌}
 use Rattle.registry.specs.Registry.{line_count}
 use Rattle.judgement.specs.Status.{status_number}
 use Rattle.judgement.specs.Counts.{Counts, count_served, count_refused}
@@ -21,7 +21,7 @@ served_for Nobody = ServedUnauthenticated
 served_for (Named line) = Served line
 
 unfoldable pub event_of : Asker → Status → Event
-event_of asker status = if eqb (status_number status) 0 then served_for asker else Refused status
+event_of asker status = when eqb (status_number status) 0 then served_for asker else Refused status
 
 unfoldable pub count_event : Counts → Event → Counts
 count_event counts NoRequest = counts

@@ -1,6 +1,6 @@
 -- The fields of a body as up to five values ("Operations and their fields").
 use Rattle.std.specs.Prelude.{ℕ, ◌+◌, ◌≤◌, eqb}
-use Rattle.wire.specs.Choice.{if◌then◌else◌}
+use Rattle.wire.specs.Choice.{when◌then◌else◌}
 use Rattle.fields.specs.declared.Kind.{Kind}
 use Rattle.fields.specs.declared.Kind.TheVariants.{Unlisted}
 use Rattle.fields.specs.declared.Schema.{Schema}
@@ -12,11 +12,11 @@ use Rattle.fields.specs.declared.Body.TheVariants.{Message, Unreadable}
 -- what field number n stands for
 abbrev pub kind_of : Schema → (n : ℕ) → Kind
 kind_of k n =
-    if eqb n 1 then k.k1
-    else if eqb n 2 then k.k2
-    else if eqb n 3 then k.k3
-    else if eqb n 4 then k.k4
-    else if eqb n 5 then k.k5
+    when eqb n 1 then k.k1
+    else when eqb n 2 then k.k2
+    else when eqb n 3 then k.k3
+    else when eqb n 4 then k.k4
+    else when eqb n 5 then k.k5
     else Unlisted
 
 -- an absent field is 0, false or empty
@@ -29,11 +29,11 @@ all_absent = record { f1 = absent; f2 = absent; f3 = absent; f4 = absent; f5 = a
 -- the values with `v` as field n: of a repeated field the last counts
 unfoldable pub with_value : Values → (n : ℕ) → Value → Values
 with_value m n v =
-    if eqb n 1 then record { f1 = v; f2 = m.f2; f3 = m.f3; f4 = m.f4; f5 = m.f5 }
-    else if eqb n 2 then record { f1 = m.f1; f2 = v; f3 = m.f3; f4 = m.f4; f5 = m.f5 }
-    else if eqb n 3 then record { f1 = m.f1; f2 = m.f2; f3 = v; f4 = m.f4; f5 = m.f5 }
-    else if eqb n 4 then record { f1 = m.f1; f2 = m.f2; f3 = m.f3; f4 = v; f5 = m.f5 }
-    else if eqb n 5 then record { f1 = m.f1; f2 = m.f2; f3 = m.f3; f4 = m.f4; f5 = v }
+    when eqb n 1 then record { f1 = v; f2 = m.f2; f3 = m.f3; f4 = m.f4; f5 = m.f5 }
+    else when eqb n 2 then record { f1 = m.f1; f2 = v; f3 = m.f3; f4 = m.f4; f5 = m.f5 }
+    else when eqb n 3 then record { f1 = m.f1; f2 = m.f2; f3 = v; f4 = m.f4; f5 = m.f5 }
+    else when eqb n 4 then record { f1 = m.f1; f2 = m.f2; f3 = m.f3; f4 = v; f5 = m.f5 }
+    else when eqb n 5 then record { f1 = m.f1; f2 = m.f2; f3 = m.f3; f4 = m.f4; f5 = v }
     else m
 
 -- ---- they lie within n bytes

@@ -1,6 +1,6 @@
 -- What the reader's parts leave: no part of the reading copy.
 use Rattle.std.specs.Prelude.{ℕ, Bool, List, get_or, eqb}
-use Rattle.wire.specs.Choice.{if◌then◌else◌}
+use Rattle.wire.specs.Choice.{when◌then◌else◌}
 use Rattle.wire.specs.Numbers.{field}
 use Rattle.registry.specs.Registry.{changed}
 use Rattle.registry.specs.declared.Line.{Line}
@@ -19,7 +19,7 @@ pub record Done : Type 0 where
 unfoldable pub done_on : (registry : List ℕ) → Line → Result → Done
 done_on registry line x =
     let served = eqb (status_number x.status) 0 in
-    record { served = served; registry = if served then changed registry line x.change else registry }
+    record { served = served; registry = when served then changed registry line x.change else registry }
 
 -- the number of the fault, if there is one, and the registry after a record
 pub record Left : Type 0 where

@@ -1,7 +1,7 @@
 -- What the code decides of a request, in the reading copy's terms.
 use Rattle.std.specs.Prelude.{ℕ, ◌+◌, ◌≤◌, ◌<◌, ◌≡◌, Bool, false, List, [], ◌∷◌, length, get_or, take, ltb, eqb}
 use Rattle.std.proofs.Math.Option.{Option, none, some}
-use Rattle.wire.specs.Choice.{if◌then◌else◌}
+use Rattle.wire.specs.Choice.{when◌then◌else◌}
 use Rattle.wire.specs.Request.{Request}
 use Rattle.wire.specs.declared.header.Header.{Header}
 use Rattle.keys.specs.Key.{Key, data_most, bits_most}
@@ -72,7 +72,7 @@ named_or (some line) = Accepted (Named line)
 -- by the application that the auth bytes name
 unfoldable pub auth_of : (auth_type : ℕ) (auth : List ℕ) → Option Line → Auth
 auth_of auth_type auth named =
-    if eqb auth_type 0 then (if ltb 0 (length auth) then AuthRefused else Accepted Nobody) else named_or named
+    when eqb auth_type 0 then (when ltb 0 (length auth) then AuthRefused else Accepted Nobody) else named_or named
 
 unfoldable pub askers_line : Asker → Option Line
 askers_line Nobody = none
@@ -121,7 +121,7 @@ broken_at at = record { status = DeserializingBodyFailed; output = Offset at; ed
 -- a decision on the key at a place, its use counted
 unfoldable pub counted_at : Place → Decision → Decision
 counted_at (Own slot) d =
-    if eqb (status_number d.status) 0 then record { status = d.status; output = d.output; edit = Uses slot } else d
+    when eqb (status_number d.status) 0 then record { status = d.status; output = d.output; edit = Uses slot } else d
 counted_at (Listed span) d = d
 counted_at Nowhere d = d
 

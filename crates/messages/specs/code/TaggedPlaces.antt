@@ -1,7 +1,7 @@
 -- Format 2 as the code reads it: a field's value by its place.
 use Rattle.std.specs.Prelude.{ℕ, ◌+◌, ◌≤◌, ◌<◌, ◌≡◌, List, drop}
 use Rattle.std.proofs.Math.Option.{Option, none, some, bind}
-use Rattle.wire.specs.Choice.{if◌then◌else◌}
+use Rattle.wire.specs.Choice.{when◌then◌else◌}
 use Rattle.fields.specs.code.Fields.{kind_of, ValueIn}
 use Rattle.fields.specs.declared.Kind.{Kind as KindPlaced}
 use Rattle.fields.specs.declared.Kind.TheVariants.{Bytes, Uint32, Boolean, Unlisted}
@@ -40,7 +40,7 @@ FoundWithin most kind Nothing = Unit {0}
 unfoldable pub field_placed : SchemaPlaced → (body : List ℕ) (at : ℕ) → Field
 field_placed schema body at =
     let rest = drop at body in
-    if is_whole rest then field_with (record_in rest).tag (at + record_length rest) (bind (kind_in (kind_of schema (record_in rest).tag)) (of_value (record_in rest).value))
+    when is_whole rest then field_with (record_in rest).tag (at + record_length rest) (bind (kind_in (kind_of schema (record_in rest).tag)) (of_value (record_in rest).value))
     else unreadable
 
 abbrev pub field_in : (body : List ℕ) → SchemaPlaced → TaggedField → Field

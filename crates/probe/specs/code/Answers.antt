@@ -1,7 +1,7 @@
 -- What the exported functions answer, by the leaves' definitions; where a leaf's `requires` does not hold, `refused` or
 -- false, and nothing is written.
 use Rattle.std.specs.Prelude.{ℕ, ◌≡◌, Bool, true, false, ◌&&◌, List, length, get_or, ltb, leb, eqb}
-use Rattle.wire.specs.Choice.{if◌then◌else◌}
+use Rattle.wire.specs.Choice.{when◌then◌else◌}
 use Rattle.wire.specs.Lists.{over}
 use Rattle.keys.specs.Key.{Key, data_most}
 use Rattle.keys.specs.Names.{key_name_most}
@@ -28,13 +28,13 @@ number_most = 536870911
 
 -- where it fits, r counts the bytes s, which were written over the front of d; else it is refused and d stays
 pub record WroteIf (fits : Bool) (s d e : List ℕ) (r : ℕ) : Type 0 where
-  pub count : r ≡ (if fits then length s else refused)
-  pub bytes : e ≡ (if fits then over s d else d)
+  pub count : r ≡ (when fits then length s else refused)
+  pub bytes : e ≡ (when fits then over s d else d)
 
 -- where it fits, d became s; else it stays
 pub record ChangedIf (fits : Bool) (s d e : List ℕ) (r : Bool) : Type 0 where
   pub answer : r ≡ fits
-  pub bytes : e ≡ (if fits then s else d)
+  pub bytes : e ≡ (when fits then s else d)
 
 -- ---- searches
 
@@ -44,7 +44,7 @@ line_number Unknown = line_count
 
 abbrev pub line_found : (registry name : List ℕ) → ℕ
 line_found registry name =
-    if eqb (length registry) registry_size then line_number (application_found (application_named registry name)) else refused
+    when eqb (length registry) registry_size then line_number (application_found (application_named registry name)) else refused
 
 abbrev pub slot_number : Found → ℕ
 slot_number (At slot) = slot.0
@@ -52,7 +52,7 @@ slot_number Nothing = slot_count
 
 abbrev pub slot_found : (registry : List ℕ) (line : ℕ) (name : List ℕ) → ℕ
 slot_found registry line name =
-    if eqb (length registry) registry_size && ltb line line_count then
+    when eqb (length registry) registry_size && ltb line line_count then
     slot_number (slot_named name (slots_of registry (record { 0 = line })))
     else refused
 
@@ -84,7 +84,7 @@ abbrev pub data_at : (registry : List ℕ) (line slot : ℕ) → List ℕ
 data_at registry line slot = bytes_in (entry_at registry line slot)
 
 abbrev pub exportable : (registry : List ℕ) (line slot : ℕ) → ℕ
-exportable registry line slot = if is_readable registry line slot then flag (export_in (entry_at registry line slot)) else refused
+exportable registry line slot = when is_readable registry line slot then flag (export_in (entry_at registry line slot)) else refused
 
 -- ---- rosters
 

@@ -1,6 +1,6 @@
 -- What the exported functions give back, as numbers.
 use Rattle.std.specs.Prelude.{ℕ, ◌+◌, ◌*◌, List, [], ◌∷◌, length, replicate, ltb, eqb}
-use Rattle.wire.specs.Choice.{if◌then◌else◌}
+use Rattle.wire.specs.Choice.{when◌then◌else◌}
 use Rattle.wire.specs.Request.{request_least}
 use Rattle.wire.specs.code.Header.{header_of}
 use Rattle.wire.specs.declared.header.Header.{Header}
@@ -21,7 +21,7 @@ field_numbers h =
     ∷ h.content_length ∷ h.auth_length ∷ h.opcode ∷ []
 
 abbrev pub header_numbers : List ℕ → List ℕ
-header_numbers bytes = if ltb (length bytes) request_least then replicate 12 0 else field_numbers (header_of bytes)
+header_numbers bytes = when ltb (length bytes) request_least then replicate 12 0 else field_numbers (header_of bytes)
 
 abbrev pub varint_numbers : Varint → List ℕ
 varint_numbers (Read v next) = 1 ∷ v ∷ next ∷ []
@@ -30,7 +30,7 @@ varint_numbers noVarint = 0 ∷ 0 ∷ 0 ∷ []
 -- the schemas of the operations: no fields, ListOpcodes, Import, Destroy and Export
 abbrev pub schema_of : ℕ → Schema
 schema_of n =
-    schema_placed (input_fields (if eqb n 1 then 9 else if eqb n 2 then 6 else if eqb n 3 then 7 else 1))
+    schema_placed (input_fields (when eqb n 1 then 9 else when eqb n 2 then 6 else when eqb n 3 then 7 else 1))
 
 abbrev pub body_numbers : Body → List ℕ
 body_numbers (Message v) =

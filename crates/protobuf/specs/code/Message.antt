@@ -1,6 +1,6 @@
 -- What a field changes in the values so far ("Operations and their fields", Reading).
 use Rattle.std.specs.Prelude.{ℕ, ◌%◌, ◌^◌, List, eqb}
-use Rattle.wire.specs.Choice.{if◌then◌else◌}
+use Rattle.wire.specs.Choice.{when◌then◌else◌}
 use Rattle.fields.specs.code.Fields.{kind_of, with_value}
 use Rattle.protobuf.specs.Field.{field_at}
 use Rattle.protobuf.specs.Group.{depth_most, group_at}
@@ -21,7 +21,7 @@ use Rattle.protobuf.specs.declared.message.Step.TheVariants.{Next, Refuse as sto
 abbrev pub of_number : Kind → (n v next : ℕ) → Item
 of_number Bytes n v next = Skip next
 of_number Uint32 n v next = Keep n (record { start = 0; len = 0; number = v % 2 ^ 32 }) next
-of_number Boolean n v next = Keep n (record { start = 0; len = 0; number = if eqb v 0 then 0 else 1 }) next
+of_number Boolean n v next = Keep n (record { start = 0; len = 0; number = when eqb v 0 then 0 else 1 }) next
 of_number Unlisted n v next = Skip next
 
 -- bytes are kept as the place where they lie

@@ -1,7 +1,7 @@
 -- A roster file, as the code reads it, in the reading copy's terms.
 use Rattle.std.specs.Prelude.{ℕ, ◌+◌, ◌≤◌, ◌≡◌, true, List, map, length, take, drop, set}
 use Rattle.std.proofs.Math.Option.{Option, none, some}
-use Rattle.wire.specs.Choice.{if◌then◌else◌, first_of}
+use Rattle.wire.specs.Choice.{when◌then◌else◌, first_of}
 use Rattle.wire.specs.Lists.{all}
 use Rattle.registry.specs.Registry.{line_count}
 use Rattle.records.specs.Records.{value_in, record_in, is_whole}
@@ -19,7 +19,7 @@ loaded_of (some fault) = Faulty fault
 
 -- the first fault of the record that bytes begin with, `names` being those before it
 unfoldable pub fault_in : (names : List (List ℕ)) (bytes : List ℕ) → Option RosterFault
-fault_in names bytes = if is_whole bytes then first_of (record_faults names (record_in bytes)) else some CutRecord
+fault_in names bytes = when is_whole bytes then first_of (record_faults names (record_in bytes)) else some CutRecord
 
 -- the names whose records begin at these places
 unfoldable pub names_at : (file : List ℕ) → Names → List (List ℕ)

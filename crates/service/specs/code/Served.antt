@@ -1,7 +1,7 @@
 -- What a taken call leaves in the memory that it was lent, in the reading copy's terms.
 use Rattle.std.specs.Prelude.{ℕ, ◌+◌, ◌-◌, ◌≤◌, ◌<◌, ◌^◌, true, ◌≡◌, List, [], length, take, drop, ltb}
 use Rattle.std.proofs.Math.Option.{Option, none, some}
-use Rattle.wire.specs.Choice.{if◌then◌else◌}
+use Rattle.wire.specs.Choice.{when◌then◌else◌}
 use Rattle.wire.specs.Request.{request_least, header_length, request_length}
 use Rattle.wire.specs.code.Wrote.{Wrote}
 use Rattle.reading.specs.Call.{Effect, call_rule}
@@ -81,7 +81,7 @@ effect_of list m chunk = call_rule (reader (journalling list)) (state_in m) chun
 unfoldable pub skip_effect : (list registry : List ℕ) → Counters → (header : List ℕ) (used here to_go : ℕ) → Effect (State (List ℕ) Counts) Handed
 skip_effect list registry c header used here to_go =
     let s : State (List ℕ) Counts = record { connection = closed; registry = registry; totals = totals_of c } in
-    if ltb here to_go then waiting s (used + here) (skipping header (to_go - here))
+    when ltb here to_go then waiting s (used + here) (skipping header (to_go - here))
     else answering s (used + to_go) (request_length header) ((journalling list).on_oversized registry (totals_of c).counts header) (opened [])
 
 -- the header that a skipping connection holds

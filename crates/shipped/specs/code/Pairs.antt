@@ -1,7 +1,7 @@
 -- A list of keys, as the code reads it, in the reading copy's terms.
 use Rattle.std.specs.Prelude.{ℕ, ◌+◌, ◌≤◌, ◌≡◌, Bool, ◌&&◌, List, [], ◌∷◌, length, take, drop, eqb}
 use Rattle.std.proofs.Math.Option.{Option, none, some}
-use Rattle.wire.specs.Choice.{if◌then◌else◌}
+use Rattle.wire.specs.Choice.{when◌then◌else◌}
 use Rattle.wire.specs.Lists.{every}
 use Rattle.keys.specs.Names.{legal_name, key_name_most}
 use Rattle.records.specs.Records.{record_length, value_in, record_in, is_whole}
@@ -21,10 +21,10 @@ is_data bytes = is_whole bytes && every (data_tests (record_in bytes))
 
 -- the length of that record; 0 where there is none
 unfoldable pub name_length : (bytes : List ℕ) → ℕ
-name_length bytes = if is_name bytes then record_length bytes else 0
+name_length bytes = when is_name bytes then record_length bytes else 0
 
 unfoldable pub data_length : (bytes : List ℕ) → ℕ
-data_length bytes = if is_data bytes then record_length bytes else 0
+data_length bytes = when is_data bytes then record_length bytes else 0
 
 -- the data's record, behind the name's
 abbrev pub behind : (bytes : List ℕ) → List ℕ
@@ -34,7 +34,7 @@ unfoldable pub is_pair : (bytes : List ℕ) → Bool
 is_pair bytes = is_name bytes && is_data (behind bytes)
 
 unfoldable pub pair_length : (bytes : List ℕ) → ℕ
-pair_length bytes = if is_pair bytes then record_length bytes + record_length (behind bytes) else 0
+pair_length bytes = when is_pair bytes then record_length bytes + record_length (behind bytes) else 0
 
 abbrev pub key_in : (bytes : List ℕ) → ListedKey
 key_in bytes = record { name = value_in bytes; bytes = value_in (behind bytes) }

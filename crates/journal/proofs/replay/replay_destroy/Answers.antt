@@ -3,7 +3,7 @@ use mathlib.Core.Bool.{Bool}
 use mathlib.Core.Option.{some}
 use native.Mathlib.Omega.{arith}
 use borrow.Author.Tests.{not-true, not-false}
-use Rattle.wire.specs.Choice.{if◌then◌else◌}
+use Rattle.wire.specs.Choice.{when◌then◌else◌}
 use Rattle.journal.specs.Record.{destroying, line_in, act_in}
 use Rattle.journal.specs.Replay.{in_use, judge_act}
 use Rattle.journal.specs.code.Done.{left_by}
@@ -39,7 +39,7 @@ used_2 c = line_used c.args.registry.now c.args.value.now _ (at_2 c) _ c.is_in_u
 
 done : (c : After-destroy_key)
     → (
-    record { fault = if c.destroy_key.result then 0 else 3; registry = c.destroy_key.new.registry }
+    record { fault = when c.destroy_key.result then 0 else 3; registry = c.destroy_key.new.registry }
     ≡ left_by c.args.registry.now (judge_act c.args.registry.now (act_in (record { tag = 3; value = c.args.value.now }))))
 done c =
     
@@ -64,9 +64,9 @@ destroy_key-requires c =
 pub returns-then-destroy_key : goal.returns-then-destroy_key
 returns-then-destroy_key c =
     let w = (goal.at.returns-then-destroy_key c).After-destroy_key in
-    ap (λ (t : Bool). record { fault = if t then 0 else 3; registry = c.destroy_key.new.registry }) (sym c.if-destroy_key.true) ∙ done w
+    ap (λ (t : Bool). record { fault = when t then 0 else 3; registry = c.destroy_key.new.registry }) (sym c.if-destroy_key.true) ∙ done w
 
 pub returns : goal.returns
 returns c =
     let w = (goal.at.returns c).After-destroy_key in
-    ap (λ (t : Bool). record { fault = if t then 0 else 3; registry = c.destroy_key.new.registry }) (sym c.if-destroy_key.false) ∙ done w
+    ap (λ (t : Bool). record { fault = when t then 0 else 3; registry = c.destroy_key.new.registry }) (sym c.if-destroy_key.false) ∙ done w

@@ -5,7 +5,7 @@ use mathlib.Core.Option.{some}
 use Prim.Native.Nat.{ℕ, ◌+◌}
 use native.Mathlib.Omega.{arith}
 use borrow.Author.Tests.{not-true, not-false}
-use Rattle.wire.specs.Choice.{if◌then◌else◌}
+use Rattle.wire.specs.Choice.{when◌then◌else◌}
 use Rattle.journal.specs.Record.{importing, line_in, name_at, key_in, act_in}
 use Rattle.journal.specs.Replay.{in_use, judge_act}
 use Rattle.journal.specs.code.Done.{left_by}
@@ -53,7 +53,7 @@ used_2 c = line_used c.args.registry.now c.args.value.now _ (at_2 c) _ c.is_in_u
 
 done : (c : After-import_key)
     → (
-    record { fault = if c.import_key.result then 0 else 3; registry = c.import_key.new.registry }
+    record { fault = when c.import_key.result then 0 else 3; registry = c.import_key.new.registry }
     ≡ left_by c.args.registry.now (judge_act c.args.registry.now (act_in (record { tag = 2; value = c.args.value.now }))))
 done c =
     
@@ -94,9 +94,9 @@ import_key-requires c =
 pub returns-then-import_key : goal.returns-then-import_key
 returns-then-import_key c =
     let w = (goal.at.returns-then-import_key c).After-import_key in
-    ap (λ (t : Bool). record { fault = if t then 0 else 3; registry = c.import_key.new.registry }) (sym c.if-import_key.true) ∙ done w
+    ap (λ (t : Bool). record { fault = when t then 0 else 3; registry = c.import_key.new.registry }) (sym c.if-import_key.true) ∙ done w
 
 pub returns : goal.returns
 returns c =
     let w = (goal.at.returns c).After-import_key in
-    ap (λ (t : Bool). record { fault = if t then 0 else 3; registry = c.import_key.new.registry }) (sym c.if-import_key.false) ∙ done w
+    ap (λ (t : Bool). record { fault = when t then 0 else 3; registry = c.import_key.new.registry }) (sym c.if-import_key.false) ∙ done w
