@@ -1,6 +1,5 @@
 use mathlib.Core.Path.{◌≡◌, sym, ◌∙◌, subst}
 use mathlib.Core.List.{List}
-use borrow.Author.Rules.{rules}
 use Rattle.registry.specs.Slots.{Entry}
 use Rattle.registry.specs.Registry.{slots_of}
 use Rattle.registry.proofs.RegistryLaws.{slot_below}

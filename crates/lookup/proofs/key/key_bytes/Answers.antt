@@ -1,5 +1,4 @@
 use mathlib.Core.Path.{sym, ap, ◌∙◌, subst}
-use borrow.Author.Rules.{rules}
 use Rattle.lookup.specs.Lookup.{shipped_key}
 use Rattle.lookup.specs.code.Places.{Within, key_held, key_at}
 use Rattle.lookup.specs.declared.Place.{Place}
