@@ -2,7 +2,7 @@
 use mathlib.Core.Path.{◌≡◌, refl}
 use mathlib.Core.Bool.{Bool, true, false}
 use mathlib.Core.Option.{Option, none, some}
-use mathlib.Core.List.{List, [], ◌∷◌}
+use mathlib.Core.List.{List, []}
 use Prim.Native.Nat.{ℕ, ◌≤◌}
 use lib.ListN.{length}
 use lib.Dec.{ltb, eqb}
@@ -48,27 +48,20 @@ pub record Ends (slots : List Entry) (keys : List ListedKey) (P : Result → Typ
 
 -- ---- what counting a use leaves as it is
 
-module _ (source : Source) where
-  pub refused_uncounted : (status : Status) → eqb (status_number status) 0 ≡ false → counted source (refuse status) ≡ refuse status
-  unfolding counted refuse
-  refused_uncounted status e = elim source [
-    | own slot key ↦ rw e
-    | shipped key ↦ refl
-  ]
+pub refused_uncounted : (source : Source) (status : Status) → eqb (status_number status) 0 ≡ false → counted source (refuse status) ≡ refuse status
+unfolding counted refuse
+refused_uncounted (own slot key) status e = rw e
+refused_uncounted (shipped key) status e = refl
 
-  pub served_status : (output : Output) → (counted source (success output unchanged)).status ≡ Success
-  unfolding counted success status_number
-  served_status output = elim source [
-    | own slot key ↦ refl
-    | shipped key ↦ refl
-  ]
+pub served_status : (source : Source) (output : Output) → (counted source (success output unchanged)).status ≡ Success
+unfolding counted success status_number
+served_status (own slot key) output = refl
+served_status (shipped key) output = refl
 
-  pub served_output : (output : Output) → (counted source (success output unchanged)).output ≡ output
-  unfolding counted success status_number
-  served_output output = elim source [
-    | own slot key ↦ refl
-    | shipped key ↦ refl
-  ]
+pub served_output : (source : Source) (output : Output) → (counted source (success output unchanged)).output ≡ output
+unfolding counted success status_number
+served_output (own slot key) output = refl
+served_output (shipped key) output = refl
 
 module _ (slots : List Entry) (keys : List ListedKey) (P : Result → Type 0) (ends : Ends slots keys P) where
   by_import : (key : Key) → P (perform_import key slots keys)

@@ -2,12 +2,9 @@
 use mathlib.Core.Path.{◌≡◌, refl, sym, ap, ◌∙◌, subst}
 use mathlib.Core.Bool.{true, true≢false}
 use mathlib.Core.Option.{Option, none, some}
-use mathlib.Core.Logic.{inl, inr}
-use mathlib.Core.List.{List, [], ◌∷◌}
+use mathlib.Core.List.{List, []}
 use Prim.Native.Nat.{ℕ, ◌≤◌, ◌<◌}
 use native.Mathlib.Omega.{arith}
-use denote.Enum.Declared.{tag_of}
-use types.Run.{OneOf}
 use lib.ListN.{length, get_or}
 use Rattle.wire.proofs.TestLaws.{some≢none}
 use Rattle.keys.specs.Names.{legal_name, key_name_most}
@@ -30,7 +27,6 @@ use Rattle.lookup.specs.Lookup.{shipped_key, Source, own, listed, key_of, own_in
 use Rattle.lookup.specs.code.Places.{Within, key_held, listed_at, key_at, source_at, SlotNamed, KeyAt}
 use Rattle.lookup.specs.declared.Place.{Place}
 use Rattle.lookup.specs.declared.Place.TheVariants.{Own, Listed, Nothing as Nowhere}
-use Rattle.lookup.specs.contracts.Place.{the_type}
 use Rattle.lookup.proofs.LookupLaws.{own_named, none_own, held_bytes, Alike, source_alike}
 use Rattle.judgement.specs.code.Decided.{bytes_at, SafeOutput}
 use Rattle.judgement.specs.declared.Output.TheVariants.{Data}
@@ -132,14 +128,6 @@ module _ (name : List ℕ) (slots : List Entry) (list : List ℕ) where
       (λ at. listed_short))
 
 -- ---- the key at a place
-
--- a place that was told apart from none
-pub not_nowhere : (place : Place) → OneOf (0 ∷ (1 ∷ [])) (tag_of the_type place) → place ≡ Nowhere → ⊥
-not_nowhere place w e = go (subst (OneOf (0 ∷ (1 ∷ []))) (ap (tag_of the_type) e) w)
-  where
-    go : OneOf (0 ∷ (1 ∷ [])) 2 → ⊥
-    go (inl p) = omega arith
-    go (inr p) = omega arith
 
 -- its data, of the slots and the list
 pub bytes_at_lem : (registry list : List ℕ) (line : Line) (place : Place) → (key_at registry list line place).bytes ≡ bytes_at (slots_of registry line) list place

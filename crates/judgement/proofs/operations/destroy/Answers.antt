@@ -1,7 +1,5 @@
 use mathlib.Core.Path.{◌≡◌, sym, ◌∙◌}
 use mathlib.Core.Bool.{true}
-use borrow.Author.Rules.{rules}
-use borrow.Author.Tests.{not-true, not-false}
 use Rattle.keys.specs.Names.{legal_name, key_name_most}
 use Rattle.judgement.specs.declared.Status.TheVariants.{PsaErrorNotPermitted, PsaErrorInvalidArgument, PsaErrorDoesNotExist}
 use Rattle.judgement.proofs.SourceLaws.{at_none, at_below}

@@ -1,12 +1,10 @@
 use mathlib.Core.Path.{◌≡◌, refl, sym, ◌∙◌}
 use mathlib.Core.Bool.{true}
-use borrow.Author.Rules.{rules}
-use borrow.Author.Tests.{not-true, not-false}
 use Rattle.keys.specs.Names.{legal_name, key_name_most}
 use Rattle.registry.proofs.WellFormedLaws.{good_of}
 use Rattle.judgement.specs.declared.Output.TheVariants.{Data}
 use Rattle.judgement.specs.declared.Status.TheVariants.{PsaErrorNotPermitted, PsaErrorInvalidArgument, PsaErrorDoesNotExist}
-use Rattle.judgement.proofs.SourceLaws.{not_nowhere, at_none, at_safe}
+use Rattle.judgement.proofs.SourceLaws.{at_none, at_safe}
 use Rattle.judgement.proofs.DecidedLaws.{refusal, listing, bad_exported, none_exported, exported, not_exported, counting}
 use Rattle.judgement.proofs.operations.export.Goals as goal
 use Rattle.judgement.proofs.operations.export.Goals.{Else-not-is_legal}
@@ -41,14 +39,14 @@ returns-then-not-is_exportable c body =
     let s = c.args in
     rw c.refused-then-not-is_exportable.ensures
     (refusal _ _ body PsaErrorNotPermitted
-    (not_exported s.registry.now s.list.now s.line s.name.now _ c.find_key-place.ensures (legal w) (not_nowhere _ c.in-Nothing.keys2) (sym c.is_exportable.ensures ∙ c.if-not-is_exportable.true)))
+    (not_exported s.registry.now s.list.now s.line s.name.now _ c.find_key-place.ensures (legal w) c.in_default.not-Nothing (sym c.is_exportable.ensures ∙ c.if-not-is_exportable.true)))
 
 pub returns : goal.returns
 returns c body =
     let w = (goal.at.returns c).Else-not-is_legal in
     let s = c.args in
     let at = c.find_key-place.ensures in
-    let somewhere = not_nowhere _ c.in-Nothing.keys2 in
+    let somewhere = c.in_default.not-Nothing in
     rw (c.counted.ensures, c.served.ensures, exported s.registry.now s.list.now s.line s.name.now _ at (legal w) somewhere (sym c.is_exportable.ensures ∙ c.if-not-is_exportable.false))
     (counting s.registry.now s.list.now s.line s.name.now _ at (legal w) somewhere body _
     (listing _ _ body (Data _) (at_safe s.registry.now s.list.now s.line s.name.now _ at) refl))

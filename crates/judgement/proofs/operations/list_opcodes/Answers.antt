@@ -1,7 +1,6 @@
 use Rattle.judgement.specs.declared.Output.TheVariants.{Opcodes}
 use Rattle.judgement.specs.declared.Status.TheVariants.{ProviderDoesNotExist}
 use Rattle.judgement.proofs.DecidedLaws.{refusal, listing, opcodes_refused, opcodes_listed}
-use borrow.Author.Rules.{rules}
 use Rattle.judgement.proofs.operations.list_opcodes.Goals as goal
 
 pub returns-then-provider-gt1 : goal.returns-then-provider-gt1

@@ -1,5 +1,4 @@
 use mathlib.Core.Path.{refl}
-use borrow.Author.Rules.{rules}
 use Rattle.judgement.specs.Operations.{checked}
 use Rattle.judgement.specs.code.Decided.{output_in}
 use Rattle.judgement.specs.declared.Output.TheVariants.{Nothing}

@@ -1,15 +1,13 @@
 use mathlib.Core.Path.{◌≡◌, sym, ◌∙◌}
 use mathlib.Core.Bool.{true}
 use Prim.Native.Nat.{◌<◌}
-use borrow.Author.Rules.{rules}
-use borrow.Author.Tests.{not-true, not-false}
 use Rattle.keys.specs.Names.{legal_name, key_name_most}
 use Rattle.registry.specs.Registry.{line_count, slots_of}
 use Rattle.registry.specs.WellFormed.{well_formed_registry}
 use Rattle.registry.proofs.WellFormedLaws.{good_of}
 use Rattle.lookup.specs.code.Places.{Within}
 use Rattle.judgement.specs.declared.Status.TheVariants.{PsaErrorInvalidArgument, PsaErrorDoesNotExist}
-use Rattle.judgement.proofs.SourceLaws.{not_nowhere, at_none}
+use Rattle.judgement.proofs.SourceLaws.{at_none}
 use Rattle.judgement.proofs.DecidedLaws.{refusal, bad_verified, none_verified, verified_by_lem, counting}
 use Rattle.judgement.proofs.signature.verify.Goals as goal
 use Rattle.judgement.proofs.signature.verify.Goals.{After-find_key-place, Else-not-is_legal}
@@ -61,7 +59,7 @@ returns c body =
     let w = (goal.at.returns c).Else-not-is_legal in
     let s = c.args in
     let at = c.find_key-place.ensures in
-    let somewhere = not_nowhere _ c.in-Nothing.keys2 in
+    let somewhere = c.in_default.not-Nothing in
     rw (c.counted.ensures, verified_by_lem s.registry.now s.list.now s.line s.name.now _ at (legal w) somewhere s.hash.now s.signature.now, ← c.is_verifiable-allowed.ensures, ← c.key_bits-bits.ensures, ← c.key_bytes-key.ensures)
     (counting s.registry.now s.list.now s.line s.name.now _ at (legal w) somewhere body _
     (c.verify_with-d.ensures (slots_of s.registry.now s.line) s.list.now body))

@@ -95,4 +95,4 @@ unfolding status_number
 returns-in-18 c = there 18 c.in-18.is
 
 pub returns-in_default : goal.returns-in_default
-returns-in_default c = sym (get_or-eq_default refused_numbers 0 (at_least refused_count _ c.in-0.rest))
+returns-in_default c = sym (get_or-eq_default refused_numbers 0 (at_least refused_count _ c.in_default.in_default-own.rest))

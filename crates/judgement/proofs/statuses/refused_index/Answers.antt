@@ -1,6 +1,5 @@
 use Rattle.judgement.specs.Status.{status_number}
 use Rattle.judgement.specs.Counts.{index_of}
-use borrow.Author.Rules.{rules}
 use Rattle.judgement.proofs.statuses.refused_index.Goals as goal
 
 pub returns-in-Success : goal.returns-in-Success

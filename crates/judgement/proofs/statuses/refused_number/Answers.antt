@@ -1,5 +1,4 @@
 use mathlib.Core.Path.{◌∙◌}
-use borrow.Author.Rules.{rules}
 use lib.ListN.{get_or-map}
 use Rattle.judgement.specs.Status.{status_number, refused_statuses}
 use Rattle.judgement.specs.declared.Status.TheVariants.{Success}

@@ -1,6 +1,5 @@
 use Prim.Native.Nat.{ℕ}
 use mathlib.Core.Path.{ap, ◌∙◌}
-use borrow.Author.Rules.{rules}
 use lib.ListN.{get_or}
 use Rattle.judgement.proofs.StatusLaws.{refused_numbers, number_there}
 use Rattle.judgement.proofs.statuses.status_number.Goals as goal
