@@ -1,6 +1,6 @@
 -- A RESPONSE READ IN PIECES by the code: its calls are the definition's, so that the cut theorem speaks of them.
 use mathlib.Core.Path.{◌≡◌, refl, sym, ap, ap₂, subst, ◌∙◌}
-use Prim.Native.Nat.{ℕ, ◌+◌}
+use Prim.Native.Nat.{ℕ}
 use mathlib.Core.Bool.{true, false, true≢false}
 use mathlib.Core.Option.{Option, none, some}
 use mathlib.Core.List.{List, [], ◌∷◌, ◌++◌, append-nil, append_assoc}
@@ -19,7 +19,7 @@ use Rattle.reading.proofs.CallLaws.{First, past, brings, on, first, call_past, c
 use Rattle.reading.proofs.DeliveryLaws.{call_takes}
 use Rattle.reading.proofs.CutLaws.{cut_theorem}
 use Rattle.client_responses.specs.Reading.{Asked, Reply, found, response_reader}
-use Rattle.client_responses.specs.State.{state_bytes, bytes_in, layout, Said, waiting, said, said_of, ReadOutcome, refusal, read_outcome}
+use Rattle.client_responses.specs.State.{state_bytes, bytes_in, layout, Said, waiting, said_of, ReadOutcome, refusal, read_outcome}
 use Rattle.client_responses.specs.Claims.{ReadRun, Contract, refusal_in, reply_in, as_call, ran_as, Reads, last_said, ReadsInPieces, InPieces, KeepsStates}
 use Rattle.client_responses.proofs.StateLaws.{Listed, asked_back, held_back, well_there}
 use Rattle.client_responses.proofs.ReadLaws.{outcome, outcome_refused}

@@ -20,7 +20,7 @@ use Rattle.reading.specs.Call.{Effect, call_rule}
 use Rattle.reading.specs.Calls.{Call, CallOutcome, took, refused, call_on}
 use Rattle.reading.proofs.CallLaws.{Passed, pass_none, pass_run, stop_byte, stop_all, call_past}
 use Rattle.client_responses.specs.Reading.{Asked, Reply, found, response_reader}
-use Rattle.client_responses.specs.State.{response_most, state_size, state_bytes, asked_in, bytes_in, layout, well_formed_state, ill_formed, waiting, said, said_of, ReadOutcome, refusal, read_outcome}
+use Rattle.client_responses.specs.State.{response_most, state_size, state_bytes, asked_in, bytes_in, layout, well_formed_state, ill_formed, waiting, said_of, ReadOutcome, refusal, read_outcome}
 use Rattle.client_responses.specs.Handed.{said_in, handed}
 use Rattle.client_responses.specs.code.Looked.{Looked, Holding, Filled}
 use Rattle.client_responses.specs.declared.look.Said.{Said as SaidPlaces}

@@ -1,6 +1,4 @@
 use mathlib.Core.Path.{sym, ◌∙◌}
-use borrow.Author.Tests.{not-true, not-false}
-use borrow.Author.Rules.{rules}
 use Rattle.client_requests.proofs.judge.are_legal_types.Goals as goal
 
 pub returns-then-not-is_content_type : goal.returns-then-not-is_content_type

@@ -1,4 +1,3 @@
-use borrow.Author.Rules.{rules}
 use Rattle.client_requests.specs.code.Judged.{first_refusal}
 use Rattle.client_requests.proofs.judge.first_refusal.Goals as goal
 

@@ -1,5 +1,4 @@
 use native.Mathlib.Omega.{arith}
-use borrow.Author.Rules.{rules}
 use Rattle.client_requests.proofs.JudgeLaws.{too_long}
 use Rattle.client_requests.proofs.judge.is_legal_body.Goals as goal
 

@@ -1,5 +1,3 @@
-use borrow.Author.Tests.{not-true, not-false}
-use borrow.Author.Rules.{rules}
 use Rattle.client_requests.proofs.judge.is_legal_sender.Goals as goal
 
 pub returns-then-not-named : goal.returns-then-not-named

@@ -1,5 +1,4 @@
 use mathlib.Core.Path.{refl}
-use borrow.Author.Rules.{rules}
 use Rattle.client_requests.specs.Writing.{sender_of}
 use Rattle.client_requests.proofs.JudgeLaws.{key_judged}
 use Rattle.client_requests.proofs.judge.judge_key.Goals as goal

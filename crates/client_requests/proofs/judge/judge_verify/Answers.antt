@@ -1,4 +1,3 @@
-use borrow.Author.Rules.{rules}
 use Rattle.client_requests.specs.Writing.{sender_of}
 use Rattle.client_requests.proofs.JudgeLaws.{verify_judged}
 use Rattle.client_requests.proofs.judge.judge_verify.Goals as goal

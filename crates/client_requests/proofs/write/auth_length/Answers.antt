@@ -1,4 +1,3 @@
-use borrow.Author.Rules.{rules}
 use Rattle.client_requests.proofs.write.auth_length.Goals as goal
 
 pub returns-then-named : goal.returns-then-named

@@ -1,6 +1,5 @@
 use mathlib.Core.Path.{◌≡◌, sym, ◌∙◌}
 use native.Mathlib.Omega.{arith}
-use borrow.Author.Rules.{rules}
 use Rattle.wire.specs.Choice.{first_of}
 use Rattle.keys.specs.Names.{key_name_most}
 use Rattle.keys.specs.Key.{Key}

@@ -1,6 +1,5 @@
 use mathlib.Core.Path.{◌≡◌, sym, ◌∙◌}
 use native.Mathlib.Omega.{arith}
-use borrow.Author.Rules.{rules}
 use Rattle.wire.specs.Choice.{first_of}
 use Rattle.messages.specs.Format.{message_bytes}
 use Rattle.messages.specs.Operations.{Operation, list_providers, operation_body}

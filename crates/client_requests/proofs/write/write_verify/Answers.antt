@@ -1,6 +1,5 @@
 use mathlib.Core.Path.{◌≡◌, sym, ◌∙◌}
 use native.Mathlib.Omega.{arith}
-use borrow.Author.Rules.{rules}
 use Rattle.wire.specs.Choice.{first_of}
 use Rattle.messages.specs.Operations.{Operation, verify_signature}
 use Rattle.messages.specs.Formats.{format_for}

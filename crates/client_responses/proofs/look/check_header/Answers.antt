@@ -53,17 +53,17 @@ pub returns-then-not-is_answer : goal.returns-then-not-is_answer
 unfolding header_tests
 returns-then-not-is_answer c =
     sym (left2 _ _ c.if-h-ne1.false c.if-h-ne0.false (c.if-h-type_for.false ∙ c.type_for.ensures)
-      ∙ stops _ _ _ (ap not (sym c.is_answer.ensures ∙ c.if-not-is_answer.true)))
+    ∙ stops _ _ _ (ap not (sym c.is_answer.ensures ∙ c.if-not-is_answer.true)))
 
 pub returns-then-h : goal.returns-then-h
 unfolding header_tests
 returns-then-h c =
     sym (left3 _ _ c.if-h-ne1.false c.if-h-ne0.false (c.if-h-type_for.false ∙ c.type_for.ensures) (ap not (sym c.is_answer.ensures ∙ c.if-not-is_answer.false))
-      ∙ stops _ _ _ (lt-ltb _ _ c.if-h.true))
+    ∙ stops _ _ _ (lt-ltb _ _ c.if-h.true))
 
 pub returns : goal.returns
 unfolding header_tests first_of
 returns c =
     let h = c.args.h in
     sym (left3 _ _ c.if-h-ne1.false c.if-h-ne0.false (c.if-h-type_for.false ∙ c.type_for.ensures) (ap not (sym c.is_answer.ensures ∙ c.if-not-is_answer.false))
-      ∙ passes (ltb response_content_most h.content_length) ContentTooLong [] (le-ltb _ _ c.if-h.false))
+    ∙ passes (ltb response_content_most h.content_length) ContentTooLong [] (le-ltb _ _ c.if-h.false))

@@ -11,7 +11,6 @@ use Rattle.client_responses.specs.State.{session_at, asked_in}
 use Rattle.client_responses.specs.code.Looked.{check_of, Run}
 use Rattle.client_responses.proofs.FoundLaws.{run_six, run_header, run_whole}
 use Rattle.client_responses.proofs.LookLaws.{passed}
-use borrow.Author.Rules.{rules}
 use Rattle.client_responses.proofs.look.first_run.Goals as goal
 use Rattle.client_responses.proofs.look.first_run.Goals.{After-check_header}
 

@@ -1,5 +1,4 @@
 use mathlib.Core.Path.{sym, ◌∙◌}
-use borrow.Author.Rules.{rules}
 use Rattle.client_responses.proofs.look.is_answer.Goals as goal
 
 pub returns-then-is_its : goal.returns-then-is_its

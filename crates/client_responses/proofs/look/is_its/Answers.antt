@@ -2,7 +2,6 @@ use mathlib.Core.Path.{sym}
 use mathlib.Core.Bool.{and-true}
 use borrow.Author.Tests.{eq-eqb, ne_eqb}
 use Rattle.client_responses.specs.Reading.{is_its}
-use borrow.Author.Rules.{rules}
 use Rattle.client_responses.proofs.look.is_its.Goals as goal
 
 pub returns-then-h-opcode : goal.returns-then-h-opcode

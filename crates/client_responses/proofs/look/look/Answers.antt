@@ -6,11 +6,11 @@ use native.Mathlib.Omega.{arith}
 use borrow.Author.Rules.{rules}
 use lib.ListN.{length, take, drop}
 use Rattle.wire.specs.Numbers.{field}
-use Rattle.wire.specs.Request.{magic_number, magic, header_size}
-use Rattle.wire.specs.Response.{response_header_size, response_least, response_of}
+use Rattle.wire.specs.Request.{magic, header_size}
+use Rattle.wire.specs.Response.{response_least, response_of}
 use Rattle.client_responses.specs.Reading.{found_behind}
 use Rattle.client_responses.specs.State.{count_at, bytes_at, asked_in, bytes_in, well_formed_state}
-use Rattle.client_responses.proofs.StateLaws.{Well, well}
+use Rattle.client_responses.proofs.StateLaws.{well}
 use Rattle.client_responses.proofs.FoundLaws.{found_short, found_magic, found_size, found_header, found_whole}
 use Rattle.wire.specs.declared.response.ResponseHeader.{ResponseHeader}
 use Rattle.client_responses.proofs.LookLaws.{held_part, count_part, looked_waiting, looked_refused, looked_as}

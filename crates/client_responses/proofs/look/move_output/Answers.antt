@@ -3,7 +3,6 @@ use Rattle.messages.specs.Placed.{OutputWithin}
 use Rattle.messages.specs.declared.read.Output.TheVariants.{Providers, Opcodes, Data}
 use Rattle.client_responses.specs.Reading.{response_content_most}
 use Rattle.client_responses.specs.code.Looked.{body_at, output_moved}
-use borrow.Author.Rules.{rules}
 use Rattle.client_responses.proofs.look.move_output.Goals as goal
 
 pub move_span-requires : goal.move_span-requires

@@ -1,5 +1,4 @@
 use mathlib.Core.Path.{sym, ◌∙◌}
-use borrow.Author.Rules.{rules}
 use Rattle.client_responses.proofs.look.provider_for.Goals as goal
 
 pub returns-then-is_core : goal.returns-then-is_core

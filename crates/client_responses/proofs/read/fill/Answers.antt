@@ -8,7 +8,6 @@ use Rattle.wire.proofs.ListLaws.{length_part, part_of_part}
 use Rattle.client_responses.specs.Reading.{found}
 use Rattle.client_responses.specs.State.{state_bytes, asked_in, bytes_in}
 use Rattle.client_responses.proofs.StateLaws.{well}
-use borrow.Author.Rules.{rules}
 use Rattle.client_responses.proofs.read.fill.Goals as goal
 
 pub read_u16-held-requires : goal.read_u16-held-requires

@@ -7,7 +7,6 @@ use Rattle.client_responses.specs.State.{asked_in, bytes_in}
 use Rattle.client_responses.specs.code.Looked.{Run}
 use Rattle.client_responses.proofs.StateLaws.{well}
 use Rattle.client_responses.proofs.FoundLaws.{run_wanted, run_first}
-use borrow.Author.Rules.{rules}
 use Rattle.client_responses.proofs.read.run.Goals as goal
 use Rattle.client_responses.proofs.read.run.Goals.{After-read_u16-held}
 

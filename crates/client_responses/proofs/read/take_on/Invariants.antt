@@ -1,11 +1,7 @@
-use Prim.Native.Nat.{ℕ, ◌+◌, ◌-◌, ◌<◌}
-use mathlib.Core.List.{List}
-use native.Mathlib.Omega.{arith}
-use borrow.Author.Rules.{rules}
+use Prim.Native.Nat.{◌-◌}
 use lib.ListN.{length}
 use Rattle.client_responses.specs.State.{asked_in, bytes_in}
-use Rattle.client_responses.proofs.StateLaws.{well}
-use Rattle.client_responses.proofs.ReadLaws.{not_waiting, Part, part_none, part_holds, part_again, part_stops, after_well, after_size}
+use Rattle.client_responses.proofs.ReadLaws.{Part}
 use Rattle.client_responses.proofs.read.take_on.Given as goal
 
 abbrev pub invariant-loop-taken : goal.invariant-loop-taken

@@ -6,13 +6,11 @@ use lib.ListN.{length, take, drop, length-append}
 use Rattle.wire.specs.Lists.{over}
 use Rattle.client_responses.specs.State.{response_most, count_at, bytes_at}
 use Rattle.client_responses.proofs.StateLaws.{count_put, bytes_put}
-use borrow.Author.Rules.{rules}
 use Rattle.client_responses.proofs.state.append.Goals as goal
 
 pub returns : goal.returns
 returns c =
     λ asked before h e.
-    
     let a = c.args in
     let bytes : List ℕ = a.bytes.now in
     let m : List ℕ = a.memory.now in

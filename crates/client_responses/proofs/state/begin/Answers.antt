@@ -1,13 +1,10 @@
 use mathlib.Core.Path.{sym, ap, ◌∙◌}
 use Prim.Native.Nat.{ℕ}
-use borrow.Author.Tests.{eq-eqb, ne_eqb, not-true, not-false}
-use mathlib.Core.List.{[]}
-use native.Mathlib.Omega.{arith}
-use lib.ListN.{length, replicate}
+use borrow.Author.Tests.{eq-eqb, ne_eqb}
+use lib.ListN.{replicate}
 use Rattle.client_responses.specs.Reading.{Asked}
 use Rattle.client_responses.specs.State.{begin_state}
-use Rattle.client_responses.proofs.StateLaws.{size_there, begun_put}
-use borrow.Author.Rules.{rules}
+use Rattle.client_responses.proofs.StateLaws.{begun_put}
 use Rattle.client_responses.proofs.state.begin.Goals as goal
 
 pub returns-then-memory-ne-STATE_SIZE : goal.returns-then-memory-ne-STATE_SIZE

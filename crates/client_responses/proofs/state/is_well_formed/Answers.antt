@@ -2,13 +2,11 @@ use mathlib.Core.Path.{◌≡◌, sym, ap, ◌∙◌}
 use mathlib.Core.Bool.{true}
 use native.Mathlib.Omega.{arith}
 use Prim.Native.Nat.{◌+◌, ◌≤◌, ◌<◌}
-use borrow.Author.Tests.{not-true, not-false}
 use Rattle.wire.specs.Lists.{all, is_zero}
 use Rattle.wire.specs.Numbers.{field}
 use Rattle.wire.proofs.BufferLaws.{lent}
 use Rattle.client_responses.specs.State.{response_most, accept_at, count_at, bytes_at}
 use Rattle.client_responses.proofs.StateLaws.{is_listed, is_type, other_size, unlisted, other_type, too_many, zeros_decide}
-use borrow.Author.Rules.{rules}
 use Rattle.client_responses.proofs.state.is_well_formed.Goals as goal
 use Rattle.client_responses.proofs.state.is_well_formed.Goals.{Else-not-is_content_type, Else-not-is_listed}
 
