@@ -4,8 +4,8 @@ use Rattle.abi.proofs.code_number.Goals as goal
 
 pub returns-in-Taken : goal.returns-in-Taken
 unfolding code_number
-returns-in-Taken c = rw c.enum_told-1.given.1
+returns-in-Taken c = rw c.in-Taken.is
 
 pub returns-in-Refused : goal.returns-in-Refused
 unfolding code_number
-returns-in-Refused c = rw c.code-1.given.1 c.refusal_number.ensures
+returns-in-Refused c = rw c.in-Refused.is c.refusal_number.ensures

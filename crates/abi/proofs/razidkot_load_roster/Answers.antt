@@ -18,7 +18,7 @@ pub returns-in-Good : goal.returns-in-Good
 unfolding loaded_number
 returns-in-Good c =
     let loaded = c in
-    rw (← ap loaded_with loaded.load_roster.ensures, c.enum_told-1.given.1)
+    rw (← ap loaded_with loaded.load_roster.ensures, c.in-Good.is)
 
 pub returns-in-Faulty : goal.returns-in-Faulty
 unfolding loaded_number

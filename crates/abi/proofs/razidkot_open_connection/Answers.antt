@@ -7,10 +7,10 @@ pub returns-in-Fresh : goal.returns-in-Fresh
 unfolding opened_number
 returns-in-Fresh c =
     let opened = c in
-    rw (← ap opened_with opened.open_connection.ensures, c.enum_told-1.given.1)
+    rw (← ap opened_with opened.open_connection.ensures, c.in-Fresh.is)
 
 pub returns-in-WrongSize : goal.returns-in-WrongSize
 unfolding opened_number
 returns-in-WrongSize c =
     let opened = c in
-    rw (← ap opened_with opened.open_connection.ensures, c.enum_told-in-WrongSize-1.given.1)
+    rw (← ap opened_with opened.open_connection.ensures, c.in-WrongSize.is)

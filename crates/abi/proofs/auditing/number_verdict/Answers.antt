@@ -4,8 +4,8 @@ use Rattle.abi.proofs.auditing.number_verdict.Goals as goal
 
 pub returns-in-Accepted : goal.returns-in-Accepted
 unfolding verdict_numbers
-returns-in-Accepted c = rw c.enum_told-1.given.1
+returns-in-Accepted c = rw c.in-Accepted.is
 
 pub returns-in-Wrong : goal.returns-in-Wrong
 unfolding verdict_numbers
-returns-in-Wrong c = rw c.verdict-1.given.1
+returns-in-Wrong c = rw c.in-Wrong.is

@@ -17,8 +17,8 @@ said r n e = e ∙ sym (same n)
 
 pub returns-in-IllFormed : goal.returns-in-IllFormed
 unfolding refused_number refusal_of
-returns-in-IllFormed c = rw c.enum_told-1.given.1
+returns-in-IllFormed c = rw c.in-IllFormed.is
 
 pub returns-in-Called : goal.returns-in-Called
 unfolding refusal_of
-returns-in-Called c = rw c.code-1.given.1 (said _ _ c.code_number.ensures)
+returns-in-Called c = rw c.in-Called.is (said _ _ c.code_number.ensures)

@@ -26,4 +26,4 @@ returns-in-Message c =
     ap body_numbers (sym known.v-1.given.1 ∙ read known)
 
 pub returns-in-Unreadable : goal.returns-in-Unreadable
-returns-in-Unreadable c = ap body_numbers (sym c.at-1.given.1 ∙ read c)
+returns-in-Unreadable c = ap body_numbers (sym c.in-Unreadable.is ∙ read c)

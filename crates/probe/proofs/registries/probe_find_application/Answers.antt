@@ -10,9 +10,9 @@ returns-then-registry-ne-REGISTRY_SIZE c = simp (ne_eqb _ _ c.if-registry-ne-REG
 pub returns-in-Named : goal.returns-in-Named
 returns-in-Named c =
     let found = c in
-    rw (eq-eqb _ _ found.if-registry-ne-REGISTRY_SIZE.false) (ap line_number (sym c.line-1.given.1 ∙ found.find_application.ensures))
+    rw (eq-eqb _ _ found.if-registry-ne-REGISTRY_SIZE.false) (ap line_number (sym c.in-Named.is ∙ found.find_application.ensures))
 
 pub returns-in-Unknown : goal.returns-in-Unknown
 returns-in-Unknown c =
     let found = c in
-    rw (eq-eqb _ _ found.if-registry-ne-REGISTRY_SIZE.false) (ap line_number (sym c.enum_told-1.given.1 ∙ found.find_application.ensures))
+    rw (eq-eqb _ _ found.if-registry-ne-REGISTRY_SIZE.false) (ap line_number (sym c.in-Unknown.is ∙ found.find_application.ensures))

@@ -14,10 +14,10 @@ pub returns-in-At : goal.returns-in-At
 returns-in-At c =
     let found = c in
     simp (eq-eqb _ _ found.if-registry-ne-REGISTRY_SIZE.false, lt-ltb _ _ found.if-line-ge-LINES.false)
-    (ap slot_number (sym c.slot-1.given.1 ∙ found.find_slot.ensures))
+    (ap slot_number (sym c.in-At.is ∙ found.find_slot.ensures))
 
 pub returns-in-Nothing : goal.returns-in-Nothing
 returns-in-Nothing c =
     let found = c in
     simp (eq-eqb _ _ found.if-registry-ne-REGISTRY_SIZE.false, lt-ltb _ _ found.if-line-ge-LINES.false)
-    (ap slot_number (sym c.enum_told-1.given.1 ∙ found.find_slot.ensures))
+    (ap slot_number (sym c.in-Nothing.is ∙ found.find_slot.ensures))
