@@ -3,28 +3,30 @@
 #![tactic(auto)]
 
 use file_input::open_argument;
-use libc::STDOUT_FILENO;
+use std::io;
+use std::io::Write;
 use text::{text_buffer, write_text};
 
 mod restore;
 mod streams;
 mod text;
 
-fn main() {
-    let roster = open_argument(1);
-    let list = open_argument(2);
-    let journal = open_argument(3);
-    let requests = open_argument(4);
-    let responses = open_argument(5);
+fn main(rt: HostRuntime) -> io::Result<()> {
+    let roster = open_argument(&rt, 1);
+    let list = open_argument(&rt, 2);
+    let journal = open_argument(&rt, 3);
+    let requests = open_argument(&rt, 4);
+    let responses = open_argument(&rt, 5);
     let mut out = text_buffer();
     let size = write_text(&mut out, roster, list, journal, requests, responses);
-    write_out(&out, size);
+    write_out(&rt, &out, size)
 }
 
 // Writes the first bytes of the text.
-fn write_out(out: &[u8], size: usize) {
+fn write_out(rt: &impl Print, out: &[u8], size: usize) -> io::Result<()> {
     if size <= out.len() {
         let start = 0;
-        io::write_all(STDOUT_FILENO, &out[start..size]);
+        rt.write_all(&out[start..size])?;
     }
+    Ok(())
 }

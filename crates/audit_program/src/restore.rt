@@ -1,9 +1,10 @@
 // A journal file read, and its records carried out on the roster's registry.
-use file_input::{read_rest, read_some};
+use file_input::{Argument, CHUNK_SIZE, read_rest, read_some};
 use journal::Fault;
 use journal::read::{Said, read_journal};
 use journal::state::{STATE_SIZE, begin_journal};
-use starting::files::{File, Input, TURNS, is_end};
+use starting::files::{Input, TURNS, is_end};
+use std::fs::File;
 
 // What a journal file comes to. A cut end is no fault.
 #[derive(Clone, Copy)]
@@ -34,13 +35,18 @@ fn ended(restored: Restored, is_whole: bool) -> Restored {
 }
 
 // Reads a file to its end. Once a record is refused, each call says so again and takes nothing.
-fn take_journal(fd: i32, registry: &mut [u8], state: &mut [u8], chunk: &mut [u8]) -> Restored {
+fn take_journal(
+    file: &mut File,
+    registry: &mut [u8],
+    state: &mut [u8],
+    chunk: &mut [u8],
+) -> Restored {
     begin_journal(state);
     let start = 0;
     let mut restored = Restored::Whole;
     let mut turns = TURNS;
     while 0 < turns {
-        let input = read_some(fd, chunk);
+        let input = read_some(file, chunk);
         let Input::Bytes(n) = input else {
             return ended(restored, is_end(input));
         };
@@ -56,14 +62,14 @@ fn take_journal(fd: i32, registry: &mut [u8], state: &mut [u8], chunk: &mut [u8]
 }
 
 // Restores a registry, where roster and list are good; else the file is only read to its end.
-pub fn restore(journal: File, is_good: bool, registry: &mut [u8]) -> Restored {
-    let File::Open(fd) = journal else {
+pub fn restore(journal: Argument, is_good: bool, registry: &mut [u8]) -> Restored {
+    let Argument::Open(mut file) = journal else {
         return Restored::Unreadable;
     };
     if !is_good {
-        return ended(Restored::Whole, read_rest(fd));
+        return ended(Restored::Whole, read_rest(&mut file));
     }
     let mut state = [0u8; STATE_SIZE];
-    let mut chunk = io::large_buffer();
-    take_journal(fd, registry, &mut state, &mut chunk)
+    let mut chunk = [0; CHUNK_SIZE];
+    take_journal(&mut file, registry, &mut state, &mut chunk)
 }

@@ -8,9 +8,10 @@ use audit::{Ending, StepCode};
 use connection::change::open_connection;
 use counters::Counters;
 use counters::counting::zero_counters;
-use file_input::{read_rest, read_some};
+use file_input::{Argument, BUFFER_SIZE, CHUNK_SIZE, read_rest, read_some};
 use service::Code;
-use starting::files::{File, Input, is_end};
+use starting::files::{Input, is_end};
+use std::fs::File;
 
 // Steps that no run takes: nothing says that a file ends, and a proved loop has to.
 const STEPS: u64 = 9223372036854775808;
@@ -51,14 +52,14 @@ fn nothing_read() -> Reached {
 }
 
 // Reads the next chunk, where all of the last one was taken.
-fn refill(fd: i32, chunk: &mut [u8], r: Reached) -> Reached {
+fn refill(file: &mut File, chunk: &mut [u8], r: Reached) -> Reached {
     if r.at < r.size {
         return r;
     }
     if !r.is_open {
         return r;
     }
-    let input = read_some(fd, chunk);
+    let input = read_some(file, chunk);
     let Input::Bytes(n) = input else {
         let is_whole = is_end(input);
         return Reached {
@@ -129,11 +130,11 @@ fn is_step_taken(code: StepCode) -> bool {
 }
 
 // Whether what is left of the responses' file can be read to its end.
-fn is_rest_read(fd: i32, r: Reached) -> bool {
+fn is_rest_read(file: &mut File, r: Reached) -> bool {
     if !r.is_open {
         return true;
     }
-    read_rest(fd)
+    read_rest(file)
 }
 
 // Whether the last step was refused, which none is; or all requests are taken, and it took nothing.
@@ -155,8 +156,8 @@ fn is_done(is_taken: bool, r: Reached, requests: usize, responses: usize) -> boo
 
 // Hands both streams over, from a fresh connection and zero counters, until all requests are taken and a step takes nothing more.
 fn take_streams(
-    requests: i32,
-    responses: i32,
+    requests: &mut File,
+    responses: &mut File,
     asked: &mut [u8],
     answered: &mut [u8],
     connection: &mut [u8],
@@ -217,7 +218,7 @@ fn take_streams(
 }
 
 // Reads both streams to their ends, and hands them to nobody.
-fn pass_over(requests: i32, responses: i32) -> Audited {
+fn pass_over(requests: &mut File, responses: &mut File) -> Audited {
     let is_first = read_rest(requests);
     let is_second = read_rest(responses);
     Audited {
@@ -229,29 +230,29 @@ fn pass_over(requests: i32, responses: i32) -> Audited {
 
 // Audits two streams from a good start. Without one they are only read: an unreadable file comes before all else.
 pub fn read_streams(
-    requests: File,
-    responses: File,
+    requests: Argument,
+    responses: Argument,
     is_started: bool,
     connection: &mut [u8],
     registry: &mut [u8],
     list: &[u8],
 ) -> Audited {
-    let File::Open(asking) = requests else {
+    let Argument::Open(mut asking) = requests else {
         return unread();
     };
-    let File::Open(answering) = responses else {
+    let Argument::Open(mut answering) = responses else {
         return unread();
     };
     if !is_started {
-        return pass_over(asking, answering);
+        return pass_over(&mut asking, &mut answering);
     }
-    let mut asked = io::large_buffer();
-    let mut answered = io::large_buffer();
-    let mut pending = io::buffer();
-    let mut journal = io::buffer();
+    let mut asked = [0; CHUNK_SIZE];
+    let mut answered = [0; CHUNK_SIZE];
+    let mut pending = [0; BUFFER_SIZE];
+    let mut journal = [0; BUFFER_SIZE];
     take_streams(
-        asking,
-        answering,
+        &mut asking,
+        &mut answering,
         &mut asked,
         &mut answered,
         connection,

@@ -13,9 +13,9 @@ use billing::text::{write_decimal, write_number, write_word};
 use billing::whole::write_bill;
 use billing::{BILL_MOST, Billed};
 use counters::Counters;
-use file_input::{read_list, read_roster};
+use file_input::{Argument, read_list, read_roster};
 use journal::Fault;
-use starting::files::{File, Front};
+use starting::files::Front;
 use starting::memory::{connection_memory, list_front, registry_memory};
 use starting::start::{Source, is_good, with_list};
 use starting::text::{write_line, write_no_file};
@@ -208,8 +208,8 @@ fn write_streams(
     out: &mut [u8],
     source: Source,
     restored: Restored,
-    requests: File,
-    responses: File,
+    requests: Argument,
+    responses: Argument,
     registry: &mut [u8],
     connection: &mut [u8],
     list: &[u8],
@@ -231,9 +231,9 @@ fn write_streams(
 fn write_restored(
     out: &mut [u8],
     source: Source,
-    journal: File,
-    requests: File,
-    responses: File,
+    journal: Argument,
+    requests: Argument,
+    responses: Argument,
     registry: &mut [u8],
     connection: &mut [u8],
     list: &[u8],
@@ -250,11 +250,11 @@ fn write_restored(
 // The text for five files, in memory that is lent.
 fn write_files(
     out: &mut [u8],
-    roster: File,
-    list: File,
-    journal: File,
-    requests: File,
-    responses: File,
+    roster: Argument,
+    list: Argument,
+    journal: Argument,
+    requests: Argument,
+    responses: Argument,
     registry: &mut [u8],
     connection: &mut [u8],
     front: &mut [u8],
@@ -283,11 +283,11 @@ fn write_files(
 // The text for five files.
 pub fn write_text(
     out: &mut [u8],
-    roster: File,
-    list: File,
-    journal: File,
-    requests: File,
-    responses: File,
+    roster: Argument,
+    list: Argument,
+    journal: Argument,
+    requests: Argument,
+    responses: Argument,
 ) -> usize
     requires { bill_most ≤ length out.old }
 {

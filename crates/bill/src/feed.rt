@@ -9,23 +9,29 @@ ghost use Rattle.starting.specs.code.Stream.{After};
 
 use connection::change::open_connection;
 use counters::counting::zero_counters;
-use file_input::read_some;
+use file_input::{BUFFER_SIZE, CHUNK_SIZE, read_some};
 use starting::feed::{Taken, feed};
 use starting::files::{Input, TURNS, is_end};
+use std::fs::File;
 
 // Runs a stream through the call, from a fresh connection and zero counters, with a good list.
-pub fn take_stream(fd: i32, connection: &mut [u8], registry: &mut [u8], list: &[u8]) -> Taken
+pub fn take_stream(
+    stream: &mut File,
+    connection: &mut [u8],
+    registry: &mut [u8],
+    list: &[u8],
+) -> Taken
     requires { (length connection.old ≡ connection_size) × (well_formed_registry registry.old ≡ true) × (well_formed_list list.now ≡ true) }
     ensures { After list.now registry.old counter_most (lent_memory connection.new registry.new result.counters) }
 {
     open_connection(connection);
-    let mut chunk = io::large_buffer();
-    let mut response = io::buffer();
-    let mut journal = io::buffer();
+    let mut chunk = [0; CHUNK_SIZE];
+    let mut response = [0; BUFFER_SIZE];
+    let mut journal = [0; BUFFER_SIZE];
     let mut counters = zero_counters();
     let mut turns = TURNS;
     while 0 < turns {
-        let input = read_some(fd, &mut chunk);
+        let input = read_some(stream, &mut chunk);
         let Input::Bytes(n) = input else {
             return Taken {
                 counters,

@@ -3,18 +3,19 @@
 #![tactic(auto)]
 
 use file_input::open_argument;
-use libc::STDOUT_FILENO;
 use starting::memory::bill_buffer;
+use std::io;
+use std::io::Write;
 use text::write_text;
 
 mod feed;
 mod text;
 
-fn main() {
-    let roster = open_argument(1);
-    let stream = open_argument(2);
-    let list = open_argument(3);
+fn main(rt: HostRuntime) -> io::Result<()> {
+    let roster = open_argument(&rt, 1);
+    let stream = open_argument(&rt, 2);
+    let list = open_argument(&rt, 3);
     let mut out = bill_buffer();
     let size = write_text(&mut out, roster, stream, list);
-    io::write_all(STDOUT_FILENO, &out[..size]);
+    rt.stdout().write_all(&out[..size])
 }

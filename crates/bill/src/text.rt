@@ -6,12 +6,13 @@ ghost use Rattle.service.specs.Contract.{lent_memory};
 ghost use Rattle.billing.specs.Outcome.{bill_most};
 ghost use Rattle.starting.specs.Start.{with_file};
 ghost use Rattle.starting.specs.code.Sources.{Ready, StreamRead, Billable};
+ghost use Rattle.file_input.specs.Argument.{argument_file};
 ghost use Rattle.bill.specs.Prints.{printed, Prints};
 
 use crate::feed::take_stream;
-use file_input::{read_list, read_rest, read_roster};
+use file_input::{Argument, read_list, read_rest, read_roster};
 use starting::feed::{Taken, uncounted};
-use starting::files::{File, Front};
+use starting::files::Front;
 use starting::memory::{connection_memory, list_front, registry_memory};
 use starting::start::{Source, is_good, with_file, with_list};
 use starting::text::{write_line, write_memory, write_no_file};
@@ -37,30 +38,30 @@ fn write_outcome(
 // Reads a stream: through the call where roster and list are good; else only to its end, for an unreadable stream comes before a
 // faulty roster and a bad list.
 fn read_stream(
-    stream: File,
+    stream: Argument,
     source: Source,
     connection: &mut [u8],
     registry: &mut [u8],
     list: &[u8],
 ) -> Taken
     requires { (length connection.old ≡ connection_size) × Ready registry.old list.now source }
-    ensures { StreamRead stream source registry.old list.now result.is_whole (lent_memory connection.new registry.new result.counters) }
+    ensures { StreamRead (argument_file stream) source registry.old list.now result.is_whole (lent_memory connection.new registry.new result.counters) }
 {
-    let File::Open(fd) = stream else {
+    let Argument::Open(mut file) = stream else {
         return uncounted(false);
     };
     match source {
-        Source::Good => take_stream(fd, connection, registry, list),
-        Source::Faulty(_) => uncounted(read_rest(fd)),
-        Source::BadList => uncounted(read_rest(fd)),
+        Source::Good => take_stream(&mut file, connection, registry, list),
+        Source::Faulty(_) => uncounted(read_rest(&mut file)),
+        Source::BadList => uncounted(read_rest(&mut file)),
         Source::Unreadable => uncounted(false),
     }
 }
 
 // The text for three files.
-pub fn write_text(out: &mut [u8], roster: File, stream: File, list: File) -> usize
+pub fn write_text(out: &mut [u8], roster: Argument, stream: Argument, list: Argument) -> usize
     requires { bill_most ≤ length out.old }
-    ensures { Prints roster stream list out.new result }
+    ensures { Prints (argument_file roster) (argument_file stream) (argument_file list) out.new result }
 {
     let mut registry = registry_memory();
     let mut connection = connection_memory();

@@ -1,39 +1,64 @@
-// Files opened, and read in constant memory, for programs. The one library over the kit's `io` and `os`: its contracts of files and
-// arguments rest on theirs, which nothing proves.
+// Files opened, and read in constant memory, for programs. The one library that opens files: its contracts of files and arguments
+// rest on std's, which say of what the system gives no more than how many bytes.
 #![tactic(auto)]
 
 ghost use Rattle.std.specs.Prelude.{◌≡◌, length};
 ghost use Rattle.registry.specs.Registry.{registry_size};
 ghost use Rattle.starting.specs.code.Sources.{RosterRead, ListRead};
 ghost use Rattle.starting.specs.code.Stream.{ReadWithin, KeptWithin};
+ghost use Rattle.file_input.specs.Argument.{argument_file};
 
-use starting::files::{File, Front, Input, TURNS, file_of, front_of, input_of, is_end};
+use starting::files::{Front, Input, TURNS, front_of, input_of, is_end};
 use starting::memory::roster_front;
 use starting::start::{Source, load_front};
+use std::fs::File;
+use std::io::Read;
+use std::rt::{Env, Files};
 
-pub fn open_argument(number: usize) -> File {
-    let mut path = io::buffer();
-    let size = os::arg(number, &mut path);
-    if os::errno() != 0 {
-        return File::Missing;
+// Room for a path, and for what a call writes: a response, and a record of the journal.
+pub const BUFFER_SIZE: usize = 4096;
+
+// So many bytes of a stream are read at once.
+pub const CHUNK_SIZE: usize = 65536;
+
+// The file that an argument names, or that it can't be opened.
+#[derive(Drop)]
+pub enum Argument {
+    Open(File),
+    Missing,
+}
+
+// A path that is no text in UTF-8 can't be opened.
+pub fn open_argument(rt: &(impl Env + Files<File = File>), number: usize) -> Argument {
+    let mut path = [0; BUFFER_SIZE];
+    let Ok(size) = rt.arg(number, &mut path) else {
+        return Argument::Missing;
+    };
+    let Ok(name) = str::from_utf8(&path[..size]) else {
+        return Argument::Missing;
+    };
+    match File::open(rt, name) {
+        Ok(file) => Argument::Open(file),
+        Err(_) => Argument::Missing,
     }
-    file_of(os::open_read(&path[..size]))
 }
 
 // Reads once. No signal is handled here, so that no read is interrupted.
-pub fn read_some(fd: i32, buffer: &mut [u8]) -> Input
+pub fn read_some(file: &mut File, buffer: &mut [u8]) -> Input
     ensures { ReadWithin (length buffer.old) result }
 {
-    let got = libc::read(fd, buffer);
-    input_of(got, buffer)
+    match file.read(buffer) {
+        Ok(size) => input_of(size as isize, buffer),
+        Err(_) => Input::Failed,
+    }
 }
 
 // Reads what is left of a file, and says whether it could be read to its end.
-pub fn read_rest(fd: i32) -> bool {
-    let mut buffer = io::large_buffer();
+pub fn read_rest(file: &mut File) -> bool {
+    let mut buffer = [0; CHUNK_SIZE];
     let mut turns = TURNS;
     while 0 < turns {
-        let input = read_some(fd, &mut buffer);
+        let input = read_some(file, &mut buffer);
         let Input::Bytes(_) = input else {
             return is_end(input);
         };
@@ -43,39 +68,39 @@ pub fn read_rest(fd: i32) -> bool {
 }
 
 // Reads a file to its end, and keeps as many of its first bytes as there is room for.
-pub fn read_front(fd: i32, front: &mut [u8]) -> Front
+pub fn read_front(file: &mut File, front: &mut [u8]) -> Front
     ensures { KeptWithin (length front.old) result }
 {
     let mut size = 0;
     while size < front.len() {
-        let input = read_some(fd, &mut front[size..]);
+        let input = read_some(file, &mut front[size..]);
         let Input::Bytes(more) = input else {
             return front_of(size, is_end(input));
         };
         size += more;
     }
-    front_of(size, read_rest(fd))
+    front_of(size, read_rest(file))
 }
 
 // Reads a roster file into memory lent for the registry.
-pub fn read_roster(roster: File, registry: &mut [u8]) -> Source
+pub fn read_roster(roster: Argument, registry: &mut [u8]) -> Source
     requires { length registry.old ≡ registry_size }
-    ensures { RosterRead roster registry.new result }
+    ensures { RosterRead (argument_file roster) registry.new result }
 {
-    let File::Open(fd) = roster else {
+    let Argument::Open(mut file) = roster else {
         return Source::Unreadable;
     };
     let mut front = roster_front();
-    let read = read_front(fd, &mut front);
+    let read = read_front(&mut file, &mut front);
     load_front(&front, read, registry)
 }
 
 // Reads a list of keys: so many of its bytes are kept as decide whether it is good.
-pub fn read_list(list: File, front: &mut [u8]) -> Front
-    ensures { ListRead list (length front.old) result }
+pub fn read_list(list: Argument, front: &mut [u8]) -> Front
+    ensures { ListRead (argument_file list) (length front.old) result }
 {
-    let File::Open(fd) = list else {
+    let Argument::Open(mut file) = list else {
         return Front::Unreadable;
     };
-    read_front(fd, front)
+    read_front(&mut file, front)
 }

@@ -1,30 +1,23 @@
-use Prim.Native.Nat.{◌+◌, ◌-◌, ◌≤◌}
-use mathlib.Core.Path.{◌≡◌, refl, ap, ◌∙◌}
-use native.Mathlib.Omega.{arith}
-use borrow.Author.Rules.{rules}
-use lib.ListN.{length, length-drop}
+use Rattle.std.proofs.Common.{rules, ◌≡◌, ◌+◌, ◌-◌, ◌≤◌, ◌∙◌, ap, arith, length, length-drop}
 use borrow.Rule.Slice.PartMut.{put_mid, same_len_mid}
 use Rattle.wire.proofs.BufferLaws.{lent}
 use Rattle.starting.proofs.ReadLaws.{front_within}
 use Rattle.starting.proofs.FeedLaws.{read_bytes}
 use Rattle.file_input.proofs.read_front.Goals as goal
 
-pub loop-size-init : goal.loop-size-init
-loop-size-init c = (omega arith, refl)
-
 -- a byte at least was read, and no more than there is room for
 fits : (c : goal.In-Bytes)
-    → (let l = c.loop-size in (1 ≤ c.input-1.given.0.0) × (l.size + c.input-1.given.0.0 ≤ length l.front))
+    → (let l = c.loop-size in (1 ≤ c.in-Bytes.more) × (l.size + c.in-Bytes.more ≤ length l.front))
 fits c =
     let l = c.loop-size in
-    let (some, most) = read_bytes c.read_some-input.ensures c.input-1.given.1 in
+    let (some, most) = read_bytes c.read_some-input.ensures c.in-Bytes.is in
     (some, omega (arith, most, ap length (lent l.size l.front), length-drop l.size l.front))
 
 -- what is lent on for reading keeps its length
 long : (c : goal.In-Bytes)
     → (let l = c.loop-size in
-    length (put_mid l.size (length l.front - l.size) l.front c.read_some-input.new.1.0) ≡ length l.front)
-long c = let l = c.loop-size in same_len_mid l.size (length l.front - l.size) l.front c.read_some-input.new.1.0 c.read_some-input.auto.1.0
+    length (put_mid l.size (length l.front - l.size) l.front c.read_some-input.new.buffer) ≡ length l.front)
+long c = let l = c.loop-size in same_len_mid l.size (length l.front - l.size) l.front c.read_some-input.new.buffer c.read_some-input.auto.buffer
 
 pub overflow_add-size : goal.overflow_add-size
 overflow_add-size c = omega (arith, (fits c).1)

@@ -1,11 +1,11 @@
-use Prim.Native.Nat.{ℕ}
-use mathlib.Core.Path.{subst}
+use Rattle.std.proofs.Common.{rules, ℕ, subst}
 use Rattle.starting.specs.code.Stream.{ReadWithin}
 use Rattle.starting.proofs.ReadLaws.{input_within}
-use borrow.Author.Rules.{rules}
 use Rattle.file_input.proofs.read_some.Goals as goal
 
-pub returns : goal.returns
-returns c =
-    let read = c.read-got in
-    subst (λ (n : ℕ). ReadWithin n c.input_of.result) read.auto.1.0 (input_within _ _ _ c.input_of.ensures)
+pub returns-in-Ok : goal.returns-in-Ok
+returns-in-Ok c = subst (λ (n : ℕ). ReadWithin n c.input_of.result) c.read.auto.buf (input_within _ _ _ c.input_of.ensures)
+
+pub returns-in-Err : goal.returns-in-Err
+unfolding ReadWithin
+returns-in-Err c = tt

@@ -6,7 +6,7 @@ use Rattle.audit_program.proofs.text.write_accepted.Goals as goal
 
 -- LEFT slice_aggregate_write_word : tie.Need-slice-aggregate-write-word
 -- slice_aggregate_write_word c = search rules
--- 
+--
 pub returns : goal.returns
 unfolding verdict_line ascii
 returns c = placed_front c.write_word.ensures

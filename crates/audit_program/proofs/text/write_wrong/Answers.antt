@@ -6,10 +6,10 @@ use Rattle.audit_program.proofs.text.write_wrong.Goals as goal
 
 -- LEFT slice_aggregate_write_word : tie.Need-slice-aggregate-write-word
 -- slice_aggregate_write_word c = search rules
--- 
+--
 -- LEFT slice_aggregate_write_word_2 : tie.Need-slice-aggregate-write-word-2
 -- slice_aggregate_write_word_2 c = search rules
--- 
+--
 pub returns : goal.returns
 unfolding wrong_line ascii
 returns c =

@@ -1,19 +1,15 @@
-use Prim.Native.Nat.{◌-◌, ◌*◌, ◌≤◌}
-use mathlib.Core.Path.{◌≡◌, refl, sym, ◌∙◌}
-use native.Mathlib.Omega.{arith}
-use borrow.Author.Rules.{rules}
-use lib.ListN.{length, take}
-use lib.Seq.{length-take-le}
-use Rattle.counters.specs.Counters.{counter_most}
+use Rattle.std.proofs.Common.{◌≡◌, ◌-◌, ◌*◌, ◌≤◌, length}
 use Rattle.service.specs.Call.{chunk_most}
 use Rattle.service.specs.Contract.{lent_memory}
 use Rattle.starting.specs.code.Stream.{turns_most, After}
-use Rattle.starting.proofs.FeedLaws.{read_bytes, starts, follows, after_more, after_most}
 use Rattle.bill.proofs.feed.take_stream.Given as goal
 
 abbrev pub invariant-loop-turns : goal.invariant-loop-turns
-invariant-loop-turns l =     After l.list l.initial.registry ((turns_most - l.turns) * chunk_most) (lent_memory l.connection l.registry l.counters) × (l.turns ≤ turns_most)
-    × (length l.connection ≡ length l.initial.connection) × (length l.registry ≡ length l.initial.registry) × (length l.chunk ≡ chunk_most) × (length l.response ≡ 4096) × (length l.journal ≡ 4096)
+invariant-loop-turns l =
+    After l.list l.initial.registry ((turns_most - l.turns) * chunk_most) (lent_memory l.connection l.registry l.counters)
+    × (l.turns ≤ turns_most)
+    × (length l.connection ≡ length l.initial.connection)
+    × (length l.registry ≡ length l.initial.registry)
 
 abbrev pub decreases-loop-turns : goal.decreases-loop-turns
 decreases-loop-turns l = l.turns
