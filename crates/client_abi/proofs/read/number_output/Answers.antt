@@ -1,5 +1,4 @@
 use Rattle.client_abi.specs.Numbers.{output_numbers}
-use borrow.Author.Rules.{rules}
 use Rattle.client_abi.proofs.read.number_output.Goals as goal
 
 pub returns-in-Nothing : goal.returns-in-Nothing

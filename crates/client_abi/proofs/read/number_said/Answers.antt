@@ -1,5 +1,4 @@
 use Rattle.client_abi.specs.Numbers.{said_numbers}
-use borrow.Author.Rules.{rules}
 use Rattle.client_abi.proofs.read.number_said.Goals as goal
 
 pub returns-in-Waiting : goal.returns-in-Waiting

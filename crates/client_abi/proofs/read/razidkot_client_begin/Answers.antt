@@ -1,6 +1,5 @@
 use mathlib.Core.Path.{ap}
 use Rattle.client_abi.specs.Numbers.{begun_number, began_with}
-use borrow.Author.Rules.{rules}
 use Rattle.client_abi.proofs.read.razidkot_client_begin.Goals as goal
 
 pub returns-in-Fresh : goal.returns-in-Fresh

@@ -1,4 +1,3 @@
-use borrow.Author.Rules.{rules}
 use Rattle.client_abi.proofs.read.razidkot_client_read_list.Goals as goal
 
 pub returns : goal.returns

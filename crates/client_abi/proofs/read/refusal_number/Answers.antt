@@ -1,5 +1,4 @@
 use Rattle.client_abi.specs.Numbers.{read_refusal_number}
-use borrow.Author.Rules.{rules}
 use Rattle.client_abi.proofs.read.refusal_number.Goals as goal
 
 pub returns-in-WrongMagic : goal.returns-in-WrongMagic

@@ -1,4 +1,3 @@
-use borrow.Author.Rules.{rules}
 use Rattle.client_abi.proofs.read.without.Goals as goal
 
 pub returns : goal.returns

@@ -1,5 +1,4 @@
 use Rattle.client_abi.specs.Numbers.{request_numbers}
-use borrow.Author.Rules.{rules}
 use Rattle.client_abi.proofs.write.number.Goals as goal
 
 pub returns-in-Bytes : goal.returns-in-Bytes

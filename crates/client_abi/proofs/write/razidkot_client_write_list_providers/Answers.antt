@@ -1,6 +1,5 @@
 use mathlib.Core.Path.{ap}
 use Rattle.client_abi.specs.Numbers.{written_with}
-use borrow.Author.Rules.{rules}
 use Rattle.client_abi.proofs.write.razidkot_client_write_list_providers.Goals as goal
 
 pub returns : goal.returns

@@ -1,5 +1,4 @@
 use Rattle.client_abi.specs.Numbers.{refusal_number}
-use borrow.Author.Rules.{rules}
 use Rattle.client_abi.proofs.write.refusal_number.Goals as goal
 
 pub returns-in-BufferTooSmall : goal.returns-in-BufferTooSmall
