@@ -25,4 +25,4 @@ unfolding loaded_number
 returns-in-Faulty c =
     let known = c in
     let loaded = known in
-    rw (← ap loaded_with loaded.load_roster.ensures, known.fault-1.given.1, c.fault_number.ensures)
+    rw (← ap loaded_with loaded.load_roster.ensures, c.in-Faulty.is, c.fault_number.ensures)

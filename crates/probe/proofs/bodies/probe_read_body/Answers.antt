@@ -23,7 +23,7 @@ read c =
 pub returns-in-Message : goal.returns-in-Message
 returns-in-Message c =
     let known = c in
-    ap body_numbers (sym known.v-1.given.1 ∙ read known)
+    ap body_numbers (sym c.in-Message.is ∙ read known)
 
 pub returns-in-Unreadable : goal.returns-in-Unreadable
 returns-in-Unreadable c = ap body_numbers (sym c.in-Unreadable.is ∙ read c)

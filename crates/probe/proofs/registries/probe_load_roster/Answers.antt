@@ -13,4 +13,4 @@ pub returns-in-Faulty : goal.returns-in-Faulty
 returns-in-Faulty c =
     let known = c in
     let loaded = known in
-    (c.fault_number.ensures ∙ ap loaded_number (sym known.fault-1.given.1 ∙ ap (λ (o : RosterOutcome). o.answer) loaded.load_roster.ensures), ap (λ (o : RosterOutcome). o.registry) loaded.load_roster.ensures)
+    (c.fault_number.ensures ∙ ap loaded_number (sym c.in-Faulty.is ∙ ap (λ (o : RosterOutcome). o.answer) loaded.load_roster.ensures), ap (λ (o : RosterOutcome). o.registry) loaded.load_roster.ensures)
