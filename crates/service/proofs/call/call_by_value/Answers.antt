@@ -10,15 +10,13 @@ use Rattle.service.proofs.call.call_by_value.Goals as goal
 
 pub with_increments-after-requires : goal.with_increments-after-requires
 with_increments-after-requires c =
-    let s = c in
-    let handle = c.handle-h in
-    subst (λ (x : Increments). Fits s.args.counters x) (sym c.added_of.ensures) handle.ensures.1
+    subst (λ (x : Increments). Fits c.args.counters x) (sym c.added_of.ensures) c.handle-h.ensures.1
 
 pub returns : goal.returns
 returns c =
-    let handle = c.handle-h in
+    let new = c.handle-h.new in
     let counters = c.args.counters in
-    ap (λ (x : Outcome). outcome_in (ran_with (code_number x.code) x.taken x.written x.recorded (lent_memory handle.new.1.0 handle.new.1.1.0 x.counters) handle.new.1.1.1.1.1.0 handle.new.1.1.1.1.1.1.0))
+    ap (λ (x : Outcome). outcome_in (ran_with (code_number x.code) x.taken x.written x.recorded (lent_memory new.connection new.registry x.counters) new.response new.journal))
     (c.outcome_of.ensures
-    ∙ ap (λ (x : Counters). outcome_of (answer_of handle.result) x) (c.with_increments-after.ensures ∙ ap (counted counters) c.added_of.ensures))
-    ∙ handle.ensures.0
+    ∙ ap (λ (x : Counters). outcome_of (answer_of c.handle-h.result) x) (c.with_increments-after.ensures ∙ ap (counted counters) c.added_of.ensures))
+    ∙ c.handle-h.ensures.0

@@ -33,11 +33,11 @@ pub returns-then-here-to_go : goal.returns-then-here-to_go
 returns-then-here-to_go c =
     let a = c.args in
     let m : List ℕ = a.connection.now in
-    let less : a.here < a.to-go = omega arith in
+    let less : a.here < a.to_go = omega arith in
     λ list registry journal counters.
     subst (λ (e : Effect (State (List ℕ) Counts) Handed). Carried counters e c.set_skipping.new.memory registry a.out.now a.out.now journal journal c.wait.result)
-    (sym (skip_waits list registry counters (header_at m) a.used a.here a.to-go less))
-    (carried_wait closed registry counters (a.used + a.here) (skipping (header_at m) (a.to-go - a.here)) _ _ _ journal journal _ c.requires.used_good c.wait.ensures
+    (sym (skip_waits list registry counters (header_at m) a.used a.here a.to_go less))
+    (carried_wait closed registry counters (a.used + a.here) (skipping (header_at m) (a.to_go - a.here)) _ _ _ journal journal _ c.requires.used_good c.wait.ensures
     (c.set_skipping.ensures c.requires.kind c.requires.number (header_at m) c.requires.laid) refl refl)
 
 pub answer_skipped-a-requires : goal.answer_skipped-a-requires
@@ -64,15 +64,15 @@ unfolding journalling judgement refused_early
 returns c =
     let a = c.args in
     let m : List ℕ = a.connection.now in
-    let more : a.to-go ≤ a.here = omega (arith, c) in
+    let more : a.to_go ≤ a.here = omega (arith, c) in
     let size : c.request_length-size.result ≡ request_length (header_at m) = c.request_length-size.ensures.0 ∙ same_size m c.requires.long in
     let w = c.answer_skipped-a in
     let used = c.requires.used_good in
-    let few : a.used + a.to-go ≤ chunk_most = omega (arith, more, used) in
+    let few : a.used + a.to_go ≤ chunk_most = omega (arith, more, used) in
     λ list registry journal counters.
     subst (λ (e : Effect (State (List ℕ) Counts) Handed). Carried counters e c.reset.new.memory registry a.out.now w.new.out journal journal c.finish.result)
-    (ap (λ (n : ℕ). answering (state_with closed registry counters) (a.used + a.to-go) n ((journalling list).on_oversized registry (totals_of counters).counts (header_at m)) (opened [])) size
-    ∙ sym (skip_answers list registry counters (header_at m) a.used a.here a.to-go more))
-    (carried_answer closed registry counters (λ k. (journalling list).on_oversized registry k (header_at m)) (a.used + a.to-go) c.request_length-size.result (opened [])
+    (ap (λ (n : ℕ). answering (state_with closed registry counters) (a.used + a.to_go) n ((journalling list).on_oversized registry (totals_of counters).counts (header_at m)) (opened [])) size
+    ∙ sym (skip_answers list registry counters (header_at m) a.used a.here a.to_go more))
+    (carried_answer closed registry counters (λ k. (journalling list).on_oversized registry k (header_at m)) (a.used + a.to_go) c.request_length-size.result (opened [])
     c.reset.new.memory registry a.out.now w.new.out journal journal w.result c.finish.result few c.request_length-size.ensures.1
     (answered_header list registry m a.out.now w.new.out journal w.result (w.ensures list registry journal)) refl refl c.finish.ensures c.reset.ensures)
