@@ -5,8 +5,6 @@ use mathlib.Core.Option.{Option, none, some, map}
 use mathlib.Core.List.{List, [], ◌∷◌}
 use native.Mathlib.Nat.{add-zero}
 use native.Mathlib.Omega.{arith}
-use denote.Enum.Declared.{tag_of}
-use types.Run.{OneOf}
 use Rattle.wire.specs.Choice.{first_of}
 use Rattle.reading.specs.Calls.{refused, took}
 use Rattle.reading.specs.Call.{Effect}
@@ -27,7 +25,6 @@ use Rattle.service.specs.declared.Refusal.TheVariants.{ResponseBufferTooSmall, C
 use Rattle.service.specs.declared.Code.{Code}
 use Rattle.service.specs.declared.Code.TheVariants.{Taken}
 use Rattle.service.specs.declared.Handled.{Handled}
-use Rattle.service.specs.contracts.Code.{the_type}
 use Rattle.service.proofs.CallLaws.{refused_outcome, taken_outcome}
 
 taken_none : (o : Option Refusal) → code_for o ≡ Taken → o ≡ none
@@ -64,7 +61,7 @@ module _ (list connection registry : List ℕ) (counters : Counters) (chunk buff
   taken_passes code e t = ap (map refusal_number) (taken_none (first_of (refusal_tests list m call)) (sym e ∙ t))
 
   -- a code that is not `Taken` is a refusal's, and all stays
-  pub refused_call : (code : Code) (h : Handled) → code ≡ code_for (first_of (refusal_tests list m call)) → OneOf (1 ∷ []) (tag_of the_type code)
+  pub refused_call : (code : Code) (h : Handled) → code ≡ code_for (first_of (refusal_tests list m call)) → (code ≡ Taken → ⊥)
       → h ≡ refused_with code
       → CallContract list m call (ran_with (code_number h.code) h.added.taken h.written h.recorded (lent_memory connection registry (counted counters h.added)) buffer journal)
   unfolding code_for code_number refusal_of layout give written
@@ -77,10 +74,7 @@ module _ (list connection registry : List ℕ) (counters : Counters) (chunk buff
       outcome x = outcome_in (ran_with (code_number x.code) x.added.taken x.written x.recorded (lent_memory connection registry (counted counters x.added)) buffer journal)
 
       go : (f : Option Refusal) → first_of (refusal_tests list m call) ≡ f → leaves code counters ≡ call_outcome list m call
-      go none q = absurd (clash (subst (λ (x : Code). OneOf (1 ∷ []) (tag_of the_type x)) (e ∙ ap code_for q) other))
-        where
-          clash : OneOf (1 ∷ []) 0 → ⊥
-          clash p = omega arith
+      go none q = absurd (other (e ∙ ap code_for q))
       go (some refusal) q =
           ap (λ (x : Code). leaves x counters) (e ∙ ap code_for q)
           ∙ ap (λ (x : Option ℕ). record { answer = record { refusal = x; taken = 0; given = record { response = record { count = 0; buffer = buffer }; journal = record { count = 0; buffer = journal } } }; memory = m }) (said refusal)

@@ -1,4 +1,5 @@
 use mathlib.Core.Path.{sym, subst}
+use native.Mathlib.Omega.{arith}
 use Rattle.counters.specs.code.Counted.{Fits}
 use Rattle.service.specs.declared.Handled.{Handled}
 use Rattle.service.proofs.CallLaws.{passed}
@@ -8,7 +9,11 @@ use borrow.Author.Rules.{rules}
 use Rattle.service.proofs.call.handle.Goals as goal
 
 pub returns-in_default : goal.returns-in_default
-returns-in_default c = ?
+returns-in_default c =
+    let a = c.args in (
+      refused_call a.list.now a.connection.now a.registry.now a.counters a.chunk.now a.response.now a.journal.now c.judge_call-code.result c.refuse.result c.judge_call-code.ensures c.in_default.not-Taken c.refuse.ensures,
+      subst (λ (h : Handled). Fits a.counters h.added) (sym c.refuse.ensures) (nothing_fits a.counters c.judge_call-code.result (omega arith) (omega arith) (omega arith)),
+    )
 
 pub serve-requires : goal.serve-requires
 serve-requires c =
