@@ -1,5 +1,4 @@
 use mathlib.Core.Path.{refl}
-use borrow.Author.Rules.{rules}
 use Rattle.counters.specs.code.Counted.{answered_after}
 use Rattle.counters.proofs.add.add_answered.Goals as goal
 

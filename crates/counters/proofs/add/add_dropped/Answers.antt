@@ -1,5 +1,4 @@
 use mathlib.Core.Path.{refl}
-use borrow.Author.Rules.{rules}
 use Rattle.counters.specs.code.Counted.{dropped_after}
 use Rattle.counters.proofs.add.add_dropped.Goals as goal
 

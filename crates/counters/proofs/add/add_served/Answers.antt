@@ -2,7 +2,6 @@ use Prim.Native.Nat.{◌≤◌, ◌<◌}
 use mathlib.Core.Path.{subst}
 use native.Mathlib.Numerals.{add-one}
 use native.Mathlib.Omega.{arith}
-use borrow.Author.Rules.{rules}
 use Rattle.registry.specs.Registry.{line_count}
 use Rattle.judgement.specs.Counts.{increment, count_served, count_refused}
 use Rattle.counters.specs.Counters.{counter_most, maximum}

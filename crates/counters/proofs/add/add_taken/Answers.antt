@@ -1,5 +1,4 @@
 use mathlib.Core.Path.{refl}
-use borrow.Author.Rules.{rules}
 use Rattle.counters.specs.code.Counted.{taken_after}
 use Rattle.counters.proofs.add.add_taken.Goals as goal
 

@@ -1,5 +1,4 @@
 use borrow.Author.Tests.{eq-eqb, ne_eqb}
-use borrow.Author.Rules.{rules}
 use Rattle.counters.specs.code.Counted.{served_for, event_of}
 use Rattle.counters.proofs.events.event_of.Goals as goal
 

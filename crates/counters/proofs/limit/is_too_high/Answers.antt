@@ -2,7 +2,6 @@ use Prim.Native.Nat.{◌<◌}
 use mathlib.Core.Path.{sym}
 use native.Mathlib.Omega.{arith}
 use borrow.Author.Tests.{lt-ltb}
-use borrow.Author.Rules.{rules}
 use Rattle.counters.specs.Counters.{totals_of, counter_most, largest_count, largest_counter}
 use Rattle.counters.proofs.CountersLaws.{above_both}
 use Rattle.counters.proofs.limit.is_too_high.Goals as goal
