@@ -64,33 +64,29 @@ module _ (list k registry chunk before journal : List ℕ) (to_go : ℕ) (ready 
 
 pub serve_fresh-requires : goal.serve_fresh-requires
 serve_fresh-requires c =
-    let s = c in
-    let o = sym c.read_state.ensures ∙ c.held-1.given.1 in
-    (s.requires, fresh (connection_of s.args.connection.now) _ o c.if-held-eq0.true)
+    let o = sym c.read_state.ensures ∙ c.in-Open.is in
+    (c.requires, fresh (connection_of c.args.connection.now) _ o c.if-held-eq0.true)
 
 pub serve_held-requires : goal.serve_held-requires
-serve_held-requires c = (c.requires, sym c.read_state.ensures ∙ c.held-1.given.1)
+serve_held-requires c = (c.requires, sym c.read_state.ensures ∙ c.in-Open.is)
 
 pub skip-requires : goal.skip-requires
 skip-requires c =
-    let s = c in
-    let a = s.args in
-    skips a.list.now a.connection.now a.registry.now a.chunk.now a.out.now a.journal.now c.to_go-1.given.0.0 s.requires (sym c.read_state.ensures ∙ c.to_go-1.given.1)
+    let a = c.args in
+    skips a.list.now a.connection.now a.registry.now a.chunk.now a.out.now a.journal.now c.in-Skipping.to_go c.requires (sym c.read_state.ensures ∙ c.in-Skipping.is)
 
 pub returns-in-Skipping : goal.returns-in-Skipping
 returns-in-Skipping c =
-    let s = c in
-    let a = s.args in
+    let a = c.args in
     let skip = c.skip in
     λ counters.
-    answers_skip a.list.now a.connection.now a.registry.now a.chunk.now a.out.now a.journal.now c.to_go-1.given.0.0 s.requires (sym c.read_state.ensures ∙ c.to_go-1.given.1) counters
-    skip.new.0 skip.new.1.0 skip.result (skip.ensures a.list.now a.registry.now a.journal.now counters)
+    answers_skip a.list.now a.connection.now a.registry.now a.chunk.now a.out.now a.journal.now c.in-Skipping.to_go c.requires (sym c.read_state.ensures ∙ c.in-Skipping.is) counters
+    skip.new.connection skip.new.out skip.result (skip.ensures a.list.now a.registry.now a.journal.now counters)
 
 pub returns-in-Closed : goal.returns-in-Closed
 returns-in-Closed c =
-    let s = c in
-    let a = s.args in
-    let shut = state_closed (connection_of a.connection.now) (sym c.read_state.ensures ∙ c.enum_told-1.given.1) in
+    let a = c.args in
+    let shut = state_closed (connection_of a.connection.now) (sym c.read_state.ensures ∙ c.in-Closed.is) in
     λ counters.
-    serves_drop a.list.now a.connection.now a.registry.now counters a.chunk.now a.out.now a.journal.now a.connection.now a.out.now a.journal.now c.drop_all.result shut s.requires.chunk_good c.drop_all.ensures
-    (memory_is a.connection.now s.requires.connection_good closed shut) refl refl
+    serves_drop a.list.now a.connection.now a.registry.now counters a.chunk.now a.out.now a.journal.now a.connection.now a.out.now a.journal.now c.drop_all.result shut c.requires.chunk_good c.drop_all.ensures
+    (memory_is a.connection.now c.requires.connection_good closed shut) refl refl

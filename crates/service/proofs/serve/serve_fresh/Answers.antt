@@ -46,10 +46,9 @@ laid_skipping before after header to_go e set = set 0 (length header) header e
 
 pub append-requires : goal.append-requires
 append-requires c =
-    let s = c in
-    let begun = frame_unfinished (next s.args.chunk.now) (sym c.read_frame.ensures ∙ c.enum_told-1.given.1) in
-    let few = held_most_lem s.args.chunk.now begun in
-    (well_size s.args.connection.now s.requires.0.connection_good, omega arith)
+    let begun = frame_unfinished (next c.args.chunk.now) (sym c.read_frame.ensures ∙ c.in-Unfinished.is) in
+    let few = held_most_lem c.args.chunk.now begun in
+    (well_size c.args.connection.now c.requires.0.connection_good, omega arith)
 
 pub close-requires : goal.close-requires
 close-requires c = well_size _ c.requires.0.connection_good
@@ -57,76 +56,71 @@ close-requires c = well_size _ c.requires.0.connection_good
 pub slice_bounds-append-end : goal.slice_bounds-append-end
 slice_bounds-append-end c =
     let chunk : List ℕ = c.args.chunk.now in
-    let f = frame_skipped (next chunk) _ _ (sym c.read_frame.ensures ∙ c.header-1.given.1) in
+    let f = frame_skipped (next chunk) _ _ (sym c.read_frame.ensures ∙ c.in-Skipped.is) in
     let part = header_part chunk f.header _ f.is in
     let long = f.long in
     sym (length-take-le _ chunk (omega arith))
 
 pub append-requires-in-Skipped : goal.append-requires-in-Skipped
 append-requires-in-Skipped c =
-    let s = c in
-    let chunk : List ℕ = s.args.chunk.now in
-    let f = frame_skipped (next chunk) _ _ (sym c.read_frame.ensures ∙ c.header-1.given.1) in
+    let chunk : List ℕ = c.args.chunk.now in
+    let f = frame_skipped (next chunk) _ _ (sym c.read_frame.ensures ∙ c.in-Skipped.is) in
     let part = header_part chunk f.header _ f.is in
     let few = header_few chunk f.header _ f.is in
-    let same : length (take c.header-1.given.0.0 chunk) ≡ length f.header = ap (λ (n : ℕ). length (take n chunk)) (sym f.long) ∙ ap length part.1 in
-    (well_size s.args.connection.now s.requires.0.connection_good, omega arith)
+    let same : length (take c.in-Skipped.header chunk) ≡ length f.header = ap (λ (n : ℕ). length (take n chunk)) (sym f.long) ∙ ap length part.1 in
+    (well_size c.args.connection.now c.requires.0.connection_good, omega arith)
 
 pub set_skipping-requires : goal.set_skipping-requires
 unfolding connection_bytes
 set_skipping-requires c =
-    let s = c in
-    let chunk : List ℕ = s.args.chunk.now in
-    let f = frame_skipped (next chunk) _ _ (sym c.read_frame.ensures ∙ c.header-1.given.1) in
+    let chunk : List ℕ = c.args.chunk.now in
+    let f = frame_skipped (next chunk) _ _ (sym c.read_frame.ensures ∙ c.in-Skipped.is) in
     let part = header_part chunk f.header _ f.is in
     let few = header_few chunk f.header _ f.is in
-    let held : List ℕ = take c.header-1.given.0.0 chunk in
+    let held : List ℕ = take c.in-Skipped.header chunk in
     let same : length held ≡ length f.header = ap (λ (n : ℕ). length (take n chunk)) (sym f.long) ∙ ap length part.1 in
-    ap length (c.append-in-Skipped.ensures [] refl (memory_is s.args.connection.now s.requires.0.connection_good (opened []) s.requires.1))
+    ap length (c.append-in-Skipped.ensures [] refl (memory_is c.args.connection.now c.requires.0.connection_good (opened []) c.requires.1))
     ∙ size_there 0 (length held) held (let x : length held ≤ held_most = omega arith in x)
 
 pub slice_bounds-answer_whole-end : goal.slice_bounds-answer_whole-end
 slice_bounds-answer_whole-end c =
     let chunk : List ℕ = c.args.chunk.now in
-    let w = whole_part chunk _ (frame_whole (next chunk) _ (sym c.read_frame.ensures ∙ c.n-1.given.1)) in
+    let w = whole_part chunk _ (frame_whole (next chunk) _ (sym c.read_frame.ensures ∙ c.in-Whole.is)) in
     sym (length-take-le _ chunk w.fits)
 
 pub answer_whole-a-requires : goal.answer_whole-a-requires
 answer_whole-a-requires c =
-    let s = c in
-    let chunk : List ℕ = s.args.chunk.now in
-    let w = whole_part chunk _ (frame_whole (next chunk) _ (sym c.read_frame.ensures ∙ c.n-1.given.1)) in
-    (w.legal, w.long, s.requires.0.registry_good, s.requires.0.buffer_good, s.requires.0.list_good, omega (arith, s.requires.0.journal_good))
+    let chunk : List ℕ = c.args.chunk.now in
+    let w = whole_part chunk _ (frame_whole (next chunk) _ (sym c.read_frame.ensures ∙ c.in-Whole.is)) in
+    (w.legal, w.long, c.requires.0.registry_good, c.requires.0.buffer_good, c.requires.0.list_good, omega (arith, c.requires.0.journal_good))
 
 pub returns-in-Unfinished : goal.returns-in-Unfinished
 returns-in-Unfinished c =
-    let s = c in
-    let a = s.args in
+    let a = c.args in
     let chunk : List ℕ = a.chunk.now in
     let k : List ℕ = a.connection.now in
-    let begun = frame_unfinished (next chunk) (sym c.read_frame.ensures ∙ c.enum_told-1.given.1) in
+    let begun = frame_unfinished (next chunk) (sym c.read_frame.ensures ∙ c.in-Unfinished.is) in
     λ counters.
-    serves_wait a.list.now k a.registry.now counters chunk a.out.now a.journal.now (length chunk) (opened chunk) c.append.new.0 a.out.now a.journal.now c.wait.result
-    (call_unfinished (journalling a.list.now) (state_with (connection_of k) a.registry.now counters) [] chunk s.requires.1 nothing begun)
-    s.requires.0.chunk_good
+    serves_wait a.list.now k a.registry.now counters chunk a.out.now a.journal.now (length chunk) (opened chunk) c.append.new.memory a.out.now a.journal.now c.wait.result
+    (call_unfinished (journalling a.list.now) (state_with (connection_of k) a.registry.now counters) [] chunk c.requires.1 nothing begun)
+    c.requires.0.chunk_good
     c.wait.ensures
-    (c.append.ensures [] refl (memory_is k s.requires.0.connection_good (opened []) s.requires.1))
+    (c.append.ensures [] refl (memory_is k c.requires.0.connection_good (opened []) c.requires.1))
     refl
     refl
 
 pub returns-in-BadStart : goal.returns-in-BadStart
 returns-in-BadStart c =
-    let s = c in
-    let a = s.args in
+    let a = c.args in
     let chunk : List ℕ = a.chunk.now in
     let k : List ℕ = a.connection.now in
-    let bad = frame_bad (next chunk) (sym c.read_frame.ensures ∙ c.enum_told-in-BadStart-1.given.1) in
+    let bad = frame_bad (next chunk) (sym c.read_frame.ensures ∙ c.in-BadStart.is) in
     let answer = c.answer_bad_start-a in
     λ counters.
     serves_answer a.list.now k a.registry.now counters chunk a.out.now a.journal.now (λ x. (journalling a.list.now).on_bad_start a.registry.now x) 6 6 closed
-    c.close.new.0 a.registry.now answer.new.0 a.journal.now answer.result c.finish.result
+    c.close.new.memory a.registry.now answer.new.out a.journal.now answer.result c.finish.result
     (bad_steady a.list.now a.registry.now)
-    (call_bad (journalling a.list.now) (state_with (connection_of k) a.registry.now counters) [] chunk s.requires.1 nothing bad)
+    (call_bad (journalling a.list.now) (state_with (connection_of k) a.registry.now counters) [] chunk c.requires.1 nothing bad)
     (answer.ensures a.list.now a.registry.now a.journal.now)
     (omega arith)
     (lit< tt)
@@ -135,42 +129,40 @@ returns-in-BadStart c =
 
 pub returns-in-Skipped : goal.returns-in-Skipped
 returns-in-Skipped c =
-    let s = c in
-    let a = s.args in
+    let a = c.args in
     let chunk : List ℕ = a.chunk.now in
     let k : List ℕ = a.connection.now in
-    let f = frame_skipped (next chunk) _ _ (sym c.read_frame.ensures ∙ c.header-1.given.1) in
-    let part : take c.header-1.given.0.0 chunk ≡ f.header = ap (λ (n : ℕ). take n chunk) (sym f.long) ∙ (header_part chunk f.header _ f.is).1 in
-    let held = c.append-in-Skipped.ensures [] refl (memory_is k s.requires.0.connection_good (opened []) s.requires.1) in
+    let f = frame_skipped (next chunk) _ _ (sym c.read_frame.ensures ∙ c.in-Skipped.is) in
+    let part : take c.in-Skipped.header chunk ≡ f.header = ap (λ (n : ℕ). take n chunk) (sym f.long) ∙ (header_part chunk f.header _ f.is).1 in
+    let held = c.append-in-Skipped.ensures [] refl (memory_is k c.requires.0.connection_good (opened []) c.requires.1) in
     λ counters.
-    serves_wait a.list.now k a.registry.now counters chunk a.out.now a.journal.now (length chunk) (skipping f.header c.header-1.given.0.1.0) c.set_skipping.new.0 a.out.now a.journal.now c.wait-in-Skipped.result
-    (call_large (journalling a.list.now) (state_with (connection_of k) a.registry.now counters) [] chunk s.requires.1 nothing f.header _ f.is)
-    s.requires.0.chunk_good
+    serves_wait a.list.now k a.registry.now counters chunk a.out.now a.journal.now (length chunk) (skipping f.header c.in-Skipped.missing) c.set_skipping.new.memory a.out.now a.journal.now c.wait-in-Skipped.result
+    (call_large (journalling a.list.now) (state_with (connection_of k) a.registry.now counters) [] chunk c.requires.1 nothing f.header _ f.is)
+    c.requires.0.chunk_good
     c.wait-in-Skipped.ensures
-    (laid_skipping c.append-in-Skipped.new.0 c.set_skipping.new.0 f.header _ (held ∙ ap (λ (x : List ℕ). connection_bytes (opened x)) part) c.set_skipping.ensures)
+    (laid_skipping c.append-in-Skipped.new.memory c.set_skipping.new.memory f.header _ (held ∙ ap (λ (x : List ℕ). connection_bytes (opened x)) part) c.set_skipping.ensures)
     refl
     refl
 
 pub returns-in-Whole : goal.returns-in-Whole
 returns-in-Whole c =
-    let s = c in
-    let a = s.args in
+    let a = c.args in
     let chunk : List ℕ = a.chunk.now in
     let k : List ℕ = a.connection.now in
-    let n : ℕ = c.n-1.given.0.0 in
-    let w = frame_whole (next chunk) n (sym c.read_frame.ensures ∙ c.n-1.given.1) in
+    let n : ℕ = c.in-Whole.n in
+    let w = frame_whole (next chunk) n (sym c.read_frame.ensures ∙ c.in-Whole.is) in
     let answer = c.answer_whole-a in
     let part = (whole_part chunk n w).fits in
-    let few = s.requires.0.chunk_good in
+    let few = c.requires.0.chunk_good in
     let fits : n ≤ chunk_most = omega arith in
     let small : n < 2 ^ 40 = omega (arith, fits) in
     λ counters.
     serves_answer a.list.now k a.registry.now counters chunk a.out.now a.journal.now (λ x. judge (journalling a.list.now) a.registry.now x (take n chunk)) n n (opened [])
-    k answer.new.1.1.1.0 answer.new.0 answer.new.1.0 answer.result c.finish-in-Whole.result
+    k answer.new.registry answer.new.out answer.new.journal answer.result c.finish-in-Whole.result
     (judge_steady a.list.now a.registry.now (take n chunk))
-    (fresh_whole a.list.now k a.registry.now counters chunk n s.requires.1 w)
+    (fresh_whole a.list.now k a.registry.now counters chunk n c.requires.1 w)
     answer.ensures
     fits
     small
     c.finish-in-Whole.ensures
-    (memory_is k s.requires.0.connection_good (opened []) s.requires.1)
+    (memory_is k c.requires.0.connection_good (opened []) c.requires.1)

@@ -109,118 +109,109 @@ module _ (list k registry chunk before journal : List ℕ) (n : ℕ) (ready : Re
 
 pub gather-g-requires : goal.gather-g-requires
 gather-g-requires c =
-    let s = c in
-    let a = s.args in
+    let a = c.args in
     let k : List ℕ = a.connection.now in
     let chunk : List ℕ = a.chunk.now in
-    holds a.list.now k a.registry.now chunk a.out.now a.journal.now a.held s.requires.0 s.requires.1
+    holds a.list.now k a.registry.now chunk a.out.now a.journal.now a.held c.requires.0 c.requires.1
 
 pub close-requires : goal.close-requires
-close-requires c = c.gather-g.auto.0 ∙ well_size _ c.requires.0.connection_good
+close-requires c = c.gather-g.auto.memory ∙ well_size _ c.requires.0.connection_good
 
 pub skip-requires : goal.skip-requires
 skip-requires c =
-    let s = c in
-    let a = s.args in
+    let a = c.args in
     let k : List ℕ = a.connection.now in
     let chunk : List ℕ = a.chunk.now in
     let g = c.gather-g in
-    let f = frame_skipped _ _ _ (sym g.ensures.frame ∙ c.frame-1.given.1) in
-    skips a.list.now k a.registry.now chunk a.out.now a.journal.now a.held s.requires.0 s.requires.1 g.new.0 g.result g.ensures f.header _ f.is
+    let f = frame_skipped _ _ _ (sym g.ensures.frame ∙ c.in-Skipped.is) in
+    skips a.list.now k a.registry.now chunk a.out.now a.journal.now a.held c.requires.0 c.requires.1 g.new.memory g.result g.ensures f.header _ f.is
 
 pub overflow_add-end : goal.overflow_add-end
 overflow_add-end c =
-    let s = c in
-    let a = s.args in
+    let a = c.args in
     let k : List ℕ = a.connection.now in
     let chunk : List ℕ = a.chunk.now in
     let g = c.gather-g in
-    let size : ℕ = c.frame-in-Whole-1.given.0.0 in
-    let w = frame_whole _ size (sym g.ensures.frame ∙ c.frame-in-Whole-1.given.1) in
-    let few = whole_fits a.list.now k a.registry.now chunk a.out.now a.journal.now a.held s.requires.0 s.requires.1 g.new.0 g.result g.ensures size w (g.auto.0 ∙ well_size k s.requires.0.connection_good) in
+    let size : ℕ = c.in-Whole.n in
+    let w = frame_whole _ size (sym g.ensures.frame ∙ c.in-Whole.is) in
+    let few = whole_fits a.list.now k a.registry.now chunk a.out.now a.journal.now a.held c.requires.0 c.requires.1 g.new.memory g.result g.ensures size w (g.auto.memory ∙ well_size k c.requires.0.connection_good) in
     search rules
 
 pub slice_bounds-answer_whole-end : goal.slice_bounds-answer_whole-end
 slice_bounds-answer_whole-end c =
-    let s = c in
-    let a = s.args in
+    let a = c.args in
     let k : List ℕ = a.connection.now in
     let chunk : List ℕ = a.chunk.now in
     let g = c.gather-g in
-    let size : ℕ = c.frame-in-Whole-1.given.0.0 in
-    let w = frame_whole _ size (sym g.ensures.frame ∙ c.frame-in-Whole-1.given.1) in
-    let room = g.auto.0 ∙ well_size k s.requires.0.connection_good in
-    let few = whole_fits a.list.now k a.registry.now chunk a.out.now a.journal.now a.held s.requires.0 s.requires.1 g.new.0 g.result g.ensures size w room in
+    let size : ℕ = c.in-Whole.n in
+    let w = frame_whole _ size (sym g.ensures.frame ∙ c.in-Whole.is) in
+    let room = g.auto.memory ∙ well_size k c.requires.0.connection_good in
+    let few = whole_fits a.list.now k a.registry.now chunk a.out.now a.journal.now a.held c.requires.0 c.requires.1 g.new.memory g.result g.ensures size w room in
     search rules
 
 pub answer_whole-a-requires : goal.answer_whole-a-requires
 answer_whole-a-requires c =
-    let s = c in
-    let a = s.args in
+    let a = c.args in
     let k : List ℕ = a.connection.now in
     let chunk : List ℕ = a.chunk.now in
     let g = c.gather-g in
-    let size : ℕ = c.frame-in-Whole-1.given.0.0 in
-    let w = frame_whole _ size (sym g.ensures.frame ∙ c.frame-in-Whole-1.given.1) in
-    let q = whole_request a.list.now k a.registry.now chunk a.out.now a.journal.now a.held s.requires.0 s.requires.1 g.new.0 g.result g.ensures size w in
-    (q.0, q.1, s.requires.0.registry_good, s.requires.0.buffer_good, s.requires.0.list_good, omega (arith, s.requires.0.journal_good))
+    let size : ℕ = c.in-Whole.n in
+    let w = frame_whole _ size (sym g.ensures.frame ∙ c.in-Whole.is) in
+    let q = whole_request a.list.now k a.registry.now chunk a.out.now a.journal.now a.held c.requires.0 c.requires.1 g.new.memory g.result g.ensures size w in
+    (q.0, q.1, c.requires.0.registry_good, c.requires.0.buffer_good, c.requires.0.list_good, omega (arith, c.requires.0.journal_good))
 
 pub reset-requires : goal.reset-requires
-reset-requires c = c.gather-g.auto.0 ∙ well_size _ c.requires.0.connection_good
+reset-requires c = c.gather-g.auto.memory ∙ well_size _ c.requires.0.connection_good
 
 pub returns-in-Unfinished : goal.returns-in-Unfinished
 returns-in-Unfinished c =
-    let s = c in
-    let a = s.args in
+    let a = c.args in
     let k : List ℕ = a.connection.now in
     let chunk : List ℕ = a.chunk.now in
     let g = c.gather-g in
-    let begun = frame_unfinished _ (sym g.ensures.frame ∙ c.enum_told-1.given.1) in
+    let begun = frame_unfinished _ (sym g.ensures.frame ∙ c.in-Unfinished.is) in
     λ counters.
-    serves_wait a.list.now k a.registry.now counters chunk a.out.now a.journal.now g.result.used (opened (held_in a.held k ++ take g.result.used chunk)) g.new.0 a.out.now a.journal.now c.wait.result
-    (after_unfinished (journalling a.list.now) (state_with (connection_of k) a.registry.now counters) (held_in a.held k) chunk (held_is a.list.now k a.registry.now chunk a.out.now a.journal.now a.held s.requires.0 s.requires.1) (holds a.list.now k a.registry.now chunk a.out.now a.journal.now a.held s.requires.0 s.requires.1).begun g.result.used g.ensures.used begun (g.ensures.all begun))
-    (used_few a.list.now k a.registry.now chunk a.out.now a.journal.now a.held s.requires.0 s.requires.1 g.new.0 g.result g.ensures) c.wait.ensures g.ensures.memory_is refl refl
+    serves_wait a.list.now k a.registry.now counters chunk a.out.now a.journal.now g.result.used (opened (held_in a.held k ++ take g.result.used chunk)) g.new.memory a.out.now a.journal.now c.wait.result
+    (after_unfinished (journalling a.list.now) (state_with (connection_of k) a.registry.now counters) (held_in a.held k) chunk (held_is a.list.now k a.registry.now chunk a.out.now a.journal.now a.held c.requires.0 c.requires.1) (holds a.list.now k a.registry.now chunk a.out.now a.journal.now a.held c.requires.0 c.requires.1).begun g.result.used g.ensures.used begun (g.ensures.all begun))
+    (used_few a.list.now k a.registry.now chunk a.out.now a.journal.now a.held c.requires.0 c.requires.1 g.new.memory g.result g.ensures) c.wait.ensures g.ensures.memory_is refl refl
 
 pub returns-in-BadStart : goal.returns-in-BadStart
 returns-in-BadStart c =
-    let s = c in
-    let a = s.args in
+    let a = c.args in
     let k : List ℕ = a.connection.now in
     let chunk : List ℕ = a.chunk.now in
     let g = c.gather-g in
-    let bad = frame_bad _ (sym g.ensures.frame ∙ c.enum_told-in-BadStart-1.given.1) in
+    let bad = frame_bad _ (sym g.ensures.frame ∙ c.in-BadStart.is) in
     let answer = c.answer_bad_start-a in
     λ counters.
     serves_answer a.list.now k a.registry.now counters chunk a.out.now a.journal.now (λ x. (journalling a.list.now).on_bad_start a.registry.now x) g.result.used 6 closed
-    c.close.new.0 a.registry.now answer.new.0 a.journal.now answer.result c.finish.result
+    c.close.new.memory a.registry.now answer.new.out a.journal.now answer.result c.finish.result
     (bad_steady a.list.now a.registry.now)
-    (after_bad (journalling a.list.now) (state_with (connection_of k) a.registry.now counters) (held_in a.held k) chunk (held_is a.list.now k a.registry.now chunk a.out.now a.journal.now a.held s.requires.0 s.requires.1) (holds a.list.now k a.registry.now chunk a.out.now a.journal.now a.held s.requires.0 s.requires.1).begun g.result.used g.ensures.used bad (g.ensures.bad bad))
-    (answer.ensures a.list.now a.registry.now a.journal.now) (used_few a.list.now k a.registry.now chunk a.out.now a.journal.now a.held s.requires.0 s.requires.1 g.new.0 g.result g.ensures) (lit< tt) c.finish.ensures c.close.ensures
+    (after_bad (journalling a.list.now) (state_with (connection_of k) a.registry.now counters) (held_in a.held k) chunk (held_is a.list.now k a.registry.now chunk a.out.now a.journal.now a.held c.requires.0 c.requires.1) (holds a.list.now k a.registry.now chunk a.out.now a.journal.now a.held c.requires.0 c.requires.1).begun g.result.used g.ensures.used bad (g.ensures.bad bad))
+    (answer.ensures a.list.now a.registry.now a.journal.now) (used_few a.list.now k a.registry.now chunk a.out.now a.journal.now a.held c.requires.0 c.requires.1 g.new.memory g.result g.ensures) (lit< tt) c.finish.ensures c.close.ensures
 
 pub returns-in-Skipped : goal.returns-in-Skipped
 returns-in-Skipped c =
-    let s = c in
-    let a = s.args in
+    let a = c.args in
     let k : List ℕ = a.connection.now in
     let chunk : List ℕ = a.chunk.now in
     let g = c.gather-g in
-    let f = frame_skipped _ _ _ (sym g.ensures.frame ∙ c.frame-1.given.1) in
+    let f = frame_skipped _ _ _ (sym g.ensures.frame ∙ c.in-Skipped.is) in
     let skip = c.skip in
     λ counters.
-    answers_skip a.list.now k a.registry.now chunk a.out.now a.journal.now a.held s.requires.0 s.requires.1 g.new.0 g.result g.ensures f.header _ f.is counters
-    skip.new.0 skip.new.1.0 skip.result (skip.ensures a.list.now a.registry.now a.journal.now counters)
+    answers_skip a.list.now k a.registry.now chunk a.out.now a.journal.now a.held c.requires.0 c.requires.1 g.new.memory g.result g.ensures f.header _ f.is counters
+    skip.new.connection skip.new.out skip.result (skip.ensures a.list.now a.registry.now a.journal.now counters)
 
 pub returns-in-Whole : goal.returns-in-Whole
 returns-in-Whole c =
-    let s = c in
-    let a = s.args in
+    let a = c.args in
     let k : List ℕ = a.connection.now in
     let chunk : List ℕ = a.chunk.now in
     let g = c.gather-g in
-    let size : ℕ = c.frame-in-Whole-1.given.0.0 in
-    let w = frame_whole _ size (sym g.ensures.frame ∙ c.frame-in-Whole-1.given.1) in
+    let size : ℕ = c.in-Whole.n in
+    let w = frame_whole _ size (sym g.ensures.frame ∙ c.in-Whole.is) in
     let answer = c.answer_whole-a in
     λ counters.
-    answers_whole a.list.now k a.registry.now chunk a.out.now a.journal.now a.held s.requires.0 s.requires.1 g.new.0 g.result g.ensures size w counters
-    c.reset.new.0 answer.new.1.1.1.0 answer.new.0 answer.new.1.0 answer.result c.finish-in-Whole.result
-    (g.auto.0 ∙ well_size k s.requires.0.connection_good) answer.ensures c.finish-in-Whole.ensures c.reset.ensures
+    answers_whole a.list.now k a.registry.now chunk a.out.now a.journal.now a.held c.requires.0 c.requires.1 g.new.memory g.result g.ensures size w counters
+    c.reset.new.memory answer.new.registry answer.new.out answer.new.journal answer.result c.finish-in-Whole.result
+    (g.auto.memory ∙ well_size k c.requires.0.connection_good) answer.ensures c.finish-in-Whole.ensures c.reset.ensures
