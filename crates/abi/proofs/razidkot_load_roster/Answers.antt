@@ -17,12 +17,9 @@ overflow_add-result c = omega (arith, small _ _ c.fault_number.ensures)
 pub returns-in-Good : goal.returns-in-Good
 unfolding loaded_number
 returns-in-Good c =
-    let loaded = c in
-    rw (← ap loaded_with loaded.load_roster.ensures, c.in-Good.is)
+    rw (← ap loaded_with c.load_roster.ensures, c.in-Good.is)
 
 pub returns-in-Faulty : goal.returns-in-Faulty
 unfolding loaded_number
 returns-in-Faulty c =
-    let known = c in
-    let loaded = known in
-    rw (← ap loaded_with loaded.load_roster.ensures, c.in-Faulty.is, c.fault_number.ensures)
+    rw (← ap loaded_with c.load_roster.ensures, c.in-Faulty.is, c.fault_number.ensures)

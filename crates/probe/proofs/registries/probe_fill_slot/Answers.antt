@@ -1,17 +1,7 @@
 use borrow.Author.Tests.{eq-eqb, ne_eqb, lt-ltb, le-ltb, le-leb, lt-leb}
 use Rattle.probe.proofs.AnswerLaws.{changed_not, changed_so}
-use mathlib.Core.Path.{◌≡◌}
-use mathlib.Core.Bool.{true}
-use Rattle.probe.specs.code.Answers.{is_clearable}
 use borrow.Author.Rules.{rules}
 use Rattle.probe.proofs.registries.probe_fill_slot.Goals as goal
-
--- behind the first three tests the slot is there
-slot_there : (c : goal.Else-slot-ge-SLOTS)
-    → let s = c in
-    is_clearable s.args.registry.now s.args.line s.args.slot ≡ true
-slot_there c =
-    simp (eq-eqb _ _ c.if-registry-ne-REGISTRY_SIZE.false, lt-ltb _ _ c.if-line-ge-LINES.false, lt-ltb _ _ c.if-slot-ge-SLOTS.false)
 
 pub returns-then-registry-ne-REGISTRY_SIZE : goal.returns-then-registry-ne-REGISTRY_SIZE
 returns-then-registry-ne-REGISTRY_SIZE c = changed_not (simp (ne_eqb _ _ c.if-registry-ne-REGISTRY_SIZE.true))
@@ -23,15 +13,13 @@ pub returns-then-slot-ge-SLOTS : goal.returns-then-slot-ge-SLOTS
 returns-then-slot-ge-SLOTS c = changed_not (simp (eq-eqb _ _ c.if-registry-ne-REGISTRY_SIZE.false, lt-ltb _ _ c.if-line-ge-LINES.false, le-ltb _ _ c.if-slot-ge-SLOTS.true))
 
 pub returns-then-name-gt-KEY_NAME_MOST : goal.returns-then-name-gt-KEY_NAME_MOST
-returns-then-name-gt-KEY_NAME_MOST c = changed_not (simp (slot_there c, lt-leb _ _ c.if-name-gt-KEY_NAME_MOST.true))
+returns-then-name-gt-KEY_NAME_MOST c = changed_not (simp (eq-eqb _ _ c.if-registry-ne-REGISTRY_SIZE.false, lt-ltb _ _ c.if-line-ge-LINES.false, lt-ltb _ _ c.if-slot-ge-SLOTS.false, lt-leb _ _ c.if-name-gt-KEY_NAME_MOST.true))
 
 pub returns-then-bytes-gt-DATA_MOST : goal.returns-then-bytes-gt-DATA_MOST
-returns-then-bytes-gt-DATA_MOST c = changed_not (simp (slot_there c, le-leb _ _ c.if-name-gt-KEY_NAME_MOST.false, lt-leb _ _ c.if-bytes-gt-DATA_MOST.true))
+returns-then-bytes-gt-DATA_MOST c = changed_not (simp (eq-eqb _ _ c.if-registry-ne-REGISTRY_SIZE.false, lt-ltb _ _ c.if-line-ge-LINES.false, lt-ltb _ _ c.if-slot-ge-SLOTS.false, le-leb _ _ c.if-name-gt-KEY_NAME_MOST.false, lt-leb _ _ c.if-bytes-gt-DATA_MOST.true))
 
 pub returns : goal.returns
 returns c =
-    let w = c in
-    let tests = w in
     changed_so
-    (simp (slot_there tests, le-leb _ _ tests.if-name-gt-KEY_NAME_MOST.false, le-leb _ _ tests.if-bytes-gt-DATA_MOST.false))
-    w.fill_slot.ensures
+    (simp (eq-eqb _ _ c.if-registry-ne-REGISTRY_SIZE.false, lt-ltb _ _ c.if-line-ge-LINES.false, lt-ltb _ _ c.if-slot-ge-SLOTS.false, le-leb _ _ c.if-name-gt-KEY_NAME_MOST.false, le-leb _ _ c.if-bytes-gt-DATA_MOST.false))
+    c.fill_slot.ensures

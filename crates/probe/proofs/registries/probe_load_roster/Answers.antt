@@ -6,11 +6,8 @@ use Rattle.probe.proofs.registries.probe_load_roster.Goals as goal
 
 pub returns-in-Good : goal.returns-in-Good
 returns-in-Good c =
-    let loaded = c in
-    (ap loaded_number (sym c.in-Good.is ∙ ap (λ (o : RosterOutcome). o.answer) loaded.load_roster.ensures), ap (λ (o : RosterOutcome). o.registry) loaded.load_roster.ensures)
+    (ap loaded_number (sym c.in-Good.is ∙ ap (λ (o : RosterOutcome). o.answer) c.load_roster.ensures), ap (λ (o : RosterOutcome). o.registry) c.load_roster.ensures)
 
 pub returns-in-Faulty : goal.returns-in-Faulty
 returns-in-Faulty c =
-    let known = c in
-    let loaded = known in
-    (c.fault_number.ensures ∙ ap loaded_number (sym c.in-Faulty.is ∙ ap (λ (o : RosterOutcome). o.answer) loaded.load_roster.ensures), ap (λ (o : RosterOutcome). o.registry) loaded.load_roster.ensures)
+    (c.fault_number.ensures ∙ ap loaded_number (sym c.in-Faulty.is ∙ ap (λ (o : RosterOutcome). o.answer) c.load_roster.ensures), ap (λ (o : RosterOutcome). o.registry) c.load_roster.ensures)
