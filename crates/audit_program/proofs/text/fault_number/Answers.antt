@@ -1,15 +1,15 @@
-use borrow.Author.Rules.{rules}
+use Rattle.std.proofs.Common.{refl}
 use Rattle.audit_program.specs.Lines.{fault_number}
 use Rattle.audit_program.proofs.text.fault_number.Goals as goal
 
 pub returns-in-WrongCrc : goal.returns-in-WrongCrc
 unfolding fault_number
-returns-in-WrongCrc c = rw c.enum_told-1.given.1
+returns-in-WrongCrc c = rw c.in-WrongCrc.is refl
 
 pub returns-in-WrongLayout : goal.returns-in-WrongLayout
 unfolding fault_number
-returns-in-WrongLayout c = rw c.enum_told-in-WrongLayout-1.given.1
+returns-in-WrongLayout c = rw c.in-WrongLayout.is refl
 
 pub returns-in-NotAllowed : goal.returns-in-NotAllowed
 unfolding fault_number
-returns-in-NotAllowed c = rw c.enum_told-in-NotAllowed-1.given.1
+returns-in-NotAllowed c = rw c.in-NotAllowed.is refl

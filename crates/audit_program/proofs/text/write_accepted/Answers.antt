@@ -1,12 +1,8 @@
 use Rattle.billing.specs.Ascii.{ascii}
 use Rattle.billing.proofs.PlacedLaws.{placed_front}
-use borrow.Author.Rules.{rules}
 use Rattle.audit_program.specs.Lines.{verdict_line}
 use Rattle.audit_program.proofs.text.write_accepted.Goals as goal
 
--- LEFT slice_aggregate_write_word : tie.Need-slice-aggregate-write-word
--- slice_aggregate_write_word c = search rules
---
 pub returns : goal.returns
 unfolding verdict_line ascii
 returns c = placed_front c.write_word.ensures

@@ -1,9 +1,11 @@
-use Rattle.std.proofs.Common.{◌≡◌, ◌-◌, ◌*◌, ◌≤◌, ◌∙◌, refl, sym, arith, length, take}
+use Rattle.std.proofs.Common.{rules, ℕ, List, ◌≡◌, ◌-◌, ◌*◌, ◌≤◌, ◌∙◌, refl, sym, arith, length, take}
 use Rattle.std.proofs.Math.Seq.{length-take-le}
 use Rattle.counters.specs.Counters.{counter_most}
 use Rattle.service.specs.Call.{chunk_most}
 use Rattle.service.specs.Contract.{lent_memory}
-use Rattle.starting.specs.code.Stream.{turns_most, After}
+use Rattle.starting.specs.code.Stream.{turns_most, After, ReadWithin}
+use Rattle.starting.specs.declared.files.Input.{Input}
+use Rattle.starting.specs.declared.files.Input.TheVariants.{Bytes}
 use Rattle.starting.proofs.FeedLaws.{read_bytes, starts, follows, after_more, after_most}
 use Rattle.bill.proofs.feed.take_stream.Goals as goal
 
@@ -13,6 +15,9 @@ loop-turns-init c = (
   omega arith,
   refl,
   refl,
+  search rules,
+  search rules,
+  search rules,
 )
 
 pub returns-in_default : goal.returns-in_default
@@ -22,8 +27,45 @@ returns-in_default c =
     after_most _ _ good listed _ _ l.invariant.0 counter_most (omega arith)
 
 -- what was read is the front of the buffer
-read : (c : goal.In-Bytes)
-    → (let n = c.in-Bytes.n in
-    let chunk = c.read_some-input.new.buffer in
-    (n ≤ chunk_most) × (length chunk ≡ chunk_most) × (length (take n chunk) ≡ n))
-read c = ?
+front : {n : ℕ} {r : Input} (chunk before : List ℕ) → ReadWithin (length before) r → r ≡ Bytes n → length chunk ≡ length before → length before ≡ chunk_most
+    → (n ≤ chunk_most) × (length chunk ≡ chunk_most) × (length (take n chunk) ≡ n)
+front chunk before read is same long =
+    let (some, most) = read_bytes read is in
+    (omega (arith, most, long), same ∙ long, length-take-le _ chunk (omega (arith, most, same)))
+
+pub slice_bounds-chunk-end : goal.slice_bounds-chunk-end
+slice_bounds-chunk-end c =
+    let (few, long, size) = front c.read_some-input.new.buffer _ c.read_some-input.ensures c.in-Bytes.is c.read_some-input.auto.buffer c.loop-turns.invariant.4 in
+    omega (arith, few, long)
+
+pub slice_bounds-feed-end : goal.slice_bounds-feed-end
+slice_bounds-feed-end c =
+    let (few, long, size) = front c.read_some-input.new.buffer _ c.read_some-input.ensures c.in-Bytes.is c.read_some-input.auto.buffer c.loop-turns.invariant.4 in
+    sym size
+
+pub feed-counters-requires : goal.feed-counters-requires
+feed-counters-requires c =
+    let l = c.loop-turns in
+    let (few, long, size) = front c.read_some-input.new.buffer _ c.read_some-input.ensures c.in-Bytes.is c.read_some-input.auto.buffer l.invariant.4 in
+    (omega (arith, few, size), omega (arith, l.invariant.5), omega (arith, l.invariant.6), follows _ _ c.requires.1 c.requires.2 _ _ l.invariant.0 _ (omega (arith, few, size, l.invariant.1)))
+
+pub loop-turns-preserved : goal.loop-turns-preserved
+loop-turns-preserved c =
+    let (kept, turns, same, same2, long2, room, space) = c.loop-turns.invariant in
+    let (few, long, size) = front c.read_some-input.new.buffer _ c.read_some-input.ensures c.in-Bytes.is c.read_some-input.auto.buffer long2 in
+    let (long3, good, listed) = c.requires in
+    let more = c.loop-turns-test.true in (
+      after_most _ _ good listed _ _ (after_more _ _ good listed _ _ kept _ _ (omega (arith, few, size, turns, more)) c.feed-counters.ensures) _ (omega (arith, few, size, turns, more)),
+      omega arith,
+      c.feed-counters.auto.connection ∙ same,
+      c.feed-counters.auto.registry ∙ same2,
+      long,
+      c.feed-counters.auto.response ∙ room,
+      c.feed-counters.auto.journal ∙ space,
+    )
+
+pub returns : goal.returns
+returns c =
+    let l = c.loop-turns in
+    let (size, good, listed) = c.requires in
+    after_most _ _ good listed _ _ l.invariant.0 counter_most (omega arith)

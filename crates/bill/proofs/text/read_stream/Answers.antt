@@ -26,6 +26,6 @@ pub returns-in-BadList : goal.returns-in-BadList
 unfolding argument_file is_good
 returns-in-BadList c = stream_refused _ _ _ _ _ (ap argument_file c.in-Open.is) (ap is_good c.in-BadList.is)
 
-pub returns-in-Unreadable : goal.returns-in-Unreadable
+pub returns : goal.returns
 unfolding argument_file is_good
-returns-in-Unreadable c = stream_refused _ _ _ _ _ (ap argument_file c.in-Open.is) (ap is_good c.in-Unreadable.is)
+returns c = stream_refused _ _ _ _ _ (ap argument_file c.in-Open.is) (ap is_good c.in-Unreadable.is)
