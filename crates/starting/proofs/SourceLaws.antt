@@ -1,13 +1,11 @@
 -- What becomes of the three files, by what was read of them.
 use mathlib.Core.Path.{◌≡◌, refl, sym, ap, ◌∙◌, subst}
 use mathlib.Core.Bool.{Bool, true, false, true≢false, false≢true, not}
-use mathlib.Core.List.{List, [], ◌∷◌}
+use mathlib.Core.List.{List, []}
 use mathlib.Core.Option.{Option, none, some}
 use Prim.Native.Nat.{ℕ, ◌≤◌}
 use native.Mathlib.Omega.{arith}
 use borrow.Author.Tests.{eq-eqb}
-use denote.Enum.Declared.{tag_of}
-use types.Run.{OneOf, miss}
 use lib.ListN.{length, take}
 use lib.IntN.{ℤ}
 use Rattle.wire.specs.Choice.{when◌then◌else◌}
@@ -39,7 +37,6 @@ use Rattle.starting.specs.declared.files.Front.{Front}
 use Rattle.starting.specs.declared.files.Front.TheVariants as front
 use Rattle.starting.specs.declared.start.Source.{Source}
 use Rattle.starting.specs.declared.start.Source.TheVariants as source
-use Rattle.starting.specs.contracts.start.Source.{the_type}
 use Rattle.starting.proofs.FeedLaws.{kept_bytes}
 
 -- ---- what was kept of a roster file, loaded
@@ -148,9 +145,9 @@ pub with_read : (s : Source) {is_whole : Bool} → is_whole ≡ true → s ≡ w
 unfolding with_file
 with_read s w = rw w refl
 
-pub not_good : (s : Source) → OneOf (1 ∷ 2 ∷ 3 ∷ []) (tag_of the_type s) → false ≡ is_good s
+pub not_good : (s : Source) → (s ≡ source.Good → ⊥) → false ≡ is_good s
 unfolding is_good
-not_good source.Good other = absurd (miss (1 ∷ 2 ∷ 3 ∷ []) 0 tt other)
+not_good source.Good other = absurd (other refl)
 not_good (source.Faulty fault) other = refl
 not_good source.BadList other = refl
 not_good source.Unreadable other = refl

@@ -4,8 +4,6 @@ use mathlib.Core.Bool.{true}
 use mathlib.Core.List.{List, [], ◌∷◌}
 use Prim.Native.Nat.{ℕ, ◌≤◌}
 use borrow.Author.Tests.{le-ltb}
-use denote.Enum.Declared.{tag_of}
-use types.Run.{OneOf, miss}
 use lib.ListN.{length}
 use Rattle.wire.specs.Choice.{first_of}
 use Rattle.wire.specs.Lists.{over}
@@ -18,7 +16,6 @@ use Rattle.billing.specs.Bill.{refused_roster, refused_list, no_file}
 use Rattle.billing.specs.Outcome.{bill_most, bill_in, refusal_tests, BillOutcome, outcome_of, bill_outcome}
 use Rattle.billing.specs.declared.Billed.{Billed}
 use Rattle.billing.specs.declared.Billed.TheVariants.{Written}
-use Rattle.billing.specs.contracts.Billed.{the_type}
 use Rattle.starting.specs.Start.{line_of}
 use Rattle.starting.specs.declared.start.Source.{Source}
 use Rattle.starting.specs.declared.start.Source.TheVariants as source
@@ -42,10 +39,9 @@ module _ (d e : List ℕ) (answer : Billed) (m : Memory) (room : bill_most ≤ l
   }
 
   -- no other answer is given
-  pub always_written : OneOf (1 ∷ 2 ∷ 3 ∷ []) (tag_of the_type answer) → ⊥
+  pub always_written : ((n : ℕ) → answer ≡ Written n → ⊥) → ⊥
   unfolding written
-  always_written other =
-      miss (1 ∷ 2 ∷ 3 ∷ []) 0 tt (subst (λ (x : Billed). OneOf (1 ∷ 2 ∷ 3 ∷ []) (tag_of the_type x)) (ap (λ (o : BillOutcome). o.answer) outcome) other)
+  always_written other = other (length (bill_in m)) (ap (λ (o : BillOutcome). o.answer) outcome)
 
 -- ---- the line that says why there is no start
 

@@ -12,7 +12,7 @@ use Rattle.starting.proofs.FeedLaws.{takes_none, takes_all, takes_more, takes_fi
 use Rattle.starting.proofs.feed.feed.Given as goal
 
 abbrev pub invariant-loop-at : goal.invariant-loop-at
-invariant-loop-at l =     Takes l.list (take l.at l.chunk) (lent_memory l.initial.connection l.initial.registry l.initial.after) (lent_memory l.connection l.registry l.after) × (l.at ≤ length l.chunk)
+invariant-loop-at l = Takes l.list (take l.at l.chunk) (lent_memory l.initial.connection l.initial.registry l.initial.after) (lent_memory l.connection l.registry l.after) × (l.at ≤ length l.chunk)
     × (length l.connection ≡ length l.initial.connection) × (length l.registry ≡ length l.initial.registry) × (length l.response ≡ length l.initial.response) × (length l.journal ≡ length l.initial.journal)
 
 abbrev pub decreases-loop-at : goal.decreases-loop-at
