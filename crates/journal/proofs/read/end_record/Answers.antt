@@ -4,7 +4,6 @@ use lib.ListN.{replicate}
 use Rattle.crc.specs.Crc.{all_ones}
 use Rattle.journal.specs.code.Done.{compact_with}
 use Rattle.journal.proofs.StepLaws.{record_bad, record_good}
-use borrow.Author.Rules.{rules}
 use Rattle.journal.proofs.read.end_record.Goals as goal
 
 pub returns-then-fault-ne0 : goal.returns-then-fault-ne0

@@ -1,5 +1,4 @@
 use Rattle.journal.proofs.StepLaws.{ended_fault, ended_most}
-use borrow.Author.Rules.{rules}
 use Rattle.journal.proofs.read.has_ended.Goals as goal
 
 pub returns-then-p-ne0 : goal.returns-then-p-ne0

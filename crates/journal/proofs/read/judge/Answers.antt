@@ -1,6 +1,5 @@
 use native.Mathlib.Omega.{arith}
 use Rattle.journal.proofs.StepLaws.{judge_crc, judge_long, judge_front}
-use borrow.Author.Rules.{rules}
 use Rattle.journal.proofs.read.judge.Goals as goal
 
 pub returns-then-register-ne-RESIDUE : goal.returns-then-register-ne-RESIDUE

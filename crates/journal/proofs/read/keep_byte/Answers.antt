@@ -1,5 +1,4 @@
 use Rattle.journal.proofs.StepLaws.{front_past, front_set}
-use borrow.Author.Rules.{rules}
 use Rattle.journal.proofs.read.keep_byte.Goals as goal
 
 pub returns-then-count : goal.returns-then-count

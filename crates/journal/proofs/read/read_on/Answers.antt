@@ -1,12 +1,9 @@
-use mathlib.Core.Path.{◌≡◌, sym, ◌∙◌}
-use Prim.Native.Nat.{◌-◌, ◌<◌}
-use borrow.Author.Rules.{rules}
+use mathlib.Core.Path.{sym, ◌∙◌}
+use Prim.Native.Nat.{◌<◌}
 use lib.ListN.{length}
-use Rattle.registry.specs.Registry.{registry_size}
-use Rattle.journal.specs.Compact.{front_most}
 use Rattle.journal.specs.code.Done.{compact_with}
 use Rattle.journal.proofs.StepLaws.{not_ended}
-use Rattle.journal.proofs.ReadLaws.{Part, part_none, part_again, part_ended, part_end}
+use Rattle.journal.proofs.ReadLaws.{part_none, part_again, part_ended, part_end}
 use Rattle.journal.proofs.read.read_on.Goals as goal
 
 pub loop-i-init : goal.loop-i-init

@@ -1,16 +1,14 @@
-use mathlib.Core.Path.{◌≡◌, sym, ◌∙◌}
-use Prim.Native.Nat.{◌-◌, ◌<◌}
-use borrow.Author.Rules.{rules}
+use mathlib.Core.Path.{◌≡◌}
+use Prim.Native.Nat.{◌-◌}
 use lib.ListN.{length}
 use Rattle.registry.specs.Registry.{registry_size}
 use Rattle.journal.specs.Compact.{front_most}
 use Rattle.journal.specs.code.Done.{compact_with}
-use Rattle.journal.proofs.StepLaws.{not_ended}
-use Rattle.journal.proofs.ReadLaws.{Part, part_none, part_again, part_ended, part_end}
+use Rattle.journal.proofs.ReadLaws.{Part}
 use Rattle.journal.proofs.read.read_on.Given as goal
 
 abbrev pub invariant-loop-i : goal.invariant-loop-i
-invariant-loop-i l =     Part (compact_with l.initial.registry l.initial.p l.initial.front) l.chunk (compact_with l.registry l.p l.front) l.i × (length l.front ≡ front_most) × (length l.registry ≡ registry_size)
+invariant-loop-i l = Part (compact_with l.initial.registry l.initial.p l.initial.front) l.chunk (compact_with l.registry l.p l.front) l.i × (length l.front ≡ front_most) × (length l.registry ≡ registry_size)
 
 abbrev pub decreases-loop-i : goal.decreases-loop-i
 decreases-loop-i l = length l.chunk - l.i

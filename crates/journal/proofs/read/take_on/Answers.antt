@@ -1,6 +1,5 @@
 use mathlib.Core.Path.{sym, ◌∙◌}
 use Rattle.journal.proofs.StepLaws.{step_whole, step_more}
-use borrow.Author.Rules.{rules}
 use Rattle.journal.proofs.read.take_on.Goals as goal
 
 pub returns-then-is_whole : goal.returns-then-is_whole

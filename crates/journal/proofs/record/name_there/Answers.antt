@@ -2,7 +2,6 @@ use mathlib.Core.Path.{ap, ◌∙◌}
 use Prim.Native.Nat.{ℕ, ◌+◌, ◌-◌}
 use lib.ListN.{take, drop, get_or}
 use Rattle.journal.proofs.ChangeLaws.{name_at_lem}
-use borrow.Author.Rules.{rules}
 use Rattle.journal.proofs.record.name_there.Goals as goal
 
 pub returns : goal.returns

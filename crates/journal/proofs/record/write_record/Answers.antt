@@ -17,7 +17,6 @@ use Rattle.journal.specs.Record.{destroying, record_of}
 use Rattle.journal.specs.Journalling.{record_for}
 use Rattle.journal.specs.code.Written.{act_of_change}
 use Rattle.journal.proofs.ChangeLaws.{name_short}
-use borrow.Author.Rules.{rules}
 use Rattle.journal.proofs.record.write_record.Goals as goal
 
 -- what is known of the key to import, and of the slot to clear

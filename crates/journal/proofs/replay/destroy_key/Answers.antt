@@ -2,11 +2,9 @@ use mathlib.Core.Path.{◌≡◌, sym, ap, ◌∙◌}
 use mathlib.Core.Bool.{true}
 use mathlib.Core.List.{List}
 use Prim.Native.Nat.{ℕ}
-use borrow.Author.Tests.{not-true, not-false}
 use Rattle.keys.specs.Names.{legal_name, key_name_most}
 use Rattle.registry.proofs.RegistryLaws.{slot_below}
 use Rattle.journal.proofs.DoneLaws.{destroy_bad, destroy_none, destroy_done}
-use borrow.Author.Rules.{rules}
 use Rattle.journal.proofs.replay.destroy_key.Goals as goal
 use Rattle.journal.proofs.replay.destroy_key.Goals.{Else-not-is_legal}
 

@@ -10,7 +10,6 @@ use Rattle.registry.proofs.RegistryLaws.{slot_below}
 use Rattle.judgement.specs.Operations.{within_bounds}
 use Rattle.judgement.proofs.ImportLaws.{Taken, bounded_legal}
 use Rattle.journal.proofs.DoneLaws.{import_bad, import_taken, import_full, import_done}
-use borrow.Author.Rules.{rules}
 use Rattle.journal.proofs.replay.import_key.Goals as goal
 use Rattle.journal.proofs.replay.import_key.Goals.{Else-not-is_importable, Start}
 

@@ -1,11 +1,9 @@
 use mathlib.Core.Path.{◌≡◌, refl, sym, ◌∙◌}
 use mathlib.Core.Bool.{true}
-use borrow.Author.Tests.{not-true, not-false}
 use Rattle.keys.specs.Names.{legal_name, key_name_most}
 use Rattle.keys.specs.Key.{Key, legal_data}
 use Rattle.registry.specs.code.Check.{key_from}
 use Rattle.judgement.proofs.ImportLaws.{bad_name, data_left}
-use borrow.Author.Rules.{rules}
 use Rattle.journal.proofs.replay.is_importable.Goals as goal
 use Rattle.journal.proofs.replay.is_importable.Goals.{After-is_legal_data, Else-not-is_legal, Start}
 

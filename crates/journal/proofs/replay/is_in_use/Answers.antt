@@ -1,6 +1,5 @@
 use mathlib.Core.Path.{sym}
 use Rattle.journal.proofs.LeftLaws.{unused_line_lem, used_line}
-use borrow.Author.Rules.{rules}
 use Rattle.journal.proofs.replay.is_in_use.Goals as goal
 
 pub returns-then-l-ge-LINES : goal.returns-then-l-ge-LINES

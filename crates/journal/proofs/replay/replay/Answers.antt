@@ -4,7 +4,6 @@ use Rattle.journal.specs.Record.{act_in}
 use Rattle.journal.specs.Replay.{judge_act}
 use Rattle.journal.specs.code.Done.{left_by}
 use Rattle.journal.proofs.LeftLaws.{left_layout, other_tag}
-use borrow.Author.Rules.{rules}
 use Rattle.journal.proofs.replay.replay.Goals as goal
 
 pub returns-then-tag-eq2 : goal.returns-then-tag-eq2

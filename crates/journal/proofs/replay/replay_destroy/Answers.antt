@@ -2,14 +2,12 @@ use mathlib.Core.Path.{◌≡◌, sym, ap, ◌∙◌}
 use mathlib.Core.Bool.{Bool}
 use mathlib.Core.Option.{some}
 use native.Mathlib.Omega.{arith}
-use borrow.Author.Tests.{not-true, not-false}
 use Rattle.wire.specs.Choice.{when◌then◌else◌}
 use Rattle.journal.specs.Record.{destroying, line_in, act_in}
 use Rattle.journal.specs.Replay.{in_use, judge_act}
 use Rattle.journal.specs.code.Done.{left_by}
 use Rattle.journal.proofs.LeftLaws.{left_layout, destroy_short, destroy_there, line_used, below, destroy_is, destroy_unused, destroy_left}
 use lib.ListN.{drop, get_or}
-use borrow.Author.Rules.{rules}
 use Rattle.journal.proofs.replay.replay_destroy.Goals as goal
 use Rattle.journal.proofs.replay.replay_destroy.Goals.{After-destroy_key, After-is_in_use}
 
@@ -42,8 +40,6 @@ done : (c : After-destroy_key)
     record { fault = when c.destroy_key.result then 0 else 3; registry = c.destroy_key.new.registry }
     ≡ left_by c.args.registry.now (judge_act c.args.registry.now (act_in (record { tag = 3; value = c.args.value.now }))))
 done c =
-    
-    
     destroy_left c.args.registry.now c.args.value.now (there_2 c) (used_2 c ∙ c.if-not-is_in_use.false) _ _
     (destroy_is c.args.registry.now c.args.value.now _ (at_2 c) _ c.destroy_key.ensures)
 

@@ -4,25 +4,18 @@ use mathlib.Core.List.{List}
 use mathlib.Core.Option.{some}
 use Prim.Native.Nat.{ℕ, ◌+◌}
 use native.Mathlib.Omega.{arith}
-use borrow.Author.Tests.{not-true, not-false}
 use Rattle.wire.specs.Choice.{when◌then◌else◌}
 use Rattle.journal.specs.Record.{importing, line_in, name_at, key_in, act_in}
 use Rattle.journal.specs.Replay.{in_use, judge_act}
 use Rattle.journal.specs.code.Done.{left_by}
 use Rattle.journal.proofs.LeftLaws.{left_layout, import_short, export_odd, verify_odd, name_cut, import_there, key_there, line_used, below, import_is, import_unused, import_left}
 use lib.ListN.{get_or}
-use borrow.Author.Rules.{rules}
 use Rattle.journal.proofs.replay.replay_import.Goals as goal
 use Rattle.journal.proofs.replay.replay_import.Goals.{After-import_key, After-is_in_use}
 
 there : (c : After-is_in_use)
     → (let v = c.args.value.now in act_in (record { tag = 2; value = v }) ≡ some (importing (line_in v) (key_in v)))
 there c =
-    
-    
-    
-    
-    
     let n = c.wide-e.ensures.0 in
     let t = c.if-value-e.false in
     import_there c.args.value.now c.requires.1 c.if-value-lt-NAME_AT.false c.if-value-gt1.false c.if-value-gt1-2.false (omega arith)
@@ -30,11 +23,6 @@ there c =
 there_2 : (c : After-import_key)
     → (let v = c.args.value.now in act_in (record { tag = 2; value = v }) ≡ some (importing (line_in v) (key_in v)))
 there_2 c =
-    
-    
-    
-    
-    
     let n = c.wide-e.ensures.0 in
     let t = c.if-value-e.false in
     import_there c.args.value.now c.requires.1 c.if-value-lt-NAME_AT.false c.if-value-gt1.false c.if-value-gt1-2.false (omega arith)
@@ -56,9 +44,6 @@ done : (c : After-import_key)
     record { fault = when c.import_key.result then 0 else 3; registry = c.import_key.new.registry }
     ≡ left_by c.args.registry.now (judge_act c.args.registry.now (act_in (record { tag = 2; value = c.args.value.now }))))
 done c =
-    
-    
-    
     let v : List ℕ = c.args.value.now in
     import_left c.args.registry.now v (there_2 c) (used_2 c ∙ c.if-not-is_in_use.false) _ _
     (import_is c.args.registry.now v _ (at_2 c) _ (key_there v _ (name_at + c.wide-e.result) _ c.wide-e.ensures.0 refl c.read_u16-bits.ensures) _ c.import_key.ensures)

@@ -1,5 +1,4 @@
 use Rattle.journal.proofs.StateLaws.{begun_not, begun_fresh}
-use borrow.Author.Rules.{rules}
 use Rattle.journal.proofs.state.begin_journal.Goals as goal
 
 pub returns-then-state-ne-STATE_SIZE : goal.returns-then-state-ne-STATE_SIZE

@@ -1,5 +1,4 @@
 use Rattle.wire.specs.Numbers.{little_endian_of}
-use borrow.Author.Rules.{rules}
 use Rattle.journal.proofs.state.head_of.Goals as goal
 
 pub returns : goal.returns

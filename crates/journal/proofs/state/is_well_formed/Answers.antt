@@ -9,7 +9,6 @@ use Rattle.wire.proofs.BufferLaws.{lent}
 use Rattle.journal.specs.Compact.{file_most, is_begun_whole}
 use Rattle.journal.specs.Memory.{kept_at, count_at, front_at}
 use Rattle.journal.proofs.StateLaws.{state_size_lem, state_fault, state_far, state_whole, state_full, state_zeros}
-use borrow.Author.Rules.{rules}
 use Rattle.journal.proofs.state.is_well_formed.Goals as goal
 use Rattle.journal.proofs.state.is_well_formed.Goals.{After-is_whole}
 
@@ -18,8 +17,6 @@ state c = c.args.state.now
 
 within : (c : After-is_whole) → field kept_at 8 (state c) + field count_at 8 (state c) ≤ file_most
 within c =
-    
-    
     let kept = c.read_u64-kept.ensures in
     let count = c.read_u64-count.ensures in
     let a = c.if-kept-gt-FILE_MOST.false in

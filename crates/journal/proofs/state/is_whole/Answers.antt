@@ -1,5 +1,4 @@
 use Rattle.journal.proofs.StepLaws.{begun_short, begun_told}
-use borrow.Author.Rules.{rules}
 use Rattle.journal.proofs.state.is_whole.Goals as goal
 
 pub returns-then-count-lt3 : goal.returns-then-count-lt3

@@ -1,6 +1,5 @@
 use lib.ListN.{get_or}
 use Rattle.journal.specs.code.Done.{progress_in}
-use borrow.Author.Rules.{rules}
 use Rattle.journal.proofs.state.load.Goals as goal
 
 pub returns : goal.returns

@@ -1,5 +1,4 @@
 use Rattle.journal.proofs.StateLaws.{stored}
-use borrow.Author.Rules.{rules}
 use Rattle.journal.proofs.state.store.Goals as goal
 
 pub returns : goal.returns

@@ -1,5 +1,4 @@
 use Rattle.wire.proofs.BufferLaws.{wrote_on}
-use borrow.Author.Rules.{rules}
 use Rattle.journal.proofs.write.copy_both.Goals as goal
 
 pub returns : goal.returns

@@ -1,6 +1,5 @@
 use Rattle.wire.specs.Numbers.{little_endian_of}
 use Rattle.journal.specs.code.Written.{import_head}
-use borrow.Author.Rules.{rules}
 use Rattle.journal.proofs.write.import_head.Goals as goal
 
 pub returns : goal.returns

@@ -2,7 +2,6 @@ use native.Mathlib.Omega.{arith}
 use lib.ListN.{length-append}
 use Rattle.journal.specs.Record.{destroying}
 use Rattle.journal.proofs.WrittenLaws.{destroy_front, sealed}
-use borrow.Author.Rules.{rules}
 use Rattle.journal.proofs.write.write_destroy.Goals as goal
 
 pub seal-requires : goal.seal-requires

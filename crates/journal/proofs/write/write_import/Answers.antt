@@ -4,7 +4,6 @@ use Rattle.wire.proofs.BufferLaws.{wrote_on}
 use Rattle.registry.specs.code.Check.{key_from}
 use Rattle.journal.specs.Record.{importing}
 use Rattle.journal.proofs.WrittenLaws.{import_front, sealed}
-use borrow.Author.Rules.{rules}
 use Rattle.journal.proofs.write.write_import.Goals as goal
 
 pub overflow_add-k : goal.overflow_add-k
