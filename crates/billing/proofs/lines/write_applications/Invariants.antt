@@ -13,7 +13,7 @@ use Rattle.billing.proofs.LineLaws.{lines_from, name_at, lines_end, lines_none, 
 use Rattle.billing.proofs.lines.write_applications.Given as goal
 
 abbrev pub invariant-loop-i : goal.invariant-loop-i
-invariant-loop-i l =     Leaves (lines_from l.registry l.served 0) l.initial.out l.at (lines_from l.registry l.served l.i) l.out l.end × (l.i ≤ line_count) × (l.end ≤ l.at + application_line_most * l.i)
+invariant-loop-i l = Leaves (lines_from l.registry l.served 0) l.initial.out l.at (lines_from l.registry l.served l.i) l.out l.end × (l.i ≤ line_count) × (l.end ≤ l.at + application_line_most * l.i)
 
 abbrev pub decreases-loop-i : goal.decreases-loop-i
 decreases-loop-i l = line_count - l.i

@@ -19,7 +19,6 @@ good l = l.requires.0
 size : (l : At-loop-i) → length l.args.registry.now ≡ registry_size
 size l = (good_of _ (good l)).size
 
-
 below : (w : After-line_name) → w.loop-i.i < line_count
 below w = omega arith
 

@@ -13,7 +13,7 @@ use Rattle.billing.proofs.LineLaws.{slots_from, keys_from, keys_end, keys_none, 
 use Rattle.billing.proofs.lines.write_keys.Given as goal
 
 abbrev pub invariant-loop-i : goal.invariant-loop-i
-invariant-loop-i l =     Leaves (keys_from l.registry 0) l.initial.out l.at (keys_from l.registry l.i) l.out l.end × (l.i ≤ line_count) × (l.end ≤ l.at + slot_count * key_line_most * l.i)
+invariant-loop-i l = Leaves (keys_from l.registry 0) l.initial.out l.at (keys_from l.registry l.i) l.out l.end × (l.i ≤ line_count) × (l.end ≤ l.at + slot_count * key_line_most * l.i)
 
 abbrev pub decreases-loop-i : goal.decreases-loop-i
 decreases-loop-i l = line_count - l.i

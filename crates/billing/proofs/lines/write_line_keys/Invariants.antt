@@ -8,7 +8,7 @@ use Rattle.billing.proofs.LineLaws.{slots_from, slot_line, slots_next, slots_end
 use Rattle.billing.proofs.lines.write_line_keys.Given as goal
 
 abbrev pub invariant-loop-k : goal.invariant-loop-k
-invariant-loop-k l =     Leaves (slots_from l.registry l.line 0) l.initial.out l.at (slots_from l.registry l.line l.k) l.out l.end × (l.k ≤ slot_count) × (l.end ≤ l.at + key_line_most * l.k)
+invariant-loop-k l = Leaves (slots_from l.registry l.line 0) l.initial.out l.at (slots_from l.registry l.line l.k) l.out l.end × (l.k ≤ slot_count) × (l.end ≤ l.at + key_line_most * l.k)
 
 abbrev pub decreases-loop-k : goal.decreases-loop-k
 decreases-loop-k l = slot_count - l.k

@@ -20,12 +20,11 @@ returns-then-not-is_well_formed-2 c =
     rw (le-ltb _ _ c.if-out-lt-BILL_MOST.false, ← c.is_well_formed.ensures, c.if-not-is_well_formed.false, ← c.is_well_formed-2.ensures, c.if-not-is_well_formed-2.true)
 
 pub write_lines-requires : goal.write_lines-requires
-write_lines-requires c =
-    (
-      sym c.is_well_formed.ensures ∙ c.if-not-is_well_formed.false,
-      sym c.is_well_formed-2.ensures ∙ c.if-not-is_well_formed-2.false,
-      omega arith,
-    )
+write_lines-requires c = (
+  sym c.is_well_formed.ensures ∙ c.if-not-is_well_formed.false,
+  sym c.is_well_formed-2.ensures ∙ c.if-not-is_well_formed-2.false,
+  omega arith,
+)
 
 pub returns : goal.returns
 unfolding bill_outcome outcome_of first_of refusal_tests

@@ -15,21 +15,16 @@ use Rattle.billing.proofs.whole.write_lines.Goals.{After-write_count-dropped, Af
 -- the lines so far, each of its longest
 unauthenticated_most : (c : After-write_count-open) → c.write_count-open.result ≤ 2 * count_line_most + line_count * application_line_most + line_count * (slot_count * key_line_most)
 unauthenticated_most c =
-    
-    
     omega (arith, c.write_count-taken.ensures.1, c.write_applications-named.ensures.1, c.write_keys-keyed.ensures.1, c.write_count-open.ensures.1)
 
 -- the lines so far, each of its longest
 unauthenticated_most_2 : (c : After-write_count-dropped) → c.write_count-open.result ≤ 2 * count_line_most + line_count * application_line_most + line_count * (slot_count * key_line_most)
 unauthenticated_most_2 c =
-    
-    
     omega (arith, c.write_count-taken.ensures.1, c.write_applications-named.ensures.1, c.write_keys-keyed.ensures.1, c.write_count-open.ensures.1)
 
 dropped_most : (c : After-write_count-dropped)
     → c.write_count-dropped.result ≤ 3 * count_line_most + line_count * application_line_most + line_count * (slot_count * key_line_most) + refused_count * refused_line_most
 dropped_most c =
-    
     omega (arith, unauthenticated_most_2 c, c.write_refusals-statuses.ensures.1, c.write_count-dropped.ensures.1)
 
 pub slice_bounds-write_refusals-end : goal.slice_bounds-write_refusals-end
