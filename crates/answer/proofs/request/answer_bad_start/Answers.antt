@@ -1,6 +1,5 @@
 use mathlib.Core.Path.{refl}
 use native.Mathlib.Omega.{arith}
-use borrow.Author.Rules.{rules}
 use Rattle.judgement.specs.Status.{status_number}
 use Rattle.judgement.specs.Judgement.{judgement}
 use Rattle.journal.specs.Journalling.{journalling}

@@ -5,7 +5,6 @@ use Rattle.judgement.specs.code.Decided.{result_in, Decided}
 use Rattle.judgement.specs.declared.Asker.TheVariants.{Named}
 use Rattle.answer.specs.code.Answers.{result_for_named}
 use Rattle.answer.proofs.AnswerLaws.{decided_answered}
-use borrow.Author.Rules.{rules}
 use Rattle.answer.proofs.request.answer_named.Goals as goal
 
 pub write_record-recorded-requires : goal.write_record-recorded-requires

@@ -11,7 +11,6 @@ use Rattle.judgement.specs.declared.Asker.TheVariants.{Nobody}
 use Rattle.judgement.proofs.AskerLaws.{core_alone}
 use Rattle.answer.specs.code.Answers.{result_for_nobody}
 use Rattle.answer.proofs.AnswerLaws.{core_opcode, provider_small, decided_answered}
-use borrow.Author.Rules.{rules}
 use Rattle.answer.proofs.request.answer_nobody.Goals as goal
 
 pub returns-then-h-eq1 : goal.returns-then-h-eq1

@@ -1,6 +1,5 @@
 use Prim.Native.Nat.{◌≤◌, ◌<◌}
 use native.Mathlib.Omega.{arith}
-use borrow.Author.Rules.{rules}
 use Rattle.wire.specs.Request.{content_length}
 use Rattle.wire.specs.code.Header.{header_of}
 use Rattle.messages.specs.Formats.{content_type_of}

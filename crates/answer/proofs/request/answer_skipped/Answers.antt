@@ -2,7 +2,6 @@ use mathlib.Core.Path.{◌≡◌, sym}
 use native.Mathlib.Omega.{arith}
 use lib.ListN.{length, take}
 use lib.Seq.{length-take-le}
-use borrow.Author.Rules.{rules}
 use Rattle.answer.proofs.request.answer_skipped.Goals as goal
 use Rattle.answer.proofs.request.answer_skipped.Goals.{After-header_length-end}
 

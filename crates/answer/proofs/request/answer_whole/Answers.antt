@@ -1,9 +1,6 @@
-use Prim.Native.Nat.{◌≤◌}
 use mathlib.Core.Path.{◌≡◌, sym, ◌∙◌}
 use mathlib.Core.Bool.{true, false}
 use native.Mathlib.Omega.{arith}
-use borrow.Author.Rules.{rules}
-use lib.ListN.{length}
 use Rattle.stream.specs.Rules.{judge}
 use Rattle.stream.specs.Frame.{oversized}
 use Rattle.stream.proofs.FrameLaws.{legal_size}

@@ -2,14 +2,13 @@ use Prim.Native.Nat.{ℕ, ◌<◌}
 use mathlib.Core.Path.{◌≡◌, subst}
 use native.Mathlib.Nat.{add-sub_cancel_left}
 use native.Mathlib.Omega.{arith}
-use lib.ListN.{length, length-take}
+use lib.ListN.{length-take}
 use Rattle.registry.specs.Registry.{slot_count, changed}
 use Rattle.registry.specs.declared.Slot.{Slot}
 use Rattle.messages.specs.declared.ask.KeyPlaces.{KeyPlaces}
 use Rattle.judgement.specs.declared.Edit.{Edit}
 use Rattle.judgement.specs.declared.Edit.TheVariants.{Fills}
 use Rattle.judgement.specs.code.Decided.{KeyParts, change_of, SafeEdit}
-use borrow.Author.Rules.{rules}
 use Rattle.answer.proofs.request.make_edit.Goals as goal
 
 -- what is known of a slot to fill, and of the key in the body

@@ -8,7 +8,6 @@ use Rattle.messages.proofs.FormatsLaws.{nothing_bytes}
 use Rattle.judgement.specs.code.Decided.{output_in}
 use Rattle.judgement.proofs.SourceLaws.{bytes_at_lem}
 use Rattle.answer.proofs.WrittenLaws.{data_short, core_body, keystore_body}
-use borrow.Author.Rules.{rules}
 use Rattle.answer.proofs.response.write_output.Goals as goal
 use Rattle.answer.proofs.response.write_output.Goals.{After-key_bytes-data}
 

@@ -1,5 +1,4 @@
 use mathlib.Core.List.{append-nil}
-use borrow.Author.Rules.{rules}
 use Rattle.wire.specs.Response.{response_bytes}
 use Rattle.answer.proofs.response.write_refused.Goals as goal
 

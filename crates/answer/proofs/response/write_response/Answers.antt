@@ -3,7 +3,6 @@ use native.Mathlib.Omega.{arith}
 use Rattle.judgement.specs.Status.{status_number}
 use Rattle.judgement.specs.code.Decided.{output_most}
 use Rattle.answer.proofs.WrittenLaws.{response_on, output_short}
-use borrow.Author.Rules.{rules}
 use Rattle.answer.proofs.response.write_response.Goals as goal
 use Rattle.answer.proofs.response.write_response.Goals.{After-write_output-size}
 
