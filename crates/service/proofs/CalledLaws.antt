@@ -1,12 +1,11 @@
 -- A call as the code says it, from the code of C1 to C7 and from what serving it has done.
 use Prim.Native.Nat.{ℕ}
-use mathlib.Core.Path.{◌≡◌, refl, sym, ap, subst, ◌∙◌}
+use mathlib.Core.Path.{◌≡◌, refl, sym, ap, ◌∙◌}
 use mathlib.Core.Option.{Option, none, some, map}
-use mathlib.Core.List.{List, [], ◌∷◌}
+use mathlib.Core.List.{List}
 use native.Mathlib.Nat.{add-zero}
-use native.Mathlib.Omega.{arith}
 use Rattle.wire.specs.Choice.{first_of}
-use Rattle.reading.specs.Calls.{refused, took}
+use Rattle.reading.specs.Calls.{took}
 use Rattle.reading.specs.Call.{Effect}
 use Rattle.reading.specs.Buffer.{written}
 use Rattle.stream.specs.Rules.{State}

@@ -5,7 +5,6 @@ use Rattle.service.specs.declared.Handled.{Handled}
 use Rattle.service.proofs.CallLaws.{passed}
 use Rattle.service.proofs.CalledLaws.{taken_passes, refused_call, taken_call}
 use Rattle.service.proofs.RoomLaws.{modest_fits, nothing_fits}
-use borrow.Author.Rules.{rules}
 use Rattle.service.proofs.call.handle.Goals as goal
 
 pub returns-in_default : goal.returns-in_default

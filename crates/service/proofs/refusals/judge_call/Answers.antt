@@ -1,5 +1,4 @@
 use borrow.Author.Tests.{lt-ltb, le-ltb}
-use borrow.Author.Rules.{rules}
 use Rattle.wire.specs.Choice.{first_of}
 use Rattle.service.specs.Call.{refusal_tests}
 use Rattle.service.specs.code.Called.{code_for}

@@ -23,7 +23,6 @@ use Rattle.service.specs.Contract.{lent_memory}
 use Rattle.service.specs.code.Served.{Ready, SkipReady, Carried, header_at, skip_effect, effect_of}
 use Rattle.service.specs.declared.Handled.{Handled}
 use Rattle.service.proofs.ServeLaws.{state_with, skip_ready, serves_skip, serves_drop}
-use borrow.Author.Rules.{rules}
 use Rattle.service.proofs.serve.serve.Goals as goal
 
 fresh : (k : Connection) (n : ℕ) → state_of k ≡ Open n → n ≡ 0 → k ≡ opened []

@@ -23,7 +23,6 @@ use Rattle.counters.specs.Counters.{totals_of}
 use Rattle.counters.specs.declared.Counters.{Counters}
 use Rattle.service.specs.Call.{chunk_most}
 use Rattle.service.proofs.ServeLaws.{state_with, bad_steady, judge_steady, serves_wait, serves_answer}
-use borrow.Author.Rules.{rules}
 use Rattle.service.proofs.serve.serve_fresh.Goals as goal
 
 nothing : next [] ≡ unfinished

@@ -19,7 +19,6 @@ use Rattle.counters.specs.Counters.{totals_of}
 use Rattle.service.specs.code.Served.{header_at, Carried}
 use Rattle.service.proofs.ServeLaws.{state_with, carried_wait, carried_answer, skip_waits, skip_answers}
 use Rattle.service.specs.Call.{chunk_most}
-use borrow.Author.Rules.{rules}
 use Rattle.service.proofs.serve.skip.Goals as goal
 
 -- a whole header stands there
