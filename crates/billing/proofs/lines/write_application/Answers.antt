@@ -5,15 +5,6 @@ use Rattle.billing.specs.Bill.{text_line}
 use Rattle.billing.proofs.PlacedLaws.{placed_on}
 use Rattle.billing.proofs.lines.write_application.Goals as goal
 
--- LEFT slice_aggregate_write_word : tie.Need-slice-aggregate-write-word
--- slice_aggregate_write_word c = search rules
---
--- LEFT slice_aggregate_write_word_2 : tie.Need-slice-aggregate-write-word-2
--- slice_aggregate_write_word_2 c = search rules
---
--- LEFT slice_aggregate_write_word_3 : tie.Need-slice-aggregate-write-word-3
--- slice_aggregate_write_word_3 c = search rules
---
 pub returns : goal.returns
 unfolding text_line ascii
 returns c =

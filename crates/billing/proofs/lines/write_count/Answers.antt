@@ -3,9 +3,6 @@ use Rattle.billing.specs.Bill.{text_line}
 use Rattle.billing.proofs.PlacedLaws.{placed_on}
 use Rattle.billing.proofs.lines.write_count.Goals as goal
 
--- LEFT slice_aggregate_write_word : tie.Need-slice-aggregate-write-word
--- slice_aggregate_write_word c = search rules
---
 pub returns : goal.returns
 unfolding text_line
 returns c =

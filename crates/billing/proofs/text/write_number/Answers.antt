@@ -2,9 +2,6 @@ use borrow.Author.Rules.{rules}
 use Rattle.billing.proofs.PlacedLaws.{placed_on}
 use Rattle.billing.proofs.text.write_number.Goals as goal
 
--- LEFT slice_aggregate_write_word : tie.Need-slice-aggregate-write-word
--- slice_aggregate_write_word c = search rules
---
 pub returns : goal.returns
 returns c =
     let number = c in

@@ -4,9 +4,6 @@ use Rattle.billing.proofs.PlacedLaws.{placed_front}
 use borrow.Author.Rules.{rules}
 use Rattle.starting.proofs.text.write_no_file.Goals as goal
 
--- LEFT slice_aggregate_write_word : tie.Need-slice-aggregate-write-word
--- slice_aggregate_write_word c = search rules
---
 pub returns : goal.returns
 unfolding no_file text_line ascii
 returns c = placed_front c.write_word.ensures
