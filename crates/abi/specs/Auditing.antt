@@ -1,6 +1,5 @@
 -- What the auditor is lent by C, and answers, as numbers (document 02, "The auditor").
-use Rattle.std.specs.Prelude.{ℕ, Bool, true, false, not, List, eqb}
-use Rattle.std.proofs.Math.Option.{Option, none, some}
+use Rattle.std.specs.Prelude.{ℕ, Bool, true, false, not, List, eqb, Option, Some, None}
 use Rattle.counters.specs.declared.Counters.{Counters}
 use Rattle.service.specs.Contract.{lent_memory}
 use Rattle.audit.specs.Step.{Memory, audit_memory, progress_with, StepOutcome, ill_formed}
@@ -9,8 +8,6 @@ use Rattle.audit.specs.declared.Progress.{Progress}
 use Rattle.audit.specs.declared.Stepped.{Stepped}
 use Rattle.audit.specs.declared.Verdict.{Verdict}
 use Rattle.audit.specs.declared.Verdict.TheVariants.{Accepted, Wrong}
-use Rattle.audit.specs.declared.Ending.{Ending}
-use Rattle.audit.specs.declared.Ending.TheVariants.{Refused, Reached}
 use Rattle.abi.specs.declared.auditing.Audit.{Audit}
 use Rattle.abi.specs.declared.auditing.Audited.{Audited}
 use Rattle.abi.specs.declared.auditing.VerdictNumbers.{VerdictNumbers}
@@ -34,8 +31,8 @@ lent_audit a connection registry pending = audit_memory (lent_memory connection 
 
 -- 0 for a step that is not refused
 unfoldable pub refused_number : Option ℕ → ℕ
-refused_number none = 0
-refused_number (some number) = number
+refused_number None = 0
+refused_number (Some number) = number
 
 abbrev pub stepped_numbers : Stepped → Audited
 stepped_numbers s = record { code = refused_number (refusal_of s.code); requests = s.requests; responses = s.responses; audit = audit_with s.progress s.counters }
@@ -53,7 +50,7 @@ abbrev pub verdict_with : (code response byte : ℕ) → VerdictNumbers
 verdict_with code response byte = record { code = code; response = response; byte = byte }
 
 -- 0 for `accepted`, 1 for a wrong byte of a response
-unfoldable pub verdict_numbers : Ending → VerdictNumbers
-verdict_numbers Refused = verdict_with ill_formed 0 0
-verdict_numbers (Reached Accepted) = verdict_with 0 0 0
-verdict_numbers (Reached (Wrong response byte)) = verdict_with 1 response byte
+unfoldable pub verdict_numbers : Option Verdict → VerdictNumbers
+verdict_numbers None = verdict_with ill_formed 0 0
+verdict_numbers (Some Accepted) = verdict_with 0 0 0
+verdict_numbers (Some (Wrong response byte)) = verdict_with 1 response byte

@@ -1,16 +1,16 @@
 // The auditor, exported to C (document 02, "The auditor"). Its progress and its counters go in and come back by value.
-ghost use Rattle.std.specs.Prelude.{◌≡◌};
+// Kept here: numbers and flags, which C passes and reads, and functions that turn other crates' types into them (those take no
+// `From` here).
+ghost use Rattle.std.specs.Prelude.{◌≡◌, Some};
 ghost use Rattle.audit.specs.Contract.{refusal_of};
 ghost use Rattle.audit.specs.Step.{chunks_with, step_outcome, begun, end_outcome};
-ghost use Rattle.audit.specs.declared.Ending.TheVariants.{Reached};
 ghost use Rattle.counters.specs.Counters.{zero_counters};
-ghost use Rattle.abi.specs.Auditing.{progress_of, wrong_number, audit_with, refused_number, stepped_numbers, lent_audit, stepped_with, verdict_numbers};
+ghost use Rattle.abi.specs.Auditing.{progress_of, audit_with, refused_number, stepped_numbers, lent_audit, stepped_with, verdict_numbers};
 
-use crate::code_number;
 use audit::conclusion::end_audit;
 use audit::state::begin_audit;
 use audit::step::step;
-use audit::{Ending, Progress, StepCode, Stepped, Verdict};
+use audit::{Progress, StepRefusal, Stepped, Verdict};
 use counters::Counters;
 use counters::counting::zero_counters;
 
@@ -45,15 +45,7 @@ pub struct VerdictNumbers {
     pub byte: usize,
 }
 
-fn wrong_number(is_wrong: bool) -> u32
-    ensures { result ≡ wrong_number is_wrong }
-{
-    if is_wrong {
-        return 1;
-    }
-    0
-}
-
+#[tactic(auto, unfolding(crate::specs::Auditing::wrong_number))]
 fn with_counters(p: Progress, counters: Counters) -> Audit
     ensures { result ≡ audit_with p counters }
 {
@@ -61,7 +53,7 @@ fn with_counters(p: Progress, counters: Counters) -> Audit
         number: p.number,
         size: p.size,
         place: p.place,
-        wrong: wrong_number(p.is_wrong),
+        wrong: u32::from(p.is_wrong),
         counters,
     }
 }
@@ -85,26 +77,25 @@ pub extern "C" fn razidkot_audit_begin() -> Audit
     with_counters(begin_audit(), zero_counters())
 }
 
-fn step_number(code: StepCode) -> u32
+#[tactic(auto, unfolding(crate::specs::Auditing::refused_number, audit::specs::Contract::refusal_of))]
+fn step_number(code: Result<(), StepRefusal>) -> u32
     ensures { result ≡ refused_number (refusal_of code) }
 {
     match code {
-        StepCode::IllFormed => 8,
-        StepCode::Called(code) => code_number(code),
+        Ok(()) => 0,
+        Err(StepRefusal::IllFormed) => 8,
+        Err(StepRefusal::Call(refusal)) => u32::from(refusal),
     }
 }
 
 fn number_stepped(s: Stepped) -> Audited
     ensures { result ≡ stepped_numbers s }
 {
-    let code = s.code;
-    let progress = s.progress;
-    let counters = s.counters;
     Audited {
-        code: step_number(code),
+        code: step_number(s.code),
         requests: s.requests,
         responses: s.responses,
-        audit: with_counters(progress, counters),
+        audit: with_counters(s.progress, s.counters),
     }
 }
 
@@ -124,16 +115,23 @@ pub extern "C" fn razidkot_audit_step(
 ) -> Audited
     ensures { (result, (connection.new, (registry.new, (pending.new, journal.new)))) ≡ stepped_with (step_outcome list.now (lent_audit audit connection.old registry.old pending.old) (chunks_with requests.now responses.now is_last journal.old)) }
 {
-    let progress = progress_of(audit);
-    let counters = audit.counters;
     number_stepped(step(
-        requests, responses, is_last, progress, connection, registry, list, counters, pending,
+        requests,
+        responses,
+        is_last,
+        progress_of(audit),
+        connection,
+        registry,
+        list,
+        audit.counters,
+        pending,
         journal,
     ))
 }
 
+#[tactic(auto, unfolding(crate::specs::Auditing::verdict_numbers))]
 fn number_verdict(verdict: Verdict) -> VerdictNumbers
-    ensures { result ≡ verdict_numbers (Reached verdict) }
+    ensures { result ≡ verdict_numbers (Some verdict) }
 {
     match verdict {
         Verdict::Accepted => VerdictNumbers {
@@ -149,16 +147,17 @@ fn number_verdict(verdict: Verdict) -> VerdictNumbers
     }
 }
 
-fn number_ending(ending: Ending) -> VerdictNumbers
+#[tactic(auto, unfolding(crate::specs::Auditing::verdict_numbers))]
+fn number_ending(ending: Option<Verdict>) -> VerdictNumbers
     ensures { result ≡ verdict_numbers ending }
 {
     match ending {
-        Ending::Refused => VerdictNumbers {
+        None => VerdictNumbers {
             code: 8,
             response: 0,
             byte: 0,
         },
-        Ending::Reached(verdict) => number_verdict(verdict),
+        Some(verdict) => number_verdict(verdict),
     }
 }
 

@@ -1,24 +1,23 @@
-// The functions exported to C: an enum comes back as a number, and a slice crosses as pointer and length.
+// The functions exported to C: an enum comes back as a number, and a slice crosses as pointer and length. Kept so: C reads them, and
+// other crates' enums take no `From` here.
 #![tactic(auto)]
 
 ghost use Rattle.std.specs.Prelude.{◌≡◌};
 ghost use Rattle.roster.specs.Roster.{load_roster};
 ghost use Rattle.connection.specs.Connection.{open_connection};
 ghost use Rattle.counters.specs.Counters.{zero_counters};
-ghost use Rattle.service.specs.Refusals.{refusal_number};
 ghost use Rattle.service.specs.Contract.{lent_memory, call_with, code_number, ran_with, CallContract};
 ghost use Rattle.billing.specs.Outcome.{bill_outcome};
 ghost use Rattle.abi.specs.Numbers.{loaded_with, opened_with, numbered, bill_numbered, billed_with};
 
-use billing::Billed;
+use billing::BillRefusal;
 use billing::whole::write_bill;
-use connection::change::{Opened, open_connection};
+use connection::change::{OpenRefusal, open_connection};
 use counters::Counters;
 use counters::counting::zero_counters;
-use roster::Loaded;
-use roster::load::{fault_number, load_roster};
+use roster::load::load_roster;
 use service::call::call;
-use service::{CallAnswer, Code, Refusal};
+use service::{CallAnswer, Refusal};
 
 pub mod auditing;
 pub mod restoring;
@@ -47,8 +46,8 @@ pub extern "C" fn razidkot_load_roster(file: &[u8], registry: &mut [u8]) -> u32
     ensures { (result, registry.new) ≡ loaded_with (load_roster file.now registry.old) }
 {
     match load_roster(file, registry) {
-        Loaded::Good => 0,
-        Loaded::Faulty(fault) => 1 + fault_number(fault),
+        Ok(()) => 0,
+        Err(fault) => 1 + u32::from(fault),
     }
 }
 
@@ -58,8 +57,8 @@ pub extern "C" fn razidkot_open_connection(memory: &mut [u8]) -> u32
     ensures { (result, memory.new) ≡ opened_with (open_connection memory.old) }
 {
     match open_connection(memory) {
-        Opened::Fresh => 0,
-        Opened::WrongSize => 1,
+        Ok(()) => 0,
+        Err(OpenRefusal::WrongSize) => 1,
     }
 }
 
@@ -70,35 +69,21 @@ pub extern "C" fn razidkot_clear_counters(counters: &mut Counters)
     *counters = zero_counters();
 }
 
-fn refusal_number(refusal: Refusal) -> u32
-    ensures { result ≡ refusal_number refusal }
-{
-    match refusal {
-        Refusal::ResponseBufferTooSmall => 1,
-        Refusal::ChunkTooLong => 2,
-        Refusal::ConnectionIllFormed => 3,
-        Refusal::RegistryIllFormed => 4,
-        Refusal::CounterTooHigh => 5,
-        Refusal::ListIllFormed => 6,
-        Refusal::JournalBufferTooSmall => 7,
-    }
-}
-
-pub fn code_number(code: Code) -> u32
+#[tactic(auto, unfolding(service::specs::Contract::code_number))]
+pub fn code_number(code: Result<(), Refusal>) -> u32
     ensures { result ≡ code_number code }
 {
     match code {
-        Code::Taken => 0,
-        Code::Refused(refusal) => refusal_number(refusal),
+        Ok(()) => 0,
+        Err(refusal) => u32::from(refusal),
     }
 }
 
 fn number(a: CallAnswer) -> Answer
     ensures { result ≡ numbered a }
 {
-    let code = a.code;
     Answer {
-        code: code_number(code),
+        code: code_number(a.code),
         taken: a.taken,
         written: a.written,
         recorded: a.recorded,
@@ -122,20 +107,21 @@ pub extern "C" fn razidkot_call(
     ))
 }
 
-fn number_billed(billed: Billed) -> Bill
+#[tactic(auto, unfolding(crate::specs::Numbers::billed_number, crate::specs::Numbers::billed_bytes))]
+fn number_billed(billed: Result<usize, BillRefusal>) -> Bill
     ensures { result ≡ bill_numbered billed }
 {
     match billed {
-        Billed::Written(written) => Bill { code: 0, written },
-        Billed::BufferTooSmall => Bill {
+        Ok(written) => Bill { code: 0, written },
+        Err(BillRefusal::BufferTooSmall) => Bill {
             code: 1,
             written: 0,
         },
-        Billed::ConnectionIllFormed => Bill {
+        Err(BillRefusal::ConnectionIllFormed) => Bill {
             code: 2,
             written: 0,
         },
-        Billed::RegistryIllFormed => Bill {
+        Err(BillRefusal::RegistryIllFormed) => Bill {
             code: 3,
             written: 0,
         },

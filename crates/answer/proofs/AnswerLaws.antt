@@ -1,7 +1,7 @@
 -- From the code's chain of tests to the judgement of a request: what is answered at each way out is what `judgement` says.
+use Rattle.std.proofs.Common.{Option, Some, None, Result as Tested, Ok, Err}
 use mathlib.Core.Path.{◌≡◌, refl, sym, ap, ap₂, subst, ◌∙◌}
 use mathlib.Core.Bool.{Bool, true, false, and-true, and-false}
-use mathlib.Core.Option.{Option, none, some}
 use mathlib.Core.List.{List, [], ◌++◌}
 use Prim.Native.Nat.{ℕ, ◌+◌, ◌-◌, ◌≤◌, ◌<◌}
 use native.Mathlib.Nat.{add-sub_cancel_left}
@@ -9,7 +9,7 @@ use native.Mathlib.Omega.{arith}
 use borrow.Author.Tests.{eq-eqb, ne_eqb, eqb-true, eqb-false, ltb-false, lt-ltb, le-ltb, not-false}
 use lib.ListN.{length, take, drop}
 use lib.Dec.{ltb, eqb}
-use Rattle.wire.specs.Choice.{when◌then◌else◌, first_of, is_some}
+use Rattle.wire.specs.Choice.{when◌then◌else◌, first_of}
 use Rattle.wire.specs.Lists.{one_of}
 use Rattle.wire.specs.Request.{content_length, auth_length, header_length, request_length, Request, request_of}
 use Rattle.wire.specs.code.Header.{header_of}
@@ -31,25 +31,21 @@ use Rattle.messages.specs.Formats.{format_of, format_for, content_type_of}
 use Rattle.messages.proofs.FormatsLaws.{nothing_bytes}
 use Rattle.judgement.specs.Counts.{Counts, count_refused, count}
 use Rattle.judgement.specs.Judgement.{application_of, refusals, askers_slots, result_of, changed_by, verdict_of, refused_early, oversized_status, judgement}
-use Rattle.judgement.specs.code.Decided.{header_test_count, header_tests, named_or, auth_of, askers_line, output_bytes, result_in, Decided, AskerBelow}
+use Rattle.judgement.specs.code.Decided.{header_test_count, header_tests, named_or, auth_of, output_bytes, result_in, Decided, AskerBelow}
 use Rattle.judgement.specs.declared.Status.{Status}
 use Rattle.judgement.specs.declared.Status.TheVariants.{AuthenticationError, NotAuthenticated, BodySizeExceedsLimit}
-use Rattle.judgement.specs.declared.Asker.{Asker}
-use Rattle.judgement.specs.declared.Asker.TheVariants.{Nobody, Named}
-use Rattle.judgement.specs.declared.Auth.{Auth}
-use Rattle.judgement.specs.declared.Auth.TheVariants.{Refused as AuthRefused, Accepted}
 use Rattle.judgement.specs.declared.Decision.{Decision}
 use Rattle.journal.specs.Record.{Act}
 use Rattle.journal.specs.Journalling.{record_for, served_act, recorded_for, journalling}
 use Rattle.journal.specs.code.Written.{act_of_asker}
 use Rattle.journal.proofs.ChangeLaws.{act_changed}
-use Rattle.answer.specs.code.Answers.{AnsweredBy, PassedHeader, result_for_nobody, ResultAnswered, RefusedWith}
+use Rattle.answer.specs.code.Answers.{AnsweredBy, PassedHeader, sender_of, result_for_nobody, ResultAnswered, RefusedWith}
 use Rattle.answer.specs.declared.Answered.{Answered}
 
 -- ---- what the tests of a header say
 
 -- no test's status is Success
-pub header_status : (h : Header) (status : Status) → first_of (header_tests h) ≡ some status → 0 < status_number status
+header_status : (h : Header) (status : Status) → first_of (header_tests h) ≡ Some status → 0 < status_number status
 unfolding header_tests refusals status_number
 header_status h status e =
     first_has (λ s. 0 < status_number s) (header_tests h)
@@ -85,13 +81,13 @@ module _ (registry : List ℕ) (q : Request) where
     asks : application_of registry q ≡ application
     first : first_of (auth_tests registry q) ≡ test
 
-  abbrev ToldBy : Auth → Type 0
-  ToldBy AuthRefused = first_of (auth_tests registry q) ≡ some AuthenticationError
-  ToldBy (Accepted Nobody) = Told none (when eqb q.provider 1 then some NotAuthenticated else none)
-  ToldBy (Accepted (Named line)) = Told (some line) none
+  abbrev ToldBy : Tested (Option Line) Status → Type 0
+  ToldBy (Err status) = first_of (auth_tests registry q) ≡ Some status
+  ToldBy (Ok None) = Told None (when eqb q.provider 1 then Some NotAuthenticated else None)
+  ToldBy (Ok (Some line)) = Told (Some line) None
 
   told : q.auth_type ≤ 1 → ToldBy (auth_of q.auth_type q.auth (application_named registry q.auth))
-  unfolding auth_of named_or first_of refusals application_of is_some
+  unfolding auth_of named_or first_of refusals application_of
   told small = go (eqb q.auth_type 0) refl (ltb 0 (length q.auth)) refl (application_named registry q.auth) refl
     where
       go :
@@ -103,34 +99,67 @@ module _ (registry : List ℕ) (q : Request) where
       go true p false r o w =
           let zero : q.auth_type ≡ 0 = eqb-true q.auth_type 0 p in
           rw (p, r) (record { asks = rw p; first = rw (zero, r, and-true) })
-      go false p t r none w =
+      go false p t r None w =
           let one : q.auth_type ≡ 1 = omega (arith, eqb-false q.auth_type 0 p) in
           rw (p, w) (rw (one, w))
-      go false p t r (some line) w = rw (p, w) (record { asks = rw (p, w); first = rw (p, w, and-false (eqb q.auth_type 1), and-false (eqb q.provider 1)) })
+      go false p t r (Some line) w = rw (p, w) (record { asks = rw (p, w); first = rw (p, w, and-false (eqb q.auth_type 1), and-false (eqb q.provider 1)) })
+
+-- the auth bytes are not refused with Success
+auth_status : (auth_type : ℕ) (auth : List ℕ) (named : Option Line) (status : Status) → auth_of auth_type auth named ≡ Err status → 0 < status_number status
+unfolding auth_of named_or status_number
+auth_status auth_type auth named status e = go (eqb auth_type 0) refl (ltb 0 (length auth)) refl named refl
+  where
+    error : AuthenticationError ≡ status → 0 < status_number status
+    error s = rw (← s) (omega arith)
+
+    go : (s : Bool) → eqb auth_type 0 ≡ s → (t : Bool) → ltb 0 (length auth) ≡ t → (o : Option Line) → named ≡ o → 0 < status_number status
+    go true p true r o w = error (let x = rw (p, r) at e in cc)
+    go true p false r o w = absurd (let x = rw (p, r) at e in cc)
+    go false p t r None w = error (let x = rw (p, w) at e in cc)
+    go false p t r (Some line) w = absurd (let x = rw (p, w) at e in cc)
 
 -- ---- what comes of a request, by what the code found
 
 -- what the auth bytes of a request say
-abbrev pub auth_found : (registry bytes : List ℕ) → Auth
+abbrev auth_found : (registry bytes : List ℕ) → Tested (Option Line) Status
 auth_found registry bytes = auth_of (request_of bytes).auth_type (request_of bytes).auth (application_named registry (request_of bytes).auth)
+
+-- who asks, as the code finds it
+abbrev pub sender_found : (registry bytes : List ℕ) → Tested (Option Line) Status
+sender_found registry bytes = sender_of (first_of (header_tests (header_of bytes))) (auth_found registry bytes)
+
+-- the tests of the header and of the auth bytes have passed
+record Passed (registry bytes : List ℕ) (asker : Option Line) : Type 0 where
+  header : PassedHeader (header_of bytes)
+  auth : auth_found registry bytes ≡ Ok asker
+
+passed_by : (registry bytes : List ℕ) (asker : Option Line) → sender_found registry bytes ≡ Ok asker → Passed registry bytes asker
+passed_by registry bytes asker e = go (first_of (header_tests (header_of bytes))) refl
+  where
+    go : (o : Option Status) → first_of (header_tests (header_of bytes)) ≡ o → Passed registry bytes asker
+    go None w = record { header = w; auth = rw w at e }
+    go (Some status) w = absurd (let x = rw w at e in cc)
+
+pub header_passed : (registry bytes : List ℕ) (asker : Option Line) → sender_found registry bytes ≡ Ok asker → PassedHeader (header_of bytes)
+header_passed registry bytes asker e = (passed_by registry bytes asker e).header
 
 module _ (list registry bytes : List ℕ) where
   all_tests : refusals registry (request_of bytes) ≡ header_tests (header_of bytes) ++ auth_tests registry (request_of bytes)
   unfolding refusals header_tests header_of
   all_tests = refl
 
-  refused_result : (status : Status) → first_of (refusals registry (request_of bytes)) ≡ some status → result_of list registry (request_of bytes) ≡ refuse status
+  refused_result : (status : Status) → first_of (refusals registry (request_of bytes)) ≡ Some status → result_of list registry (request_of bytes) ≡ refuse status
   unfolding result_of
   refused_result status e = rw (e, result_of)
 
-  pub header_refused : (status : Status) → first_of (header_tests (header_of bytes)) ≡ some status → result_of list registry (request_of bytes) ≡ refuse status
+  header_refused : (status : Status) → first_of (header_tests (header_of bytes)) ≡ Some status → result_of list registry (request_of bytes) ≡ refuse status
   header_refused status e = refused_result status (ap first_of all_tests ∙ first_before (header_tests (header_of bytes)) _ status e)
 
   module _ (passed : PassedHeader (header_of bytes)) where
     later_tests : first_of (refusals registry (request_of bytes)) ≡ first_of (auth_tests registry (request_of bytes))
     later_tests = ap first_of all_tests ∙ first_behind (header_tests (header_of bytes)) _ passed
 
-    operated_result : first_of (auth_tests registry (request_of bytes)) ≡ none
+    operated_result : first_of (auth_tests registry (request_of bytes)) ≡ None
         → result_of list registry (request_of bytes)
         ≡ operated (format_of (format_for (request_of bytes).content_type)) (request_of bytes).opcode (request_of bytes).body (askers_slots registry (application_of registry (request_of bytes))) (keys_in list)
     unfolding result_of
@@ -140,30 +169,50 @@ module _ (list registry bytes : List ℕ) where
     unfolding header_of
     told_found = told registry (request_of bytes) (auth_type_small (header_of bytes) passed)
 
-    pub auth_refused : auth_found registry bytes ≡ AuthRefused → result_of list registry (request_of bytes) ≡ refuse AuthenticationError
-    auth_refused e = refused_result AuthenticationError (later_tests ∙ subst (ToldBy registry (request_of bytes)) e told_found)
+    auth_refused : (status : Status) → auth_found registry bytes ≡ Err status → result_of list registry (request_of bytes) ≡ refuse status
+    auth_refused status e = refused_result status (later_tests ∙ subst (ToldBy registry (request_of bytes)) e told_found)
 
-    pub by_nobody : auth_found registry bytes ≡ Accepted Nobody
-        → (application_of registry (request_of bytes) ≡ none) × (result_of list registry (request_of bytes) ≡ result_for_nobody (header_of bytes) (request_of bytes).body list)
+    nobody : auth_found registry bytes ≡ Ok None
+        → (application_of registry (request_of bytes) ≡ None) × (result_of list registry (request_of bytes) ≡ result_for_nobody (header_of bytes) (request_of bytes).body list)
     unfolding result_for_nobody header_of askers_slots
-    by_nobody e =
-        let t : Told registry (request_of bytes) none _ = subst (ToldBy registry (request_of bytes)) e told_found in
+    nobody e =
+        let t : Told registry (request_of bytes) None _ = subst (ToldBy registry (request_of bytes)) e told_found in
         (t.asks, go t (eqb (request_of bytes).provider 1) refl)
       where
         go :
-            Told registry (request_of bytes) none (when eqb (request_of bytes).provider 1 then some NotAuthenticated else none) →
+            Told registry (request_of bytes) None (when eqb (request_of bytes).provider 1 then Some NotAuthenticated else None) →
             (b : Bool) → eqb (request_of bytes).provider 1 ≡ b →
             result_of list registry (request_of bytes) ≡ result_for_nobody (header_of bytes) (request_of bytes).body list
         go t true p = rw p (refused_result NotAuthenticated (later_tests ∙ rw p at t.first))
         go t false p = rw p (rw t.asks at (operated_result (rw p at t.first)))
 
-    pub by_application : (line : Line) → auth_found registry bytes ≡ Accepted (Named line)
-        → (application_of registry (request_of bytes) ≡ some line)
+    application : (line : Line) → auth_found registry bytes ≡ Ok (Some line)
+        → (application_of registry (request_of bytes) ≡ Some line)
         × (result_of list registry (request_of bytes) ≡ operated (format_of (format_for (request_of bytes).content_type)) (request_of bytes).opcode (request_of bytes).body (slots_of registry line) (keys_in list))
     unfolding askers_slots
-    by_application line e =
-        let t : Told registry (request_of bytes) (some line) none = subst (ToldBy registry (request_of bytes)) e told_found in
+    application line e =
+        let t : Told registry (request_of bytes) (Some line) None = subst (ToldBy registry (request_of bytes)) e told_found in
         (t.asks, rw t.asks at (operated_result t.first))
+
+  -- by who asks, or the first test that applies
+  pub sender_refused : (status : Status) → sender_found registry bytes ≡ Err status → (result_of list registry (request_of bytes) ≡ refuse status) × (0 < status_number status)
+  sender_refused status e = go (first_of (header_tests (header_of bytes))) refl
+    where
+      go : (o : Option Status) → first_of (header_tests (header_of bytes)) ≡ o → (result_of list registry (request_of bytes) ≡ refuse status) × (0 < status_number status)
+      go None w = let x = rw w at e in (auth_refused w status x, auth_status _ _ _ status x)
+      go (Some s) w =
+          let same : s ≡ status = (let x = rw w at e in cc) in
+          let first = w ∙ ap Some same in
+          (header_refused status first, header_status (header_of bytes) status first)
+
+  pub by_nobody : sender_found registry bytes ≡ Ok None
+      → (application_of registry (request_of bytes) ≡ None) × (result_of list registry (request_of bytes) ≡ result_for_nobody (header_of bytes) (request_of bytes).body list)
+  by_nobody e = let p = passed_by registry bytes None e in nobody p.header p.auth
+
+  pub by_application : (line : Line) → sender_found registry bytes ≡ Ok (Some line)
+      → (application_of registry (request_of bytes) ≡ Some line)
+      × (result_of list registry (request_of bytes) ≡ operated (format_of (format_for (request_of bytes).content_type)) (request_of bytes).opcode (request_of bytes).body (slots_of registry line) (keys_in list))
+  by_application line e = let p = passed_by registry bytes (Some line) e in application p.header line p.auth
 
 -- ---- the parts of a whole request, as the code lends them
 
@@ -188,7 +237,7 @@ module _ (request : List ℕ) where
 -- ---- an operation that was carried out
 
 -- its response was written: `n` bytes
-pub decided_answered : {slots : List Entry} {list body : List ℕ} {x : Result} {d : Decision} {before after : List ℕ} {n : ℕ} (h : Header) (who : Asker)
+pub decided_answered : {slots : List Entry} {list body : List ℕ} {x : Result} {d : Decision} {before after : List ℕ} {n : ℕ} (h : Header) (who : Option Line)
     → Decided slots list body x d
     → Wrote (response_bytes h.provider h.session (content_type_of (format_for h.accept_type)) h.opcode (status_number d.status) (output_bytes (format_of (format_for h.accept_type)) slots list d.output)) before after n
     → (recorded : ℕ) → ResultAnswered h x who before after (record { status = d.status; asker = who; written = n; recorded = recorded })
@@ -212,8 +261,8 @@ refused_count_lem c application status h = rw (ne_eqb (status_number status) 0 (
 
 refused_kept : (registry : List ℕ) (application : Option Line) (status : Status) → changed_by registry application (refuse status) ≡ registry
 unfolding changed_by changed refuse
-refused_kept registry none status = refl
-refused_kept registry (some line) status = refl
+refused_kept registry None status = refl
+refused_kept registry (Some line) status = refl
 
 -- nothing is written of no record
 pub no_record : (journal : List ℕ) (n : ℕ) → n ≡ 0 → Wrote [] journal journal n
@@ -258,10 +307,10 @@ module _ {before after : List ℕ} {r : Answered} where
       asker = rw w.1 tt;
     }
 
-    pub answered : (registry' journal journal' : List ℕ) (who : Asker) (x : Result)
-        → (application_of registry (request_of request) ≡ askers_line who) × (result_of list registry (request_of request) ≡ x)
-        → AskerBelow who → registry' ≡ changed_by registry (askers_line who) x
-        → Wrote (record_for (act_of_asker (askers_slots registry (askers_line who)) (askers_line who) x.change)) journal journal' r.recorded
+    pub answered : (registry' journal journal' : List ℕ) (who : Option Line) (x : Result)
+        → (application_of registry (request_of request) ≡ who) × (result_of list registry (request_of request) ≡ x)
+        → AskerBelow who → registry' ≡ changed_by registry who x
+        → Wrote (record_for (act_of_asker (askers_slots registry who) who x.change)) journal journal' r.recorded
         → ResultAnswered (header_of request) x who before after r
         → AnsweredBy (λ c. (journalling list).on_request registry c request) registry' before after journal journal' r
     unfolding journalling recorded_for judgement verdict_of header_of

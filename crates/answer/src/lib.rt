@@ -2,7 +2,8 @@
 // response.
 #![tactic(auto)]
 
-use judgement::{Asker, Status};
+use judgement::Status;
+use registry::Line;
 
 pub mod request;
 mod response;
@@ -12,7 +13,7 @@ mod response;
 #[derive(Clone, Copy)]
 pub struct Answered {
     pub status: Status,
-    pub asker: Asker,
+    pub asker: Option<Line>,
     pub written: usize,
     pub recorded: usize,
 }

@@ -36,21 +36,11 @@ fn write_output<'a>(
         Output::Nothing => 0,
         // The wire protocol's version.
         Output::Version => write_version_body(format, out, 1, 0),
-        Output::Providers => {
-            let providers = [0u8, 1];
-            write_list_body(format, out, &providers)
-        }
-        Output::Opcodes(provider) => {
-            if provider == 0 {
-                let core = CORE;
-                return write_list_body(format, out, &core);
-            }
-            let keystore = KEYSTORE;
-            write_list_body(format, out, &keystore)
-        }
+        Output::Providers => write_list_body(format, out, &[0, 1]),
+        Output::Opcodes(0) => write_list_body(format, out, &CORE),
+        Output::Opcodes(_) => write_list_body(format, out, &KEYSTORE),
         Output::Data(place) => {
-            let data = key_bytes(registry, list, line, place);
-            write_bytes_body(format, out, data)
+            write_bytes_body(format, out, key_bytes(registry, list, line, place))
         }
         Output::Offset(at) => write_offset_body(format, out, at),
     }
@@ -84,24 +74,17 @@ pub fn write_response<'a>(
     k + size
 }
 
-// The response to a request that is refused: an empty body.
-pub fn write_refused(
-    out: &mut [u8],
-    provider: u8,
-    session: u64,
-    content_type: u8,
-    opcode: u16,
-    status: Status,
-) -> usize
+// The response to a request that is refused, in this format: an empty body.
+pub fn write_refused(out: &mut [u8], h: Header, format: BodyFormat, status: Status) -> usize
     requires { buffer_least ≤ length out.old }
-    ensures { Wrote (response_bytes provider session content_type opcode (status_number status) []) out.old out.new result }
+    ensures { Wrote (response_bytes h.provider h.session (content_type_of format) h.opcode (status_number status) []) out.old out.new result }
 {
     let head = response_header(
-        provider,
-        session,
-        content_type,
+        h.provider,
+        h.session,
+        content_type_of(format),
         0,
-        opcode,
+        h.opcode,
         status_number(status),
     );
     copy_into(out, &head)

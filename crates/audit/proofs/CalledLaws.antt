@@ -1,7 +1,7 @@
 -- What the auditor asks of the call: what one call more adds to a list of calls, and how much it writes and takes.
+use Rattle.std.proofs.Common.{Option, Some, None}
 use mathlib.Core.Path.{◌≡◌, refl, sym, ap, ◌∙◌}
 use Prim.Native.Nat.{ℕ, suc, ◌+◌, ◌≤◌, ◌<◌}
-use mathlib.Core.Option.{Option, none, some}
 use mathlib.Core.List.{List, [], ◌∷◌, ◌++◌, append_assoc, append-nil}
 use native.Mathlib.Omega.{arith}
 use lib.ListN.{length, take}
@@ -86,12 +86,12 @@ pub record Writes (m : Memory) (call : Call) (o : CallOutcome) : Type 0 where
 abbrev ran_of : CallOutcome → Ran
 ran_of o = ran_with 0 o.answer.taken o.answer.given.response.count o.answer.given.journal.count o.memory o.answer.given.response.buffer o.answer.given.journal.buffer
 
-is_ran : (o : CallOutcome) → o.answer.refusal ≡ none → outcome_in (ran_of o) ≡ o
+is_ran : (o : CallOutcome) → o.answer.refusal ≡ None → outcome_in (ran_of o) ≡ o
 unfolding refusal_in
 is_ran o e = ap (λ (x : Option ℕ). record { answer = record { refusal = x; taken = o.answer.taken; given = o.answer.given }; memory = o.memory }) (sym e)
 
 module _ (list : List ℕ) (m : Memory) (call : Call) where
-  when_refused : (code : ℕ) → refusal_of list m call ≡ some code → Writes m call (call_outcome list m call)
+  when_refused : (code : ℕ) → refusal_of list m call ≡ Some code → Writes m call (call_outcome list m call)
   unfolding layout give written
   when_refused code e =
       rw (refused_outcome list m call code e)
@@ -101,7 +101,7 @@ module _ (list : List ℕ) (m : Memory) (call : Call) where
   taken_some [] h = absurd (h refl)
   taken_some (b ∷ chunk) h = call_takes (reader (journalling list)) (state_in m) b chunk refl
 
-  when_taken : refusal_of list m call ≡ none → Writes m call (call_outcome list m call)
+  when_taken : refusal_of list m call ≡ None → Writes m call (call_outcome list m call)
   when_taken e =
       let o : CallOutcome = call_outcome list m call in
       let t = taken_outcome list m call e in
@@ -123,5 +123,5 @@ module _ (list : List ℕ) (m : Memory) (call : Call) where
   writes = go (refusal_of list m call) refl
     where
       go : (o : Option ℕ) → refusal_of list m call ≡ o → Writes m call (call_outcome list m call)
-      go (some code) e = when_refused code e
-      go none e = when_taken e
+      go (Some code) e = when_refused code e
+      go None e = when_taken e

@@ -1,5 +1,6 @@
 -- The state's tests, and the step and the verdict by the ways that the code takes.
-use mathlib.Core.Path.{◌≡◌, sym, ap, ◌∙◌}
+use Rattle.std.proofs.Common.{Option, Result, Ok, Err}
+use mathlib.Core.Path.{◌≡◌, refl, sym, ap, ◌∙◌}
 use Prim.Native.Nat.{ℕ, ◌+◌, ◌-◌, ◌≤◌, ◌<◌}
 use mathlib.Core.Bool.{Bool, true, false}
 use mathlib.Core.List.{List}
@@ -11,11 +12,14 @@ use Rattle.wire.proofs.TestLaws.{and_left, and_right}
 use Rattle.judgement.specs.Judgement.{longest_response}
 use Rattle.counters.specs.declared.Counters.{Counters}
 use Rattle.service.specs.Call.{CallOutcome}
+use Rattle.service.specs.Refusals.{refusal_number}
 use Rattle.service.specs.Contract.{lent_memory, call_with, code_number, refusal_in, ran_with, CallContract}
 use Rattle.service.specs.declared.Outcome.{Outcome}
+use Rattle.service.specs.declared.Refusal.{Refusal}
+use Rattle.service.specs.declared.Refusal.TheVariants.{ResponseBufferTooSmall, ChunkTooLong, ConnectionIllFormed, RegistryIllFormed, CounterTooHigh, ListIllFormed, JournalBufferTooSmall}
 use Rattle.audit.specs.Audit.{alike}
 use Rattle.audit.specs.Step.{Memory, Chunks, audit_memory, chunks_with, StepOutcome, number_most, well_formed_progress, is_pending, left_of, is_found, compare_on, after_call, call_on, refuse_on, step_outcome, verdict_at}
-use Rattle.audit.specs.code.Compared.{compared_at, compared_with, still_at, compared_step, called_step}
+use Rattle.audit.specs.code.Compared.{compared_at, compared_with, still_at, compared_step, code_called, called_step}
 use Rattle.audit.specs.Contract.{refusal_of, ran_step}
 use Rattle.audit.specs.declared.Progress.{Progress}
 use Rattle.audit.specs.declared.Stepped.{Stepped}
@@ -101,6 +105,18 @@ module _ (list : List ℕ) (m : Memory) (chunks : Chunks) where
 
 -- ---- the step of the code
 
+-- a call's code says the same refusal as a step's
+code_told : (code : Result (Unit {0}) Refusal) → refusal_of (code_called code) ≡ refusal_in (code_number code)
+unfolding refusal_of code_number refusal_in refusal_number
+code_told (Ok tt) = refl
+code_told (Err ResponseBufferTooSmall) = refl
+code_told (Err ChunkTooLong) = refl
+code_told (Err ConnectionIllFormed) = refl
+code_told (Err RegistryIllFormed) = refl
+code_told (Err CounterTooHigh) = refl
+code_told (Err ListIllFormed) = refl
+code_told (Err JournalBufferTooSmall) = refl
+
 module _ (list requests responses connection registry pending journal : List ℕ) (is_last : Bool) (progress : Progress) (counters : Counters) where
   abbrev lent : Memory
   lent = audit_memory (lent_memory connection registry counters) progress pending
@@ -122,9 +138,9 @@ module _ (list requests responses connection registry pending journal : List ℕ
         ∙ sym (step_compares list lent chunks fine now)
 
     pub called_step_lem : is_pending progress ≡ false → (o : Outcome) (connection' registry' pending' journal' : List ℕ) (s : Stepped)
-        → CallContract list (lent_memory connection registry counters) (call_with requests pending journal) (ran_with (code_number o.code) o.taken o.written o.recorded (lent_memory connection' registry' o.counters) pending' journal')
+        → CallContract list (lent_memory connection registry counters) (call_with requests pending journal) (ran_with (code_number o.answer.code) o.answer.taken o.answer.written o.answer.recorded (lent_memory connection' registry' o.counters) pending' journal')
         → s ≡ called_step progress o → ran_step s connection' registry' pending' journal' ≡ step_outcome list lent chunks
-    unfolding call_on refusal_of
+    unfolding call_on
     called_step_lem none o connection' registry' pending' journal' s e f =
         let of : CallOutcome → StepOutcome = λ x. record {
           refusal = x.answer.refusal;
@@ -133,4 +149,12 @@ module _ (list requests responses connection registry pending journal : List ℕ
           memory = audit_memory x.memory (after_call progress x.answer.given.response.count) x.answer.given.response.buffer;
           journal = x.answer.given.journal.buffer;
         } in
-        ap (λ (x : Stepped). ran_step x connection' registry' pending' journal') f ∙ ap of e ∙ sym (step_calls list lent chunks fine none)
+        let with_refusal : Option ℕ → StepOutcome = λ r. record {
+          refusal = r;
+          requests = o.answer.taken;
+          responses = 0;
+          memory = audit_memory (lent_memory connection' registry' o.counters) (after_call progress o.answer.written) pending';
+          journal = journal';
+        } in
+        ap (λ (x : Stepped). ran_step x connection' registry' pending' journal') f ∙ ap with_refusal (code_told o.answer.code) ∙ ap of e
+        ∙ sym (step_calls list lent chunks fine none)

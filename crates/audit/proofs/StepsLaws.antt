@@ -1,4 +1,5 @@
 -- ANY LIST OF STEPS: what is known of both streams is kept by every step, and at the end it gives the definition's verdict.
+use Rattle.std.proofs.Common.{Some}
 use mathlib.Core.Path.{◌≡◌, refl, sym, ap, ◌∙◌, subst}
 use Prim.Native.Nat.{ℕ, ◌+◌, ◌≤◌, ◌<◌}
 use mathlib.Core.Bool.{Bool, true, false, true≢false}
@@ -24,7 +25,6 @@ use Rattle.audit.specs.Audit.{alike, compared, audit}
 use Rattle.audit.specs.Step.{Memory, Chunks, StepOutcome, progress_with, begun, is_pending, left_of, is_found, compare_on, after_call, call_on, step_outcome, end_outcome}
 use Rattle.audit.specs.Claims.{fresh_audit, StepRuns, left_after, taken_requests, left_over, Beginning, CutFrom, AnySteps}
 use Rattle.audit.specs.declared.Progress.{Progress}
-use Rattle.audit.specs.declared.Ending.TheVariants.{Reached}
 use Rattle.audit.proofs.StepLaws.{Good, well_formed_lem, length_left, step_compares, step_calls}
 use Rattle.audit.proofs.CalledLaws.{out_snoc, one_more, takes_more, Writes, writes}
 use Rattle.audit.proofs.PlaceLaws.{Where, between, inside, found, verdict_is, compared_where, called_where, pending_inside, pending_right, stays_wrong, stays, next, positive}
@@ -209,11 +209,11 @@ module _ (list registry captured : List ℕ) where
   rules_responses : (calls : List Call) → (rules (judgement list) registry (requests calls)).responses ≡ responses calls
   rules_responses calls = (rules_from_stream (judgement list) registry (requests calls)).responses ∙ sym ((demand3 list registry).follows calls).each
 
-  ends : (rest : List ℕ) (calls : List Call) (m : Memory) → At rest calls m → end_outcome m.progress m.pending rest ≡ Reached (audit list registry (requests calls) captured)
+  ends : (rest : List ℕ) (calls : List Call) (m : Memory) → At rest calls m → end_outcome m.progress m.pending rest ≡ Some (audit list registry (requests calls) captured)
   unfolding end_outcome audit
   ends rest calls m a =
       rw (well_formed_lem m.progress m.pending a.fine)
-      (ap Reached (verdict_is m.progress m.pending a.fine (responses calls) captured rest a.place
+      (ap Some (verdict_is m.progress m.pending a.fine (responses calls) captured rest a.place
       ∙ ap (λ (x : List (List ℕ)). compared 1 x captured) (sym (rules_responses calls))))
 
 pub any_steps : AnySteps
@@ -223,7 +223,7 @@ any_steps list registry pending captured chunks runs r b =
     let m = left_after (fresh_audit registry pending) runs in
     record {
       verdict =
-          ends list registry captured (left_over captured runs) e.made m e.at ∙ ap (λ (x : List ℕ). Reached (audit list registry x captured)) e.more;
+          ends list registry captured (left_over captured runs) e.made m e.at ∙ ap (λ (x : List ℕ). Some (audit list registry x captured)) e.more;
       memory =
           e.at.service ∙ ((demand3 list registry).follows e.made).memory ∙ ap (λ (x : List ℕ). memory_of (rules (judgement list) registry x).state) e.more;
     }

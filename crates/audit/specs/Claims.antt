@@ -1,5 +1,5 @@
 -- What is claimed of the auditor: types, no proof.
-use Rattle.std.specs.Prelude.{ℕ, ◌≡◌, true, take, drop}
+use Rattle.std.specs.Prelude.{ℕ, ◌≡◌, true, take, drop, Some}
 use mathlib.Core.List.{List, [], ◌∷◌, ◌++◌, flatten}
 use Rattle.reading.specs.Calls.{taken_stream}
 use Rattle.stream.specs.Rules.{rules}
@@ -12,7 +12,6 @@ use Rattle.audit.specs.Audit.{audit}
 use Rattle.audit.specs.Step.{Memory, Chunks, audit_memory, StepOutcome, begun, end_outcome}
 use Rattle.audit.specs.Contract.{StepContract}
 use Rattle.audit.specs.declared.Verdict.TheVariants.{Accepted}
-use Rattle.audit.specs.declared.Ending.TheVariants.{Reached}
 
 -- ---- THE VERDICT
 
@@ -77,7 +76,7 @@ CutFrom captured (c ∷ chunks) (o ∷ runs) = Beginning captured c × CutFrom (
 pub record Audited (list registry pending captured : List ℕ) (chunks : List Chunks) (runs : List StepOutcome) : Type 0 where
   -- the verdict at the end is the definition's on the uncut streams
   pub verdict : (let m = left_after (fresh_audit registry pending) runs in
-      end_outcome m.progress m.pending (left_over captured runs) ≡ Reached (audit list registry (taken_requests chunks runs) captured))
+      end_outcome m.progress m.pending (left_over captured runs) ≡ Some (audit list registry (taken_requests chunks runs) captured))
   -- connection, registry and counters, and so the bill, are those that the rules leave after the requests
   pub memory : (left_after (fresh_audit registry pending) runs).service ≡ memory_of (rules (judgement list) registry (taken_requests chunks runs)).state
 

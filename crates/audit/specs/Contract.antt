@@ -1,16 +1,17 @@
 -- THE CONTRACT OF A STEP: its equation, in terms of what the code returns and leaves.
-use Rattle.std.specs.Prelude.{ℕ, ◌≡◌, List}
-use Rattle.std.proofs.Math.Option.{Option, some}
-use Rattle.service.specs.Contract.{code_number, refusal_in, lent_memory}
+use Rattle.std.specs.Prelude.{ℕ, ◌≡◌, List, Option, Some, None, Result, Ok, Err}
+use Rattle.service.specs.Contract.{lent_memory}
 use Rattle.audit.specs.Step.{Memory, Chunks, audit_memory, StepOutcome, ill_formed, step_outcome}
 use Rattle.audit.specs.declared.Stepped.{Stepped}
-use Rattle.audit.specs.declared.StepCode.{StepCode}
-use Rattle.audit.specs.declared.StepCode.TheVariants.{IllFormed, Called}
+use Rattle.service.specs.Refusals.{refusal_number}
+use Rattle.audit.specs.declared.StepRefusal.{StepRefusal}
+use Rattle.audit.specs.declared.StepRefusal.TheVariants.{IllFormed, Call}
 
--- the refusal that a code says, if it does: the auditor's own, or the call's
-unfoldable pub refusal_of : StepCode → Option ℕ
-refusal_of IllFormed = some ill_formed
-refusal_of (Called code) = refusal_in (code_number code)
+-- the number of the refusal, if there is one: the auditor's own, or the call's
+unfoldable pub refusal_of : Result (Unit {0}) StepRefusal → Option ℕ
+refusal_of (Ok tt) = None
+refusal_of (Err IllFormed) = Some ill_formed
+refusal_of (Err (Call refusal)) = Some (refusal_number refusal)
 
 -- what a step said and left
 abbrev pub ran_step : Stepped → (connection registry pending journal : List ℕ) → StepOutcome

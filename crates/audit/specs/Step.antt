@@ -1,6 +1,5 @@
 -- THE AUDITOR'S STEP AND ITS END on lent memory: the whole outcome of each, which the code's contracts cite.
-use Rattle.std.specs.Prelude.{ℕ, ◌+◌, ◌-◌, ◌^◌, Bool, false, ◌&&◌, ◌||◌, not, List, length, take, drop, eqb, leb, ltb}
-use Rattle.std.proofs.Math.Option.{Option, none, some}
+use Rattle.std.specs.Prelude.{ℕ, ◌+◌, ◌-◌, ◌^◌, Bool, false, ◌&&◌, ◌||◌, not, List, length, take, drop, eqb, leb, ltb, Option, Some, None}
 use Rattle.wire.specs.Choice.{when◌then◌else◌}
 use Rattle.judgement.specs.Judgement.{longest_response}
 use Rattle.service.specs.Call as service
@@ -10,8 +9,6 @@ use Rattle.audit.specs.Audit.{alike}
 use Rattle.audit.specs.declared.Progress.{Progress}
 use Rattle.audit.specs.declared.Verdict.{Verdict}
 use Rattle.audit.specs.declared.Verdict.TheVariants.{Accepted, Wrong}
-use Rattle.audit.specs.declared.Ending.{Ending}
-use Rattle.audit.specs.declared.Ending.TheVariants.{Refused, Reached}
 
 -- ---- what a step is lent
 
@@ -80,7 +77,7 @@ compare_on m chunks =
     let left = left_of m.progress m.pending in
     let n = alike left chunks.responses in
     record {
-      refusal = none;
+      refusal = None;
       requests = 0;
       responses = n;
       memory = audit_memory m.service (advanced m.progress n (is_found n (length left) (length chunks.responses) chunks.is_last)) m.pending;
@@ -107,7 +104,7 @@ abbrev pub ill_formed : ℕ
 ill_formed = 8
 
 unfoldable pub refuse_on : Memory → Chunks → StepOutcome
-refuse_on m chunks = record { refusal = some ill_formed; requests = 0; responses = 0; memory = m; journal = chunks.journal }
+refuse_on m chunks = record { refusal = Some ill_formed; requests = 0; responses = 0; memory = m; journal = chunks.journal }
 
 -- THE STEP: of a pair of chunks it takes bytes of one
 unfoldable pub step_outcome : (list : List ℕ) → Memory → Chunks → StepOutcome
@@ -128,5 +125,5 @@ verdict_at p pending rest =
     else when ltb n (length rest) then Wrong (p.number + 1) 0
     else Accepted
 
-unfoldable pub end_outcome : Progress → (pending rest : List ℕ) → Ending
-end_outcome p pending rest = when not (well_formed_progress p pending) then Refused else Reached (verdict_at p pending rest)
+unfoldable pub end_outcome : Progress → (pending rest : List ℕ) → Option Verdict
+end_outcome p pending rest = when not (well_formed_progress p pending) then None else Some (verdict_at p pending rest)

@@ -17,30 +17,23 @@ pub struct Compared {
 pub fn count_alike(a: &[u8], b: &[u8]) -> usize
     ensures { result ≡ alike a.now b.now }
 {
-    let mut i = 0;
-    while i < a.len() {
+    for (i, byte) in a.iter().enumerate() {
         if b.len() <= i {
             return i;
         }
-        if a[i] != b[i] {
+        if *byte != b[i] {
             return i;
         }
-        i += 1;
     }
-    i
+    a.len()
 }
 
 // Whether a wrong byte is found where n bytes are alike: a byte that differs, or one that is missing at the stream's end.
+#[tactic(auto, unfolding(crate::specs::Step::is_found))]
 fn is_found(n: usize, left: usize, here: usize, is_last: bool) -> bool
     ensures { result ≡ is_found n left here is_last }
 {
-    if left <= n {
-        return false;
-    }
-    if n < here {
-        return true;
-    }
-    is_last
+    n < left && (n < here || is_last)
 }
 
 // Compares captured bytes with what is left of the response. Right bytes are taken; a wrong one is not.
@@ -48,16 +41,14 @@ pub fn compare(p: Progress, pending: &[u8], captured: &[u8], is_last: bool) -> C
     requires { well_formed_progress p pending.now ≡ true }
     ensures { result ≡ compared_with p pending.now captured.now is_last }
 {
-    let size = p.size;
-    let place = p.place;
-    let left = &pending[place..size];
+    let left = &pending[p.place..p.size];
     let n = count_alike(left, captured);
-    let is_wrong = is_found(n, left.len(), captured.len(), is_last);
-    let progress = Progress {
-        number: p.number,
-        size,
-        place: place + n,
-        is_wrong,
-    };
-    Compared { taken: n, progress }
+    Compared {
+        taken: n,
+        progress: Progress {
+            place: p.place + n,
+            is_wrong: is_found(n, left.len(), captured.len(), is_last),
+            ..p
+        },
+    }
 }

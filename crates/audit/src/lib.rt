@@ -2,7 +2,7 @@
 #![tactic(auto)]
 
 use counters::Counters;
-use service::Code;
+use service::Refusal;
 
 pub mod compare;
 pub mod conclusion;
@@ -10,6 +10,7 @@ pub mod state;
 pub mod step;
 
 // What is found: every response is the one that the rules give, or the first wrong one's number, from 1, and its byte, from 0.
+// Kept: a verdict is no error of the auditor, and document 02 names both.
 #[derive(Clone, Copy)]
 pub enum Verdict {
     Accepted,
@@ -17,7 +18,7 @@ pub enum Verdict {
 }
 
 // How far the auditor is. The last response that the call wrote has this number and so many bytes; so many of them were compared.
-// Once a byte is wrong, number and place stay at it.
+// Once a byte is wrong, number and place stay at it. Kept, `is_wrong` too: the definition of the state has it, and C hands it back.
 #[derive(Clone, Copy)]
 pub struct Progress {
     pub number: u64,
@@ -26,26 +27,19 @@ pub struct Progress {
     pub is_wrong: bool,
 }
 
-// What a step says: that its state is ill-formed, or what the call says.
+// Why a step is not taken: its state is ill-formed, or the call is refused.
 #[derive(Clone, Copy)]
-pub enum StepCode {
+pub enum StepRefusal {
     IllFormed,
-    Called(Code),
+    Call(Refusal),
 }
 
 // What a step says, how many bytes of the requests and of the responses it took, and what it leaves.
 #[derive(Clone, Copy)]
 pub struct Stepped {
-    pub code: StepCode,
+    pub code: Result<(), StepRefusal>,
     pub requests: usize,
     pub responses: usize,
     pub progress: Progress,
     pub counters: Counters,
-}
-
-// What is said at the end of both streams: that the state is ill-formed, or the verdict.
-#[derive(Clone, Copy)]
-pub enum Ending {
-    Refused,
-    Reached(Verdict),
 }

@@ -11,6 +11,7 @@ pub const RESPONSE_MOST: usize = 629;
 pub const NUMBER_MOST: u64 = 9223372036854775808;
 
 // Nothing is compared yet.
+#[tactic(auto, unfolding(crate::specs::Step::begun))]
 pub fn begin_audit() -> Progress
     ensures { result ≡ begun }
 {
@@ -23,27 +24,20 @@ pub fn begin_audit() -> Progress
 }
 
 // Whether a state is well formed, with the buffer that has the response's bytes.
+#[tactic(auto, unfolding(crate::specs::Step::well_formed_progress))]
 pub fn is_well_formed(p: Progress, pending: &[u8]) -> bool
     ensures { result ≡ well_formed_progress p pending.now }
 {
-    if p.size < p.place {
-        return false;
-    }
-    if pending.len() < p.size {
-        return false;
-    }
-    if RESPONSE_MOST < p.size {
-        return false;
-    }
-    p.number <= NUMBER_MOST
+    p.place <= p.size
+        && p.size <= pending.len()
+        && p.size <= RESPONSE_MOST
+        && p.number <= NUMBER_MOST
 }
 
 // Whether bytes of a response are still to be compared.
+#[tactic(auto, unfolding(crate::specs::Step::is_pending))]
 pub fn is_pending(p: Progress) -> bool
     ensures { result ≡ is_pending p }
 {
-    if p.is_wrong {
-        return false;
-    }
-    p.place < p.size
+    !p.is_wrong && p.place < p.size
 }

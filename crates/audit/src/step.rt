@@ -7,17 +7,17 @@ ghost use Rattle.audit.specs.Contract.{ran_step, StepContract};
 
 use crate::compare::{Compared, compare};
 use crate::state::{is_pending, is_well_formed};
-use crate::{Progress, StepCode, Stepped};
+use crate::{Progress, StepRefusal, Stepped};
 use counters::Counters;
+use service::Outcome;
 use service::call::call_by_value;
-use service::{Code, Outcome};
 
 // An ill-formed state: nothing is taken or altered.
 fn refuse(progress: Progress, counters: Counters) -> Stepped
     ensures { result ≡ still_at progress counters }
 {
     Stepped {
-        code: StepCode::IllFormed,
+        code: Err(StepRefusal::IllFormed),
         requests: 0,
         responses: 0,
         progress,
@@ -28,25 +28,22 @@ fn refuse(progress: Progress, counters: Counters) -> Stepped
 fn after_comparing(c: Compared, counters: Counters) -> Stepped
     ensures { result ≡ compared_step c counters }
 {
-    let progress = c.progress;
     Stepped {
-        code: StepCode::Called(Code::Taken),
+        code: Ok(()),
         requests: 0,
         responses: c.taken,
-        progress,
+        progress: c.progress,
         counters,
     }
 }
 
 // How far the auditor is after a call that wrote so many bytes: at the next response, unless there is none or a byte was wrong.
+#[tactic(auto, unfolding(crate::specs::Step::after_call))]
 fn after_call(p: Progress, written: usize) -> Progress
     requires { p.number ≤ number_most }
     ensures { result ≡ after_call p written }
 {
-    if p.is_wrong {
-        return p;
-    }
-    if written == 0 {
+    if p.is_wrong || written == 0 {
         return p;
     }
     Progress {
@@ -61,15 +58,12 @@ fn after_calling(p: Progress, o: Outcome) -> Stepped
     requires { p.number ≤ number_most }
     ensures { result ≡ called_step p o }
 {
-    let code = o.code;
-    let counters = o.counters;
-    let progress = after_call(p, o.written);
     Stepped {
-        code: StepCode::Called(code),
-        requests: o.taken,
+        code: o.answer.code.map_err(StepRefusal::Call),
+        requests: o.answer.taken,
         responses: 0,
-        progress,
-        counters,
+        progress: after_call(p, o.answer.written),
+        counters: o.counters,
     }
 }
 

@@ -3,7 +3,7 @@ use Rattle.std.specs.Prelude.{ℕ, List, [], ◌∷◌, ◌++◌}
 use Rattle.billing.specs.Ascii.{ascii}
 use Rattle.billing.specs.Bill.{decimal}
 use Rattle.journal.specs.declared.Fault.{Fault}
-use Rattle.journal.specs.declared.Fault.TheVariants.{WrongCrc, WrongLayout, NotAllowed}
+use Rattle.journal.specs.Replay.{fault_number}
 use Rattle.audit.specs.declared.Verdict.{Verdict}
 use Rattle.audit.specs.declared.Verdict.TheVariants.{Accepted, Wrong}
 
@@ -17,12 +17,6 @@ wrong_line number byte = ascii "wrong" ++ ((0x20 ∷ decimal number) ++ ((0x20 �
 unfoldable pub verdict_line : Verdict → List ℕ
 verdict_line Accepted = ascii "accepted" ++ newline
 verdict_line (Wrong number byte) = wrong_line number byte
-
--- J1 to J3
-unfoldable pub fault_number : Fault → ℕ
-fault_number WrongCrc = 1
-fault_number WrongLayout = 2
-fault_number NotAllowed = 3
 
 -- `journal J2`, say
 unfoldable pub journal_line : Fault → List ℕ

@@ -24,9 +24,8 @@ fn main(rt: HostRuntime) -> io::Result<()> {
 
 // Writes the first bytes of the text.
 fn write_out(rt: &impl Print, out: &[u8], size: usize) -> io::Result<()> {
-    if size <= out.len() {
-        let start = 0;
-        rt.write_all(&out[start..size])?;
+    match out.get(..size) {
+        Some(text) => rt.write_all(text),
+        None => Ok(()),
     }
-    Ok(())
 }

@@ -3,22 +3,22 @@ ghost use Rattle.std.specs.Prelude.{◌≡◌, ◌+◌, ◌≤◌, length};
 ghost use Rattle.wire.specs.code.Wrote.{Wrote};
 ghost use Rattle.registry.specs.Registry.{registry_size};
 ghost use Rattle.billing.specs.Outcome.{bill_most};
-ghost use Rattle.audit_program.specs.Lines.{fault_number, wrong_line, verdict_line, journal_line};
+ghost use Rattle.audit_program.specs.Lines.{wrong_line, verdict_line, journal_line};
 ghost use Rattle.audit.specs.declared.Verdict.TheVariants.{Accepted};
 
-use crate::restore::{Restored, restore};
+use crate::restore::{JournalRefusal, restore};
 use crate::streams::{Audited, read_streams};
-use audit::{Ending, Verdict};
+use audit::Verdict;
+use billing::BILL_MOST;
 use billing::text::{write_decimal, write_number, write_word};
 use billing::whole::write_bill;
-use billing::{BILL_MOST, Billed};
 use counters::Counters;
-use file_input::{Argument, read_list, read_roster};
+use file_input::{read_list, read_roster};
 use journal::Fault;
-use starting::files::Front;
 use starting::memory::{connection_memory, list_front, registry_memory};
-use starting::start::{Source, is_good, with_list};
+use starting::start::{StartRefusal, with_list};
 use starting::text::{write_line, write_no_file};
+use std::fs::File;
 
 // Room for the longest verdict.
 const VERDICT_MOST: usize = 64;
@@ -48,6 +48,7 @@ fn write_accepted(out: &mut [u8]) -> usize
     write_word(out, 0, b"accepted\n")
 }
 
+#[tactic(auto, unfolding(crate::specs::Lines::verdict_line))]
 fn write_verdict(out: &mut [u8], verdict: Verdict) -> usize
     requires { bill_most ≤ length out.old }
     ensures { Wrote (verdict_line verdict) out.old out.new result }
@@ -58,32 +59,19 @@ fn write_verdict(out: &mut [u8], verdict: Verdict) -> usize
     }
 }
 
-fn fault_number(fault: Fault) -> u64
-    ensures { result ≡ fault_number fault }
-{
-    match fault {
-        Fault::WrongCrc => 1,
-        Fault::WrongLayout => 2,
-        Fault::NotAllowed => 3,
-    }
-}
-
 // The line of a refused journal, as `journal J2`.
 fn write_refused(out: &mut [u8], fault: Fault) -> usize
     requires { bill_most ≤ length out.old }
     ensures { Wrote (journal_line fault) out.old out.new result }
 {
     let named = write_word(out, 0, b"journal J");
-    let numbered = write_decimal(out, named, fault_number(fault));
+    let numbered = write_decimal(out, named, u64::from(u8::from(fault)));
     write_word(out, numbered, b"\n")
 }
 
 // Where a text ends that is so long, and starts at a place.
 fn end_of(at: usize, size: usize, most: usize) -> usize {
-    if most < at {
-        return at;
-    }
-    if most - at < size {
+    if most < at || most - at < size {
         return at;
     }
     at + size
@@ -100,116 +88,71 @@ fn write_behind(
     if out.len() < at {
         return 0;
     }
-    let billed = write_bill(&mut out[at..], counters, registry, connection);
-    match billed {
-        Billed::Written(size) => end_of(at, size, out.len()),
+    match write_bill(&mut out[at..], counters, registry, connection) {
+        Ok(size) => end_of(at, size, out.len()),
         // Never: there is room, and memory is well formed.
         _ => at,
     }
 }
 
 // The verdict, and the bill.
-fn write_audit(
-    out: &mut [u8],
-    ending: Ending,
-    counters: Counters,
-    registry: &[u8],
-    connection: &[u8],
-) -> usize
+fn write_audit(out: &mut [u8], audited: Audited, registry: &[u8], connection: &[u8]) -> usize
     requires { bill_most ≤ length out.old }
 {
-    let Ending::Reached(verdict) = ending else {
+    let Some(verdict) = audited.ending else {
         return write_no_file(out);
     };
     let at = write_verdict(out, verdict);
-    write_behind(out, at, counters, registry, connection)
-}
-
-fn is_readable(restored: Restored) -> bool {
-    match restored {
-        Restored::Whole => true,
-        Restored::Faulty(_) => true,
-        Restored::Unreadable => false,
-    }
+    write_behind(out, at, audited.counters, registry, connection)
 }
 
 // What a good start comes to: the journal's fault, or the verdict and the bill.
 fn write_started(
     out: &mut [u8],
-    restored: Restored,
+    restored: Result<(), JournalRefusal>,
     audited: Audited,
     registry: &[u8],
     connection: &[u8],
 ) -> usize
     requires { bill_most ≤ length out.old }
 {
-    let ending = audited.ending;
-    let counters = audited.counters;
     match restored {
-        Restored::Whole => write_audit(out, ending, counters, registry, connection),
-        Restored::Faulty(fault) => write_refused(out, fault),
-        Restored::Unreadable => write_no_file(out),
+        Ok(()) => write_audit(out, audited, registry, connection),
+        Err(JournalRefusal::Faulty(fault)) => write_refused(out, fault),
+        Err(JournalRefusal::Unreadable) => write_no_file(out),
     }
 }
 
 // The text for what became of the files: an unreadable one first, then the roster's fault, a bad list, the journal's fault.
 fn write_outcome(
     out: &mut [u8],
-    source: Source,
-    restored: Restored,
-    audited: Audited,
+    source: Result<(), StartRefusal>,
+    restored: Result<(), JournalRefusal>,
+    audited: Option<Audited>,
     registry: &[u8],
     connection: &[u8],
 ) -> usize
     requires { bill_most ≤ length out.old }
 {
-    if !audited.is_whole {
+    let Some(audited) = audited else {
+        return write_no_file(out);
+    };
+    if let Err(JournalRefusal::Unreadable) = restored {
         return write_no_file(out);
     }
-    if !is_readable(restored) {
-        return write_no_file(out);
-    }
-    if !is_good(source) {
+    if source.is_err() {
         return write_line(out, source);
     }
     write_started(out, restored, audited, registry, connection)
 }
 
-fn is_started(source: Source, restored: Restored) -> bool {
-    match restored {
-        Restored::Whole => is_good(source),
-        Restored::Faulty(_) => false,
-        Restored::Unreadable => false,
-    }
-}
-
-// What is kept of a list, which is no more than there is room for.
-fn kept_size(read: Front, most: usize) -> usize
-    ensures { result ≤ most }
-{
-    let Front::Kept(size) = read else {
-        return 0;
-    };
-    if most < size {
-        return 0;
-    }
-    size
-}
-
-fn is_kept(read: Front) -> bool {
-    match read {
-        Front::Kept(_) => true,
-        Front::Unreadable => false,
-    }
-}
-
 // The text for two streams, from what became of the files of the start.
 fn write_streams(
     out: &mut [u8],
-    source: Source,
-    restored: Restored,
-    requests: Argument,
-    responses: Argument,
+    source: Result<(), StartRefusal>,
+    restored: Result<(), JournalRefusal>,
+    requests: Option<File>,
+    responses: Option<File>,
     registry: &mut [u8],
     connection: &mut [u8],
     list: &[u8],
@@ -219,7 +162,7 @@ fn write_streams(
     let audited = read_streams(
         requests,
         responses,
-        is_started(source, restored),
+        source.is_ok() && restored.is_ok(),
         connection,
         registry,
         list,
@@ -230,10 +173,10 @@ fn write_streams(
 // The text for journal and streams, from what became of roster and list.
 fn write_restored(
     out: &mut [u8],
-    source: Source,
-    journal: Argument,
-    requests: Argument,
-    responses: Argument,
+    source: Result<(), StartRefusal>,
+    journal: Option<File>,
+    requests: Option<File>,
+    responses: Option<File>,
     registry: &mut [u8],
     connection: &mut [u8],
     list: &[u8],
@@ -241,7 +184,7 @@ fn write_restored(
     requires { bill_most ≤ length out.old }
 {
     let start = with_list(source, list);
-    let restored = restore(journal, is_good(start), registry);
+    let restored = restore(journal, start.is_ok(), registry);
     write_streams(
         out, start, restored, requests, responses, registry, connection, list,
     )
@@ -250,11 +193,11 @@ fn write_restored(
 // The text for five files, in memory that is lent.
 fn write_files(
     out: &mut [u8],
-    roster: Argument,
-    list: Argument,
-    journal: Argument,
-    requests: Argument,
-    responses: Argument,
+    roster: Option<File>,
+    list: Option<File>,
+    journal: Option<File>,
+    requests: Option<File>,
+    responses: Option<File>,
     registry: &mut [u8],
     connection: &mut [u8],
     front: &mut [u8],
@@ -263,11 +206,9 @@ fn write_files(
 {
     let source = read_roster(roster, registry);
     let read = read_list(list, front);
-    if !is_kept(read) {
+    let Some(size) = read else {
         return write_no_file(out);
-    }
-    let start = 0;
-    let size = kept_size(read, front.len());
+    };
     write_restored(
         out,
         source,
@@ -276,18 +217,18 @@ fn write_files(
         responses,
         registry,
         connection,
-        &front[start..size],
+        &front[..size],
     )
 }
 
 // The text for five files.
 pub fn write_text(
     out: &mut [u8],
-    roster: Argument,
-    list: Argument,
-    journal: Argument,
-    requests: Argument,
-    responses: Argument,
+    roster: Option<File>,
+    list: Option<File>,
+    journal: Option<File>,
+    requests: Option<File>,
+    responses: Option<File>,
 ) -> usize
     requires { bill_most ≤ length out.old }
 {

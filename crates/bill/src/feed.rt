@@ -24,13 +24,12 @@ pub fn take_stream(
     requires { (length connection.old ≡ connection_size) × (well_formed_registry registry.old ≡ true) × (well_formed_list list.now ≡ true) }
     ensures { After list.now registry.old counter_most (lent_memory connection.new registry.new result.counters) }
 {
-    open_connection(connection);
+    let _ = open_connection(connection);
     let mut chunk = [0; CHUNK_SIZE];
     let mut response = [0; BUFFER_SIZE];
     let mut journal = [0; BUFFER_SIZE];
     let mut counters = zero_counters();
-    let mut turns = TURNS;
-    while 0 < turns {
+    for _turn in 0..TURNS {
         let input = read_some(stream, &mut chunk);
         let Input::Bytes(n) = input else {
             return Taken {
@@ -47,7 +46,6 @@ pub fn take_stream(
             &mut response,
             &mut journal,
         );
-        turns -= 1;
     }
     Taken {
         counters,

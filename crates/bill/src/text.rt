@@ -10,17 +10,17 @@ ghost use Rattle.file_input.specs.Argument.{argument_file};
 ghost use Rattle.bill.specs.Prints.{printed, Prints};
 
 use crate::feed::take_stream;
-use file_input::{Argument, read_list, read_rest, read_roster};
+use file_input::{read_list, read_rest, read_roster};
 use starting::feed::{Taken, uncounted};
-use starting::files::Front;
 use starting::memory::{connection_memory, list_front, registry_memory};
-use starting::start::{Source, is_good, with_file, with_list};
+use starting::start::{StartRefusal, with_file, with_list};
 use starting::text::{write_line, write_memory, write_no_file};
+use std::fs::File;
 
 // The text for what became of the files.
 fn write_outcome(
     out: &mut [u8],
-    source: Source,
+    source: Result<(), StartRefusal>,
     taken: Taken,
     registry: &[u8],
     connection: &[u8],
@@ -29,7 +29,7 @@ fn write_outcome(
     ensures { Wrote (printed (with_file source taken.is_whole) (lent_memory connection.now registry.now taken.counters)) out.old out.new result }
 {
     let outcome = with_file(source, taken.is_whole);
-    if !is_good(outcome) {
+    if outcome.is_err() {
         return write_line(out, outcome);
     }
     write_memory(out, taken.counters, registry, connection)
@@ -38,8 +38,8 @@ fn write_outcome(
 // Reads a stream: through the call where roster and list are good; else only to its end, for an unreadable stream comes before a
 // faulty roster and a bad list.
 fn read_stream(
-    stream: Argument,
-    source: Source,
+    stream: Option<File>,
+    source: Result<(), StartRefusal>,
     connection: &mut [u8],
     registry: &mut [u8],
     list: &[u8],
@@ -47,19 +47,23 @@ fn read_stream(
     requires { (length connection.old ≡ connection_size) × Ready registry.old list.now source }
     ensures { StreamRead (argument_file stream) source registry.old list.now result.is_whole (lent_memory connection.new registry.new result.counters) }
 {
-    let Argument::Open(mut file) = stream else {
+    let Some(mut file) = stream else {
         return uncounted(false);
     };
     match source {
-        Source::Good => take_stream(&mut file, connection, registry, list),
-        Source::Faulty(_) => uncounted(read_rest(&mut file)),
-        Source::BadList => uncounted(read_rest(&mut file)),
-        Source::Unreadable => uncounted(false),
+        Ok(()) => take_stream(&mut file, connection, registry, list),
+        Err(StartRefusal::Unreadable) => uncounted(false),
+        Err(_) => uncounted(read_rest(&mut file)),
     }
 }
 
 // The text for three files.
-pub fn write_text(out: &mut [u8], roster: Argument, stream: Argument, list: Argument) -> usize
+pub fn write_text(
+    out: &mut [u8],
+    roster: Option<File>,
+    stream: Option<File>,
+    list: Option<File>,
+) -> usize
     requires { bill_most ≤ length out.old }
     ensures { Prints (argument_file roster) (argument_file stream) (argument_file list) out.new result }
 {
@@ -68,7 +72,7 @@ pub fn write_text(out: &mut [u8], roster: Argument, stream: Argument, list: Argu
     let mut front = list_front();
     let source = read_roster(roster, &mut registry);
     let read = read_list(list, &mut front);
-    let Front::Kept(size) = read else {
+    let Some(size) = read else {
         return write_no_file(out);
     };
     let keys = &front[..size];

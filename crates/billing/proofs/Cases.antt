@@ -1,11 +1,11 @@
 -- A case of a table computed from the rules on a whole stream, and the cases' parts.
+use Rattle.std.proofs.Common.{Some, is_some, option_and_then}
 use mathlib.Core.Path.{◌≡◌}
 use Prim.Native.Nat.{ℕ, ◌+◌, ◌-◌}
 use mathlib.Core.Bool.{true, false}
-use mathlib.Core.Option.{bind, some}
 use mathlib.Core.List.{List, [], ◌∷◌, ◌++◌, flat_map, flatten}
 use lib.ListN.{length, replicate}
-use Rattle.wire.specs.Choice.{first_of, is_some}
+use Rattle.wire.specs.Choice.{first_of}
 use Rattle.wire.specs.Lists.{one_of}
 use Rattle.wire.specs.Numbers.{little_endian, little_endian_of, field}
 use Rattle.wire.specs.Scan.{scan_from, scan_at}
@@ -43,8 +43,8 @@ use Rattle.billing.specs.Claims.{Shown, Case, shown_by, start_of, shown_for}
 
 -- all that a case computes with
 unfoldable pub showing : (roster stream list : List ℕ) → Shown
-unfolding roster_of read_records record_turn is_whole record_step record_faults first_of legal_name field little_endian registry_of line_of flatten rules rules_from rules_within start answer finish judge next legal_start oversized judgement no_counts request_of result_of refusals one_of opcodes_of is_some application_of application_named index_from refuse_at operated input_fields asking_of asked operation_of format_for content_type_of read_body scan_at scan_from step_at item_of field_at content_at number_at span_at fixed_at group_at varint_of with_value perform within_bounds place_key import_by perform_import perform_destroy destroy_of perform_export counted export_of key_named own_in listed_in key_of shipped_key keys_in list_of pair_step pairs_done listed_named perform_list_opcodes success refuse number_field bytes_field packed_field flat_map varint varint_within import_bits legal_data legal_bits slot_named key_bytes slot_bytes used used_slot askers_slots verdict_of refused_early oversized_status response_bytes response_header little_endian_of status_number changed_by changed count count_served count_refused increment index_of slots_of uses_of slot_of bill_of text_line decimal digits_before application_lines key_line slot_lines key_lines refused_lines held_bytes ascii shown_by start_of bill bill_for is_list_refused well_formed_list refused_roster fault_number listed message_bytes read_message packed_of output_bytes bind
-showing roster stream list = shown_by (rules (judgement list) (start_of (roster_of roster)) stream) (bill (some roster) (some stream) (some list))
+unfolding roster_of read_records record_turn is_whole record_step record_faults first_of legal_name field little_endian registry_of line_of flatten rules rules_from rules_within start answer finish judge next legal_start oversized judgement no_counts request_of result_of refusals one_of opcodes_of application_of application_named index_from refuse_at operated input_fields asking_of asked operation_of format_for content_type_of read_body scan_at scan_from step_at item_of field_at content_at number_at span_at fixed_at group_at varint_of with_value perform within_bounds place_key import_by perform_import perform_destroy destroy_of perform_export counted export_of key_named own_in listed_in key_of shipped_key keys_in list_of pair_step pairs_done listed_named perform_list_opcodes success refuse number_field bytes_field packed_field flat_map varint varint_within import_bits legal_data legal_bits slot_named key_bytes slot_bytes used used_slot askers_slots verdict_of refused_early oversized_status response_bytes response_header little_endian_of status_number changed_by changed count count_served count_refused increment index_of slots_of uses_of slot_of bill_of text_line decimal digits_before application_lines key_line slot_lines key_lines refused_lines held_bytes ascii shown_by start_of bill bill_for is_list_refused well_formed_list refused_roster fault_number listed message_bytes read_message packed_of output_bytes
+showing roster stream list = shown_by (rules (judgement list) (start_of (roster_of roster)) stream) (bill (Some roster) (Some stream) (Some list))
 
 -- a case holds if it is computed so
 pub holds : (c : Case) → showing c.roster c.stream c.list ≡ c.shown → shown_for c.roster c.stream c.list ≡ c.shown

@@ -17,12 +17,12 @@ use Rattle.keys.specs.Names.{application_name_most}
 use Rattle.registry.specs.Slots.{free, slot_of}
 use Rattle.registry.specs.Registry.{line_count, slot_count, line_size, names_in, slots_of, uses_of, slot_at}
 use Rattle.registry.specs.WellFormed.{legal_if_used, well_formed_registry}
-use Rattle.registry.specs.code.Check.{block_names, is_free}
+use Rattle.registry.specs.code.Check.{is_free}
 use Rattle.registry.specs.declared.Line.{Line}
 use Rattle.keys.proofs.NameLaws.{legal_short}
 use Rattle.registry.proofs.WellFormedLaws.{good_of}
 use Rattle.registry.proofs.RegistryLaws.{length_slots, slot_there_lem}
-use Rattle.registry.proofs.BlockNameLaws.{length_names}
+use Rattle.registry.proofs.LineLaws.{length_names}
 use Rattle.judgement.specs.Status.{status_number, refused_statuses}
 use Rattle.judgement.specs.declared.Status.TheVariants.{Success}
 use Rattle.billing.specs.Ascii.{ascii}
@@ -53,9 +53,9 @@ abbrev pub application_line : (served : List ℕ) (i : ℕ) (name : List ℕ) �
 application_line served i name = text_line (ascii "line") (decimal i ∷ name ∷ decimal (get_or served i 0) ∷ [])
 
 used_end : (registry : List ℕ) (i : ℕ) → line_count ≤ i → used_names (drop i (names_in registry)) ≡ []
-unfolding used_names block_names
+unfolding used_names
 used_end registry i h =
-    rw (drop_of_length-le (names_in registry) (let x : length (names_in registry) ≤ i = omega (arith, length_names 0 line_size line_count registry) in x))
+    rw (drop_of_length-le (names_in registry) (let x : length (names_in registry) ≤ i = omega (arith, length_names registry) in x))
 
 pub lines_end : (registry served : List ℕ) (i : ℕ) → line_count ≤ i → lines_from registry served i ≡ []
 unfolding application_lines
@@ -74,9 +74,8 @@ module _ (registry : List ℕ) (i : ℕ) (h : i < line_count) where
   name_at = get_or (names_in registry) i []
 
   names_next : drop i (names_in registry) ≡ name_at ∷ drop (i + 1) (names_in registry)
-  unfolding block_names
   names_next =
-      let many : i < length (names_in registry) = omega (arith, length_names 0 line_size line_count registry) in
+      let many : i < length (names_in registry) = omega (arith, length_names registry) in
       rw (add-one i) (drop-cons (names_in registry) i [] many)
 
   -- at an unused line, and at one with a name

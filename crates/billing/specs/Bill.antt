@@ -1,7 +1,6 @@
 -- "The bill"; document 02, "Keys we ship", "Use per key": its text for a roster file, a captured stream and the list of keys that
 -- we ship.
-use Rattle.std.specs.Prelude.{ℕ, zero, suc, ◌+◌, ◌/◌, ◌%◌, Bool, false, not, List, [], ◌∷◌, ◌++◌, length, take, get_or, ltb, eqb}
-use Rattle.std.proofs.Math.Option.{Option, none, some}
+use Rattle.std.specs.Prelude.{ℕ, zero, suc, ◌+◌, ◌/◌, ◌%◌, Bool, false, not, List, [], ◌∷◌, ◌++◌, length, take, get_or, ltb, eqb, Option, Some, None}
 use Rattle.wire.specs.Choice.{when◌then◌else◌}
 use Rattle.stream.specs.Rules.{held_bytes, State, rules}
 use Rattle.registry.specs.Slots.{Entry, free, held}
@@ -101,8 +100,8 @@ is_list_refused (faulty fault) list = false
 
 -- `none` is a file that can't be read
 unfoldable pub bill : (roster stream list : Option (List ℕ)) → List ℕ
-bill none stream list = no_file
-bill (some roster) none list = no_file
-bill (some roster) (some stream) none = no_file
-bill (some roster) (some stream) (some list) =
+bill None stream list = no_file
+bill (Some roster) None list = no_file
+bill (Some roster) (Some stream) None = no_file
+bill (Some roster) (Some stream) (Some list) =
     when is_list_refused (roster_of roster) list then refused_list else bill_for list (roster_of roster) stream

@@ -1,6 +1,5 @@
 -- What is claimed of the bill: what any calls leave, and cases that are computed from the rules. Types, no proof.
-use Rattle.std.specs.Prelude.{◌≡◌, ℕ, ◌+◌, length}
-use Rattle.std.proofs.Math.Option.{some}
+use Rattle.std.specs.Prelude.{◌≡◌, ℕ, ◌+◌, length, Some}
 use mathlib.Core.List.{List, [], ◌∷◌, flatten}
 use Rattle.reading.specs.Calls.{taken_stream}
 use Rattle.stream.specs.Rules.{Outcome, held_bytes, rules}
@@ -56,7 +55,7 @@ start_of (faulty fault) = []
 
 -- by the rules on the whole stream
 unfoldable pub shown_for : (roster stream list : List ℕ) → Shown
-shown_for roster stream list = shown_by (rules (judgement list) (start_of (roster_of roster)) stream) (bill (some roster) (some stream) (some list))
+shown_for roster stream list = shown_by (rules (judgement list) (start_of (roster_of roster)) stream) (bill (Some roster) (Some stream) (Some list))
 
 -- all cases of a table hold
 abbrev pub AllHold : List Case → Type 0

@@ -1,6 +1,5 @@
 -- What writing a bill comes to, for any memory and any buffer.
-use Rattle.std.specs.Prelude.{ℕ, ◌+◌, ◌*◌, Bool, not, List, [], ◌∷◌, length, ltb}
-use Rattle.std.proofs.Math.Option.{Option, none, some}
+use Rattle.std.specs.Prelude.{ℕ, ◌+◌, ◌*◌, Bool, not, List, [], ◌∷◌, length, ltb, Option, Some, None, Result, Ok, Err}
 use Rattle.wire.specs.Choice.{first_of}
 use Rattle.wire.specs.Lists.{over}
 use Rattle.keys.specs.Names.{application_name_most}
@@ -10,8 +9,8 @@ use Rattle.registry.specs.WellFormed.{well_formed_registry}
 use Rattle.judgement.specs.Status.{refused_count}
 use Rattle.service.specs.Call.{Memory, state_in}
 use Rattle.billing.specs.Bill.{bill_of}
-use Rattle.billing.specs.declared.Billed.{Billed}
-use Rattle.billing.specs.declared.Billed.TheVariants.{Written, BufferTooSmall, ConnectionIllFormed, RegistryIllFormed}
+use Rattle.billing.specs.declared.BillRefusal.{BillRefusal}
+use Rattle.billing.specs.declared.BillRefusal.TheVariants.{BufferTooSmall, ConnectionIllFormed, RegistryIllFormed}
 
 -- a number of 64 bits has at most so many digits
 abbrev pub digits_most : ℕ
@@ -57,7 +56,7 @@ unfoldable pub bill_in : Memory → List ℕ
 bill_in m = bill_of (used_names (names_in m.registry)) (state_in m)
 
 -- in the order of the calls' refusals C1, C3, C4
-unfoldable pub refusal_tests : (out : List ℕ) → Memory → List (Bool × Billed)
+unfoldable pub refusal_tests : (out : List ℕ) → Memory → List (Bool × BillRefusal)
 refusal_tests out m =
     (ltb (length out) bill_most, BufferTooSmall)
     ∷ (not (well_formed_connection m.connection), ConnectionIllFormed)
@@ -65,12 +64,12 @@ refusal_tests out m =
     ∷ []
 
 pub record BillOutcome : Type 0 where
-  pub answer : Billed
+  pub answer : Result ℕ BillRefusal
   pub out : List ℕ
 
-unfoldable pub outcome_of : (out : List ℕ) → Memory → Option Billed → BillOutcome
-outcome_of out m none = record { answer = Written (length (bill_in m)); out = over (bill_in m) out }
-outcome_of out m (some refusal) = record { answer = refusal; out = out }
+unfoldable pub outcome_of : (out : List ℕ) → Memory → Option BillRefusal → BillOutcome
+outcome_of out m None = record { answer = Ok (length (bill_in m)); out = over (bill_in m) out }
+outcome_of out m (Some refusal) = record { answer = Err refusal; out = out }
 
 -- the bill over the front of the buffer, or the first refusal that applies and the buffer as it came
 unfoldable pub bill_outcome : (out : List ℕ) → Memory → BillOutcome

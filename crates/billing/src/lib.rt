@@ -38,10 +38,9 @@ pub const BILL_MOST: usize = BILL_SPARE
     + REFUSED_STATUSES * REFUSED_LINE_MOST
     + LINES * (APPLICATION_LINE_MOST + SLOTS * KEY_LINE_MOST);
 
-// What writing a bill answers: how many bytes it has, or why there is none.
+// Why no bill is written; the first that applies.
 #[derive(Clone, Copy)]
-pub enum Billed {
-    Written(usize),
+pub enum BillRefusal {
     BufferTooSmall,
     ConnectionIllFormed,
     RegistryIllFormed,

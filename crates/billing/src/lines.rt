@@ -46,14 +46,12 @@ pub fn write_applications(out: &mut [u8], at: usize, registry: &[u8], served: &[
     ensures { Placed (application_lines 0 (used_names (names_in registry.now)) served.now) out.old out.new at result × (result ≤ at + line_count * application_line_most) }
 {
     let mut end = at;
-    let mut i = 0;
-    while i < LINES {
+    for i in 0..LINES {
         let name = line_name(registry, Line(i));
         if name.len() == 0 {
             return end;
         }
         end = write_application(out, end, Line(i), name, served[i]);
-        i += 1;
     }
     end
 }
@@ -80,10 +78,8 @@ fn write_line_keys(out: &mut [u8], at: usize, registry: &[u8], line: Line) -> us
     ensures { Placed (slot_lines line.0 0 (slots_of registry.now line) (uses_of registry.now line)) out.old out.new at result × (result ≤ at + slot_count * key_line_most) }
 {
     let mut end = at;
-    let mut k = 0;
-    while k < SLOTS {
+    for k in 0..SLOTS {
         end = write_key(out, end, registry, line, Slot(k));
-        k += 1;
     }
     end
 }
@@ -94,13 +90,11 @@ pub fn write_keys(out: &mut [u8], at: usize, registry: &[u8]) -> usize
     ensures { Placed (key_lines 0 (used_names (names_in registry.now)) registry.now) out.old out.new at result × (result ≤ at + line_count * (slot_count * key_line_most)) }
 {
     let mut end = at;
-    let mut i = 0;
-    while i < LINES {
+    for i in 0..LINES {
         if line_name(registry, Line(i)).len() == 0 {
             return end;
         }
         end = write_line_keys(out, end, registry, Line(i));
-        i += 1;
     }
     end
 }
@@ -125,10 +119,8 @@ pub fn write_refusals(out: &mut [u8], at: usize, refused: &[u64]) -> usize
     ensures { Placed (refused_lines refused_statuses refused.now) out.old out.new at result × (result ≤ at + refused_count * refused_line_most) }
 {
     let mut end = at;
-    let mut i = 0;
-    while i < REFUSED_STATUSES {
-        end = write_refused(out, end, refused_number(i), refused[i]);
-        i += 1;
+    for (i, n) in refused.iter().enumerate() {
+        end = write_refused(out, end, refused_number(i), *n);
     }
     end
 }

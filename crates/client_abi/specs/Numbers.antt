@@ -1,7 +1,7 @@
 -- What the client's functions exported to C answer, as numbers. Those of a refusal are in the order in which they are judged; one
 -- that is added later comes last, as 8, which is judged first.
-use Rattle.std.specs.Prelude.{ℕ, ◌≡◌, List, length}
-use Rattle.messages.specs.declared.read.Span.{Span}
+use Rattle.std.specs.Prelude.{ℕ, ◌≡◌, List, length, Option, Some, None, Result, Ok, Err}
+use Rattle.wire.specs.declared.span.Span.{Span}
 use Rattle.messages.specs.declared.read.Output.{Output}
 use Rattle.messages.specs.declared.read.Output.TheVariants.{Nothing, Version, Providers, Opcodes, Data, Offset}
 use Rattle.client_requests.specs.Writing.{WriteOutcome}
@@ -9,15 +9,13 @@ use Rattle.client_responses.specs.State.{Beginning, ReadOutcome}
 use Rattle.client_responses.specs.Handed.{handed, SaidWithin}
 use Rattle.client_requests.specs.declared.WriteRefusal.{WriteRefusal}
 use Rattle.client_requests.specs.declared.WriteRefusal.TheVariants.{BufferTooSmall, ApplicationNameIllegal, KeyNameIllegal, DataIllegal, BitsIllegal, HashIllegal, BodyTooLong, TypeUnlisted}
-use Rattle.client_requests.specs.declared.Written.{Written}
-use Rattle.client_requests.specs.declared.Written.TheVariants.{Bytes, Refused}
-use Rattle.client_responses.specs.declared.Begun.{Begun}
-use Rattle.client_responses.specs.declared.Begun.TheVariants.{Fresh, WrongSize, UnlistedOpcode, UnlistedType}
+use Rattle.client_responses.specs.declared.BeginRefusal.{BeginRefusal}
+use Rattle.client_responses.specs.declared.BeginRefusal.TheVariants.{WrongSize, UnlistedOpcode, UnlistedType}
 use Rattle.client_responses.specs.declared.ReadRefusal.{ReadRefusal}
 use Rattle.client_responses.specs.declared.ReadRefusal.TheVariants.{WrongMagic, WrongHeaderSize, WrongVersion, WrongContentType, NotItsRequests, ContentTooLong, UnreadableBody}
 use Rattle.client_responses.specs.declared.look.Response.{Response}
-use Rattle.client_responses.specs.declared.look.Said.{Said}
-use Rattle.client_responses.specs.declared.look.Said.TheVariants.{IllFormed, Waiting, Response as Answered, Refused as NotRead}
+use Rattle.client_responses.specs.declared.ReadFault.{ReadFault}
+use Rattle.client_responses.specs.declared.ReadFault.TheVariants.{IllFormed, Refused}
 use Rattle.client_responses.specs.declared.read.ReadAnswer.{ReadAnswer}
 use Rattle.client_abi.specs.declared.write.Request.{Request}
 use Rattle.client_abi.specs.declared.read.OutputNumbers.{OutputNumbers}
@@ -36,9 +34,9 @@ refusal_number BodyTooLong = 7
 refusal_number TypeUnlisted = 8
 
 -- a refused request has no bytes
-unfoldable pub request_numbers : Written → Request
-request_numbers (Bytes length) = record { code = 0; written = length }
-request_numbers (Refused refusal) = record { code = refusal_number refusal; written = 0 }
+unfoldable pub request_numbers : Result ℕ WriteRefusal → Request
+request_numbers (Ok length) = record { code = 0; written = length }
+request_numbers (Err refusal) = record { code = refusal_number refusal; written = 0 }
 
 -- what writing a request says, and the buffer after it
 abbrev pub written_with : WriteOutcome → Request × List ℕ
@@ -46,11 +44,14 @@ written_with o = (request_numbers o.answer, o.out)
 
 -- ---- responses read
 
-unfoldable pub begun_number : Begun → ℕ
-begun_number Fresh = 0
-begun_number WrongSize = 1
-begun_number UnlistedOpcode = 2
-begun_number UnlistedType = 3
+unfoldable pub begin_refusal_number : BeginRefusal → ℕ
+begin_refusal_number WrongSize = 1
+begin_refusal_number UnlistedOpcode = 2
+begin_refusal_number UnlistedType = 3
+
+unfoldable pub begun_number : Result (Unit {0}) BeginRefusal → ℕ
+begun_number (Ok begun) = 0
+begun_number (Err refusal) = begin_refusal_number refusal
 
 -- what beginning a state says, and the memory after it
 abbrev pub began_with : Beginning → ℕ × List ℕ
@@ -82,11 +83,11 @@ without_response code taken = record { code = code; status = 0; taken = taken; o
 abbrev pub response_numbers : (taken : ℕ) → Response → Answer
 response_numbers taken response = record { code = 1; status = response.status; taken = taken; output = output_numbers response.output }
 
-unfoldable pub said_numbers : (taken : ℕ) → Said → Answer
-said_numbers taken Waiting = without_response 0 taken
-said_numbers taken (Answered response) = response_numbers taken response
-said_numbers taken IllFormed = without_response 2 taken
-said_numbers taken (NotRead refusal) = without_response (read_refusal_number refusal) taken
+unfoldable pub said_numbers : (taken : ℕ) → Result (Option Response) ReadFault → Answer
+said_numbers taken (Ok None) = without_response 0 taken
+said_numbers taken (Ok (Some response)) = response_numbers taken response
+said_numbers taken (Err IllFormed) = without_response 2 taken
+said_numbers taken (Err (Refused refusal)) = without_response (read_refusal_number refusal) taken
 
 abbrev pub answer_numbers : ReadAnswer → Answer
 answer_numbers answer = said_numbers answer.taken answer.said

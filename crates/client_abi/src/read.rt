@@ -1,16 +1,16 @@
-// Responses read in chunks ("The client's half", "A second body format").
+// Responses read in chunks ("The client's half", "A second body format"). Kept: numbers for kinds and refusals, which C reads.
 ghost use Rattle.std.specs.Prelude.{◌≡◌};
 ghost use Rattle.messages.specs.Formats.{format_for};
 ghost use Rattle.messages.specs.Placed.{read_list_outcome};
 ghost use Rattle.client_responses.specs.State.{begin_state, read_outcome};
-ghost use Rattle.client_abi.specs.Numbers.{began_with, read_refusal_number, placed_numbers, output_numbers, without_response, response_numbers, said_numbers, answer_numbers, Says};
+ghost use Rattle.client_abi.specs.Numbers.{began_with, placed_numbers, output_numbers, without_response, answer_numbers, Says};
 
-use client_responses::look::{Response, Said};
 use client_responses::read::{ReadAnswer, read};
 use client_responses::state::begin;
-use client_responses::{Begun, ReadRefusal};
+use client_responses::{Asked, ReadFault};
 use messages::format::format_for;
-use messages::read::{Output, Span, read_list};
+use messages::read::{Output, read_list};
+use wire::span::Span;
 
 // An output: its number; a version's two; where a body broke; the place, in the state's memory, of data or of a list's
 // entries. What an output doesn't have is 0.
@@ -35,6 +35,7 @@ pub struct Answer {
     pub output: OutputNumbers,
 }
 
+#[tactic(auto, unfolding(crate::specs::Numbers::begun_number, crate::specs::Numbers::begin_refusal_number))]
 // 0 for a state begun, 1 for memory of another size, 2 for an opcode that is not listed, 3 for an accept type that is not.
 #[unsafe(no_mangle)]
 pub extern "C" fn razidkot_client_begin(
@@ -45,76 +46,63 @@ pub extern "C" fn razidkot_client_begin(
 ) -> u32
     ensures { (result, state.new) ≡ began_with (begin_state state.old (record { opcode = opcode; session = session; accept_type = accept_type })) }
 {
-    match begin(state, opcode, session, accept_type) {
-        Begun::Fresh => 0,
-        Begun::WrongSize => 1,
-        Begun::UnlistedOpcode => 2,
-        Begun::UnlistedType => 3,
+    let asked = Asked {
+        opcode,
+        session,
+        accept_type,
+    };
+    match begin(state, asked) {
+        Ok(()) => 0,
+        Err(refusal) => refusal as u32,
     }
 }
 
-fn refusal_number(refusal: ReadRefusal) -> u32
-    ensures { result ≡ read_refusal_number refusal }
-{
-    match refusal {
-        ReadRefusal::WrongMagic => 3,
-        ReadRefusal::WrongHeaderSize => 4,
-        ReadRefusal::WrongVersion => 5,
-        ReadRefusal::WrongContentType => 6,
-        ReadRefusal::NotItsRequests => 7,
-        ReadRefusal::ContentTooLong => 8,
-        ReadRefusal::UnreadableBody => 9,
-    }
-}
+// No output.
+const NOTHING: OutputNumbers = OutputNumbers {
+    kind: 0,
+    major: 0,
+    minor: 0,
+    offset: 0,
+    start: 0,
+    length: 0,
+};
 
 fn placed(kind: u32, span: Span) -> OutputNumbers
     ensures { result ≡ placed_numbers kind span }
 {
     OutputNumbers {
         kind,
-        major: 0,
-        minor: 0,
-        offset: 0,
         start: span.start,
         length: span.len,
+        ..NOTHING
     }
 }
 
+#[tactic(auto, unfolding(crate::specs::Numbers::output_numbers))]
 fn number_output(output: Output) -> OutputNumbers
     ensures { result ≡ output_numbers output }
 {
     match output {
-        Output::Nothing => OutputNumbers {
-            kind: 0,
-            major: 0,
-            minor: 0,
-            offset: 0,
-            start: 0,
-            length: 0,
-        },
+        Output::Nothing => NOTHING,
         Output::Version(major, minor) => OutputNumbers {
             kind: 1,
             major,
             minor,
-            offset: 0,
-            start: 0,
-            length: 0,
+            ..NOTHING
         },
         Output::Providers(span) => placed(2, span),
         Output::Opcodes(span) => placed(3, span),
         Output::Data(span) => placed(4, span),
         Output::Offset(at) => OutputNumbers {
             kind: 5,
-            major: 0,
-            minor: 0,
             offset: at,
-            start: 0,
-            length: 0,
+            ..NOTHING
         },
     }
 }
 
 // No response: a code alone.
+#[tactic(auto, unfolding(crate::specs::Numbers::output_numbers))]
 fn without(code: u32, taken: usize) -> Answer
     ensures { result ≡ without_response code taken }
 {
@@ -122,38 +110,25 @@ fn without(code: u32, taken: usize) -> Answer
         code,
         status: 0,
         taken,
-        output: number_output(Output::Nothing),
+        output: NOTHING,
     }
 }
 
-fn number_response(response: Response, taken: usize) -> Answer
-    ensures { result ≡ response_numbers taken response }
-{
-    let output = response.output;
-    Answer {
-        code: 1,
-        status: response.status as u32,
-        taken,
-        output: number_output(output),
-    }
-}
-
-fn number_said(said: Said, taken: usize) -> Answer
-    ensures { result ≡ said_numbers taken said }
-{
-    match said {
-        Said::Waiting => without(0, taken),
-        Said::Response(response) => number_response(response, taken),
-        Said::IllFormed => without(2, taken),
-        Said::Refused(refusal) => without(refusal_number(refusal), taken),
-    }
-}
-
+#[tactic(auto, unfolding(crate::specs::Numbers::said_numbers, crate::specs::Numbers::read_refusal_number))]
 fn number(answer: ReadAnswer) -> Answer
     ensures { result ≡ answer_numbers answer }
 {
-    let said = answer.said;
-    number_said(said, answer.taken)
+    match answer.said {
+        Ok(None) => without(0, answer.taken),
+        Ok(Some(response)) => Answer {
+            code: 1,
+            status: u32::from(response.status),
+            taken: answer.taken,
+            output: number_output(response.output),
+        },
+        Err(ReadFault::IllFormed) => without(2, answer.taken),
+        Err(ReadFault::Refused(refusal)) => without(refusal as u32, answer.taken),
+    }
 }
 
 // 0 while more is awaited, 1 for a response, 2 for an ill-formed state, 3 to 9 for a refusal.

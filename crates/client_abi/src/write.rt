@@ -1,15 +1,16 @@
 // Requests written ("The client's half", "Checking signatures", "A second body format"). A content type says the format of the
-// body, an accept type the one that is asked for in the response: 1 or 2.
-ghost use Rattle.std.specs.Prelude.{◌≡◌};
+// body, an accept type the one that is asked for in the response: 1 or 2. Kept: a flag beside each name, numbers for refusals and a
+// function for each request, since C calls and reads them so.
+ghost use Rattle.std.specs.Prelude.{◌≡◌, option_copied};
 ghost use Rattle.messages.specs.Operations.{ping, list_providers, list_opcodes, import_key, destroy_key, export_public_key, verify_signature};
 ghost use Rattle.client_requests.specs.Writing.{write_outcome, sender_of};
-ghost use Rattle.client_abi.specs.Numbers.{refusal_number, request_numbers, written_with};
+ghost use Rattle.client_abi.specs.Numbers.{request_numbers, written_with};
 
 use client_requests::write::{
     write_destroy, write_export, write_import, write_list_opcodes, write_list_providers,
     write_ping, write_verify,
 };
-use client_requests::{Types, WriteRefusal, Written};
+use client_requests::{Client, NewKey, SignedHash, Types, WriteRefusal};
 
 // What writing a request says: 0 if it was written, else why not; and how many bytes it has, 0 where there is none.
 #[repr(C)]
@@ -19,33 +20,32 @@ pub struct Request {
     pub written: usize,
 }
 
-fn refusal_number(refusal: WriteRefusal) -> u32
-    ensures { result ≡ refusal_number refusal }
-{
-    match refusal {
-        WriteRefusal::BufferTooSmall => 1,
-        WriteRefusal::ApplicationNameIllegal => 2,
-        WriteRefusal::KeyNameIllegal => 3,
-        WriteRefusal::DataIllegal => 4,
-        WriteRefusal::BitsIllegal => 5,
-        WriteRefusal::HashIllegal => 6,
-        WriteRefusal::BodyTooLong => 7,
-        WriteRefusal::TypeUnlisted => 8,
-    }
-}
-
-fn number(written: Written) -> Request
+#[tactic(auto, unfolding(crate::specs::Numbers::request_numbers, crate::specs::Numbers::refusal_number))]
+fn number(written: Result<usize, WriteRefusal>) -> Request
     ensures { result ≡ request_numbers written }
 {
     match written {
-        Written::Bytes(length) => Request {
+        Ok(length) => Request {
             code: 0,
             written: length,
         },
-        Written::Refused(refusal) => Request {
-            code: refusal_number(refusal),
+        Err(refusal) => Request {
+            code: refusal as u32,
             written: 0,
         },
+    }
+}
+
+// Who asks, from C's arguments: a flag beside the name says whether there is one.
+fn client(session: u64, content: u8, accept: u8, named: bool, application: &[u8]) -> Client<'_>
+    ensures session { result.session ≡ session }
+    ensures types { result.types ≡ record { content = content; accept = accept } }
+    ensures sender { option_copied result.application ≡ sender_of named application.now }
+{
+    Client {
+        session,
+        types: Types { content, accept },
+        application: if named { Some(application) } else { None },
     }
 }
 
@@ -60,11 +60,10 @@ pub extern "C" fn razidkot_client_write_ping(
 ) -> Request
     ensures { (result, out.new) ≡ written_with (write_outcome out.old session (record { content = content_type; accept = accept_type }) (sender_of named application.now) ping) }
 {
-    let types = Types {
-        content: content_type,
-        accept: accept_type,
-    };
-    number(write_ping(out, session, types, named, application))
+    number(write_ping(
+        out,
+        client(session, content_type, accept_type, named, application),
+    ))
 }
 
 #[unsafe(no_mangle)]
@@ -78,11 +77,10 @@ pub extern "C" fn razidkot_client_write_list_providers(
 ) -> Request
     ensures { (result, out.new) ≡ written_with (write_outcome out.old session (record { content = content_type; accept = accept_type }) (sender_of named application.now) list_providers) }
 {
-    let types = Types {
-        content: content_type,
-        accept: accept_type,
-    };
-    number(write_list_providers(out, session, types, named, application))
+    number(write_list_providers(
+        out,
+        client(session, content_type, accept_type, named, application),
+    ))
 }
 
 #[unsafe(no_mangle)]
@@ -97,11 +95,11 @@ pub extern "C" fn razidkot_client_write_list_opcodes(
 ) -> Request
     ensures { (result, out.new) ≡ written_with (write_outcome out.old session (record { content = content_type; accept = accept_type }) (sender_of named application.now) (list_opcodes provider)) }
 {
-    let types = Types {
-        content: content_type,
-        accept: accept_type,
-    };
-    number(write_list_opcodes(out, session, types, named, application, provider))
+    number(write_list_opcodes(
+        out,
+        client(session, content_type, accept_type, named, application),
+        provider,
+    ))
 }
 
 #[unsafe(no_mangle)]
@@ -120,21 +118,17 @@ pub extern "C" fn razidkot_client_write_import(
 ) -> Request
     ensures { (result, out.new) ≡ written_with (write_outcome out.old session (record { content = content_type; accept = accept_type }) (sender_of named application.now) (import_key (record { name = name.entry.now; bytes = bytes.now; bits = bits; export_allowed = exported; verify_allowed = verified }))) }
 {
-    let types = Types {
-        content: content_type,
-        accept: accept_type,
-    };
-    number(write_import(
-        out,
-        session,
-        types,
-        named,
-        application,
+    let key = NewKey {
         name,
         bytes,
         bits,
         exported,
         verified,
+    };
+    number(write_import(
+        out,
+        client(session, content_type, accept_type, named, application),
+        key,
     ))
 }
 
@@ -150,11 +144,11 @@ pub extern "C" fn razidkot_client_write_destroy(
 ) -> Request
     ensures { (result, out.new) ≡ written_with (write_outcome out.old session (record { content = content_type; accept = accept_type }) (sender_of named application.now) (destroy_key name.now)) }
 {
-    let types = Types {
-        content: content_type,
-        accept: accept_type,
-    };
-    number(write_destroy(out, session, types, named, application, name))
+    number(write_destroy(
+        out,
+        client(session, content_type, accept_type, named, application),
+        name,
+    ))
 }
 
 #[unsafe(no_mangle)]
@@ -169,11 +163,11 @@ pub extern "C" fn razidkot_client_write_export(
 ) -> Request
     ensures { (result, out.new) ≡ written_with (write_outcome out.old session (record { content = content_type; accept = accept_type }) (sender_of named application.now) (export_public_key name.now)) }
 {
-    let types = Types {
-        content: content_type,
-        accept: accept_type,
-    };
-    number(write_export(out, session, types, named, application, name))
+    number(write_export(
+        out,
+        client(session, content_type, accept_type, named, application),
+        name,
+    ))
 }
 
 #[unsafe(no_mangle)]
@@ -190,18 +184,14 @@ pub extern "C" fn razidkot_client_write_verify(
 ) -> Request
     ensures { (result, out.new) ≡ written_with (write_outcome out.old session (record { content = content_type; accept = accept_type }) (sender_of named application.now) (verify_signature name.now hash.now signature.now)) }
 {
-    let types = Types {
-        content: content_type,
-        accept: accept_type,
-    };
-    number(write_verify(
-        out,
-        session,
-        types,
-        named,
-        application,
+    let signed = SignedHash {
         name,
         hash,
         signature,
+    };
+    number(write_verify(
+        out,
+        client(session, content_type, accept_type, named, application),
+        signed,
     ))
 }

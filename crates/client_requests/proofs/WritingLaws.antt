@@ -1,15 +1,15 @@
 -- Laws of a request that is written: the header and the auth bytes around its body, and the whole outcome.
+use Rattle.std.proofs.Common.{Some, None, Ok, Err}
 use Prim.Native.Nat.{ℕ, ◌+◌, ◌-◌, ◌≤◌}
 use native.Mathlib.Omega.{arith}
 use mathlib.Core.Path.{◌≡◌, refl, sym, ap, ◌∙◌}
-use mathlib.Core.Bool.{Bool, true, false}
-use mathlib.Core.Option.{none, some}
+use mathlib.Core.Bool.{true}
 use mathlib.Core.List.{List, ◌++◌, append_assoc}
 use borrow.Author.Tests.{leb-true}
 use borrow.Rule.Slice.PartMut.{put_mid}
 use lib.ListN.{length, take, drop, length-append, take-append-drop}
-use lib.Seq.{drop-drop, take-length, length-take-le, take_at, drop_at, drop-append-add}
-use Rattle.wire.specs.Choice.{when◌then◌else◌, first_of}
+use lib.Seq.{drop-drop, length-take-le, take_at, drop_at, drop-append-add}
+use Rattle.wire.specs.Choice.{first_of}
 use Rattle.wire.specs.Lists.{over}
 use Rattle.wire.specs.Numbers.{little_endian_of}
 use Rattle.wire.specs.Request.{request_least, content_most, request_header, request_bytes}
@@ -17,40 +17,28 @@ use Rattle.wire.specs.code.Wrote.{Wrote}
 use Rattle.wire.proofs.ListLaws.{length_part}
 use Rattle.wire.proofs.BufferLaws.{onward, wrote_on}
 use Rattle.keys.specs.Names.{application_name_most, key_name_most}
+use Rattle.keys.specs.Key.{Key, data_most}
 use Rattle.keys.proofs.NameLaws.{legal_short}
 use Rattle.keys.proofs.KeyLaws.{legal_data_lem}
 use Rattle.messages.specs.Format.{message_bytes}
-use Rattle.messages.specs.Formats.{format_of}
+use Rattle.messages.specs.Formats.{format_of, format_for}
 use Rattle.messages.specs.Operations.{Operation, ping, list_providers, list_opcodes, import_key, destroy_key, export_public_key, verify_signature, opcode_of, provider_of, operation_body}
 use Rattle.messages.specs.declared.format.BodyFormat.{BodyFormat}
 use Rattle.messages.proofs.FormatsLaws.{provider_body_short, bytes_body_short, key_body_short}
-use Rattle.client_requests.specs.Writing.{Sender, sender_of, auth_type_of, auth_of, body_format, legal_sender, field_tests, request_around, request_for, write_tests, write_outcome}
-use Rattle.client_requests.specs.code.Judged.{judged_as}
+use Rattle.client_requests.specs.Writing.{Sender, auth_type_of, auth_of, body_format, legal_sender, field_tests, request_buffer_least, request_around, request_for, write_tests, write_outcome}
 use Rattle.client_requests.specs.declared.Types.{Types}
 use Rattle.client_requests.specs.declared.WriteRefusal.{WriteRefusal}
-use Rattle.client_requests.specs.declared.Written.TheVariants.{Bytes, Refused}
-use Rattle.client_requests.specs.declared.judge.Judged.TheVariants.{Legal, Refused as Forbidden}
-use Rattle.client_requests.proofs.JudgeLaws.{told_refused, told_legal, Passed, passed, name_passed, import_name_passed, import_data_passed, body_passed}
+use Rattle.client_requests.proofs.JudgeLaws.{passed, name_passed, import_name_passed, import_data_passed, body_passed}
 
 -- ---- the sender's auth bytes
 
-pub auth_type_of_lem : (named : Bool) (application : List ℕ) → auth_type_of (sender_of named application) ≡ (when named then 1 else 0)
-auth_type_of_lem true application = refl
-auth_type_of_lem false application = refl
-
--- they are the front of the application's name
-pub auth_front : (named : Bool) (application : List ℕ) {n : ℕ} → n ≡ length (auth_of (sender_of named application))
-    → take n application ≡ auth_of (sender_of named application)
-auth_front true application e = rw e (take-length application)
-auth_front false application e = rw e
-
 pub auth_short : (sender : Sender) → legal_sender sender ≡ true → length (auth_of sender) ≤ application_name_most
-auth_short none e = omega arith
-auth_short (some name) e = legal_short application_name_most name e
+auth_short None e = omega arith
+auth_short (Some name) e = legal_short application_name_most name e
 
 -- ---- how long a legal body is at most
 
-pub body_short : (format : BodyFormat) (operation : Operation) → first_of (field_tests format operation) ≡ none → length (operation_body (format_of format) operation) ≤ content_most
+pub body_short : (format : BodyFormat) (operation : Operation) → first_of (field_tests format operation) ≡ None → length (operation_body (format_of format) operation) ≤ content_most
 unfolding operation_body message_bytes
 body_short format ping e = omega arith
 body_short format list_providers e = omega arith
@@ -63,12 +51,26 @@ body_short format (destroy_key name) e = omega (arith, bytes_body_short format n
 body_short format (export_public_key name) e = omega (arith, bytes_body_short format name, legal_short key_name_most name (name_passed format name e))
 body_short format (verify_signature name hash signature) e = leb-true _ _ (body_passed format name hash signature e)
 
-module _ {out : List ℕ} {types : Types} {sender : Sender} {operation : Operation} (p : Passed out types sender operation) where
-  pub passed_short : length (operation_body (format_of (body_format types)) operation) ≤ content_most
-  passed_short = body_short (body_format types) operation p.fields
+-- ---- what the code needs where every test is passed
 
-  pub written_short : {d e : List ℕ} {r : ℕ} → Wrote (operation_body (format_of (body_format types)) operation) d e r → r ≤ content_most
-  written_short w = omega (arith, w.count, passed_short)
+module _ (out : List ℕ) (types : Types) (sender : Sender) (operation : Operation) (e : first_of (write_tests out types sender operation) ≡ None) where
+  pub room_passed : request_buffer_least ≤ length out
+  room_passed = (passed out types sender operation e).room
+
+  pub sender_passed : legal_sender sender ≡ true
+  sender_passed = (passed out types sender operation e).legal
+
+  pub short_passed : length (operation_body (format_of (format_for types.content)) operation) ≤ content_most
+  short_passed = body_short (body_format types) operation (passed out types sender operation e).fields
+
+module _ (out : List ℕ) (types : Types) (sender : Sender) where
+  pub name_short : (name : List ℕ) → first_of (write_tests out types sender (destroy_key name)) ≡ None → length name ≤ key_name_most
+  name_short name e = legal_short key_name_most name (name_passed (body_format types) name (passed out types sender (destroy_key name) e).fields)
+
+  pub key_short : (key : Key) → first_of (write_tests out types sender (import_key key)) ≡ None → (length key.name ≤ key_name_most) × (length key.bytes ≤ data_most)
+  key_short key e =
+      let fields = (passed out types sender (import_key key) e).fields in
+      (legal_short key_name_most key.name (import_name_passed (body_format types) key fields), legal_data_lem key.bytes (import_data_passed (body_format types) key fields))
 
 -- ---- around a body that is there
 
@@ -112,32 +114,32 @@ over_more s p d h =
     ap (λ (l : List ℕ). s ++ l) (rw (n, drop-append-add p (drop (length p) d) j) (drop-drop j (length p) d))
 
 module _ (out : List ℕ) (session : ℕ) (types : Types) (sender : Sender) (operation : Operation) where
-  pub refused_outcome : (refusal : WriteRefusal) → judged_as (first_of (write_tests out types sender operation)) ≡ Forbidden refusal
-      → record { answer = Refused refusal; out = out } ≡ write_outcome out session types sender operation
+  pub refused_outcome : (refusal : WriteRefusal) → first_of (write_tests out types sender operation) ≡ Some refusal
+      → record { answer = Err refusal; out = out } ≡ write_outcome out session types sender operation
   unfolding write_outcome
-  refused_outcome refusal e = rw (told_refused (first_of (write_tests out types sender operation)) refusal e, write_outcome)
+  refused_outcome refusal e = rw (e, write_outcome)
 
   abbrev Whole : (body : List ℕ) (before after : List ℕ) (r : ℕ) → Type 0
   Whole body before after r = Wrote (request_bytes (request_around session types sender (provider_of operation) (opcode_of operation) body)) before after r
 
-  pub written_outcome : {after : List ℕ} {r : ℕ} → judged_as (first_of (write_tests out types sender operation)) ≡ Legal
+  pub written_outcome : {after : List ℕ} {r : ℕ} → first_of (write_tests out types sender operation) ≡ None
       → Whole (operation_body (format_of (body_format types)) operation) out after r
-      → record { answer = Bytes r; out = after } ≡ write_outcome out session types sender operation
+      → record { answer = Ok r; out = after } ≡ write_outcome out session types sender operation
   unfolding write_outcome request_for
-  written_outcome e w = rw (told_legal (first_of (write_tests out types sender operation)) e, write_outcome, w.count, w.bytes)
+  written_outcome e w = rw (e, write_outcome, w.count, w.bytes)
 
   -- a body was written behind the header's place before
-  pub body_outcome : {body after : List ℕ} {size r : ℕ} → judged_as (first_of (write_tests out types sender operation)) ≡ Legal
-      → request_least ≤ length out
+  pub body_outcome : {body after : List ℕ} {size r : ℕ} → first_of (write_tests out types sender operation) ≡ None
       → Wrote (operation_body (format_of (body_format types)) operation) (take (length out - request_least) (drop request_least out)) body size
       → (let l : List ℕ = put_mid request_least (length out - request_least) out body in Whole (take size (drop request_least l)) l after r)
-      → record { answer = Bytes r; out = after } ≡ write_outcome out session types sender operation
-  body_outcome {body} {after} {size} {r} e room b w =
+      → record { answer = Ok r; out = after } ≡ write_outcome out session types sender operation
+  body_outcome {body} {after} {size} {r} e b w =
+      let room : request_buffer_least ≤ length out = room_passed out types sender operation e in
       let written : List ℕ = operation_body (format_of (body_format types)) operation in
       let front : List ℕ = take request_least out in
       let rest : List ℕ = drop (length (front ++ written)) out in
       let l : List ℕ = put_mid request_least (length out - request_least) out body in
-      let long : length front ≡ request_least = length-take-le request_least out room in
+      let long : length front ≡ request_least = length-take-le request_least out (omega arith) in
       let whole : out ≡ over front out = rw long (sym (take-append-drop request_least out)) in
       let there : l ≡ over (front ++ written) out = onward front written out out body request_least (sym long) whole b.bytes in
       let part : take size (drop request_least l) ≡ written
@@ -158,20 +160,19 @@ module _ (out : List ℕ) (session : ℕ) (types : Types) (sender : Sender) (ope
 abbrev pub request_most : ℕ
 request_most = request_least + (content_most + application_name_most)
 
-pub request_short : (out : List ℕ) (session : ℕ) (types : Types) (sender : Sender) (operation : Operation) → first_of (write_tests out types sender operation) ≡ none
+pub request_short : (out : List ℕ) (session : ℕ) (types : Types) (sender : Sender) (operation : Operation) → first_of (write_tests out types sender operation) ≡ None
     → length (request_bytes (request_for session types sender operation)) ≤ request_most
-unfolding request_for judged_as
+unfolding request_for
 request_short out session types sender operation e =
-    let p = passed out types sender operation (ap judged_as e) in
+    let p = passed out types sender operation e in
     omega (
       arith,
       request_length_lem session types sender (provider_of operation) (opcode_of operation) (operation_body (format_of (body_format types)) operation),
-      passed_short p,
+      short_passed out types sender operation e,
       auth_short sender p.legal,
     )
 
 -- so the shortest buffer has room
-pub request_fits : (out : List ℕ) (session : ℕ) (types : Types) (sender : Sender) (operation : Operation) → first_of (write_tests out types sender operation) ≡ none
+pub request_fits : (out : List ℕ) (session : ℕ) (types : Types) (sender : Sender) (operation : Operation) → first_of (write_tests out types sender operation) ≡ None
     → length (request_bytes (request_for session types sender operation)) ≤ length out
-unfolding judged_as
-request_fits out session types sender operation e = omega (arith, request_short out session types sender operation e, (passed out types sender operation (ap judged_as e)).room)
+request_fits out session types sender operation e = omega (arith, request_short out session types sender operation e, (passed out types sender operation e).room)

@@ -1,6 +1,5 @@
 -- A request written for an operation (document 02, "The client's half", "Checking signatures", "A second body format").
-use Rattle.std.specs.Prelude.{ℕ, Bool, true, not, ◌&&◌, List, [], ◌∷◌, length, ltb, leb, eqb}
-use Rattle.std.proofs.Math.Option.{Option, none, some}
+use Rattle.std.specs.Prelude.{ℕ, Bool, true, not, ◌&&◌, List, [], ◌∷◌, length, ltb, leb, eqb, Option, Some, None, Result, Ok, Err}
 use Rattle.wire.specs.Choice.{when◌then◌else◌, first_of}
 use Rattle.wire.specs.Lists.{one_of, over}
 use Rattle.wire.specs.Request.{content_most, Request, request_bytes}
@@ -13,8 +12,6 @@ use Rattle.messages.specs.declared.format.BodyFormat.{BodyFormat}
 use Rattle.client_requests.specs.declared.Types.{Types}
 use Rattle.client_requests.specs.declared.WriteRefusal.{WriteRefusal}
 use Rattle.client_requests.specs.declared.WriteRefusal.TheVariants.{BufferTooSmall, ApplicationNameIllegal, KeyNameIllegal, DataIllegal, BitsIllegal, HashIllegal, BodyTooLong, TypeUnlisted}
-use Rattle.client_requests.specs.declared.Written.{Written}
-use Rattle.client_requests.specs.declared.Written.TheVariants.{Bytes, Refused}
 
 -- ---- the request
 
@@ -23,15 +20,15 @@ abbrev pub Sender : Type 0
 Sender = Option (List ℕ)
 
 abbrev pub sender_of : (named : Bool) (application : List ℕ) → Sender
-sender_of named application = when named then some application else none
+sender_of named application = when named then Some application else None
 
 abbrev pub auth_type_of : Sender → ℕ
-auth_type_of none = 0
-auth_type_of (some name) = 1
+auth_type_of None = 0
+auth_type_of (Some name) = 1
 
 abbrev pub auth_of : Sender → List ℕ
-auth_of none = []
-auth_of (some name) = name
+auth_of None = []
+auth_of (Some name) = name
 
 -- around a body, of version 1.0
 abbrev pub request_around : (session : ℕ) → Types → Sender → (provider opcode : ℕ) (body : List ℕ) → Request
@@ -66,8 +63,8 @@ abbrev pub legal_types : Types → Bool
 legal_types types = one_of content_types types.content && one_of content_types types.accept
 
 abbrev pub legal_sender : Sender → Bool
-legal_sender none = true
-legal_sender (some name) = legal_name application_name_most name
+legal_sender None = true
+legal_sender (Some name) = legal_name application_name_most name
 
 abbrev pub key_name_test : (name : List ℕ) → Bool × WriteRefusal
 key_name_test name = (not (legal_name key_name_most name), KeyNameIllegal)
@@ -97,7 +94,7 @@ write_tests out types sender operation =
 -- ---- WRITING'S WHOLE OUTCOME
 
 pub record WriteOutcome : Type 0 where
-  pub answer : Written
+  pub answer : Result ℕ WriteRefusal
   pub out : List ℕ
 
 -- the request over the front of the buffer, or the first refusal that applies and the buffer as it came
@@ -105,6 +102,6 @@ unfoldable pub write_outcome : (out : List ℕ) (session : ℕ) → Types → Se
 write_outcome out session types sender operation =
     let bytes = request_bytes (request_for session types sender operation) in
     elim (first_of (write_tests out types sender operation)) [
-      | some refusal ↦ record { answer = Refused refusal; out = out }
-      | none ↦ record { answer = Bytes (length bytes); out = over bytes out }
+      | Some refusal ↦ record { answer = Err refusal; out = out }
+      | None ↦ record { answer = Ok (length bytes); out = over bytes out }
     ]

@@ -11,22 +11,42 @@ pub struct Types {
     pub accept: u8,
 }
 
-// Why a request is not written; the first that applies, `TypeUnlisted` before all others.
+// Who asks, and how: the session, the types, and the application's name; `None` is nobody that is named.
 #[derive(Clone, Copy)]
-pub enum WriteRefusal {
-    BufferTooSmall,
-    ApplicationNameIllegal,
-    KeyNameIllegal,
-    DataIllegal,
-    BitsIllegal,
-    HashIllegal,
-    BodyTooLong,
-    TypeUnlisted,
+pub struct Client<'a> {
+    pub session: u64,
+    pub types: Types,
+    pub application: Option<&'a [u8]>,
 }
 
-// What writing a request comes to: how many bytes it has, or why it was refused.
+// A key to import, its parts as the client has them.
 #[derive(Clone, Copy)]
-pub enum Written {
-    Bytes(usize),
-    Refused(WriteRefusal),
+pub struct NewKey<'a> {
+    pub name: &'a [u8],
+    pub bytes: &'a [u8],
+    pub bits: u32,
+    pub exported: bool,
+    pub verified: bool,
+}
+
+// A signature to verify, of a hash and by the key of that name.
+#[derive(Clone, Copy)]
+pub struct SignedHash<'a> {
+    pub name: &'a [u8],
+    pub hash: &'a [u8],
+    pub signature: &'a [u8],
+}
+
+// Why a request is not written; the first that applies, `TypeUnlisted` before all others. Its number is the one that
+// C is told.
+#[derive(Clone, Copy)]
+pub enum WriteRefusal {
+    BufferTooSmall = 1,
+    ApplicationNameIllegal = 2,
+    KeyNameIllegal = 3,
+    DataIllegal = 4,
+    BitsIllegal = 5,
+    HashIllegal = 6,
+    BodyTooLong = 7,
+    TypeUnlisted = 8,
 }

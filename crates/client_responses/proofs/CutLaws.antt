@@ -1,13 +1,12 @@
 -- The reader of a response is one that the cut theorem asks for; and no call and no beginning leaves an ill-formed state.
+use Rattle.std.proofs.Common.{Option, Some, None, Ok, is_some}
 use mathlib.Core.Path.{◌≡◌, refl, ap, subst, ◌∙◌}
 use Prim.Native.Nat.{ℕ, ◌≤◌}
 use mathlib.Core.Bool.{true, false, true≢false}
-use mathlib.Core.Option.{Option, none, some}
 use mathlib.Core.List.{List, [], ◌∷◌}
 use native.Mathlib.Omega.{arith}
 use lib.ListN.{length, take, length-append}
 use lib.Dec.{eqb}
-use Rattle.wire.specs.Choice.{is_some}
 use Rattle.reading.specs.Reader.{Reading}
 use Rattle.reading.specs.Call.{call_rule}
 use Rattle.reading.specs.Claims.{Sound}
@@ -15,7 +14,6 @@ use Rattle.reading.proofs.ReaderLaws.{always, decide}
 use Rattle.reading.proofs.CallLaws.{call_facts}
 use Rattle.client_responses.specs.Reading.{Asked, Reply, found, response_reader}
 use Rattle.client_responses.specs.State.{response_most, state_size, state_bytes, asked_in, bytes_in, layout, well_formed_state, begin_state, ReadOutcome, refusal, read_outcome}
-use Rattle.client_responses.specs.declared.Begun.TheVariants.{Fresh}
 use Rattle.client_responses.proofs.StateLaws.{is_listed, is_type, Listed, held_back, well_there, well}
 use Rattle.client_responses.proofs.FoundLaws.{wanted}
 use Rattle.client_responses.proofs.ReadLaws.{outcome}
@@ -24,10 +22,9 @@ use Rattle.client_responses.proofs.ReadLaws.{outcome}
 abbrev pub Fits : (kept : List ℕ) → Type 0
 Fits kept = length kept ≤ response_most
 
-pub none_of : (o : Option Reply) → is_some o ≡ false → o ≡ none
-unfolding is_some
-none_of none e = refl
-none_of (some v) e = absurd (true≢false e)
+pub none_of : (o : Option Reply) → is_some o ≡ false → o ≡ None
+none_of None e = refl
+none_of (Some v) e = absurd (true≢false e)
 
 module _ (asked : Asked) where
   -- a byte behind bytes of which nothing is said yet
@@ -71,7 +68,7 @@ pub record BeginFacts (memory : List ℕ) (asked : Asked) : Type 0 where
   pub listed : Listed asked
   pub empty : (begin_state memory asked).memory ≡ state_bytes asked []
 
-pub begun : (memory : List ℕ) (asked : Asked) → (begin_state memory asked).answer ≡ Fresh → BeginFacts memory asked
+pub begun : (memory : List ℕ) (asked : Asked) → (begin_state memory asked).answer ≡ Ok tt → BeginFacts memory asked
 unfolding begin_state
 begun memory asked e =
     decide (eqb (length memory) state_size)
@@ -82,5 +79,5 @@ begun memory asked e =
     (λ l. absurd (let q = rw (s, l, begin_state) at e in let z : ◌≡◌ {A = ℕ} 0 1 = cc in omega arith)))
     (λ s. absurd (let q = rw (s, begin_state) at e in let z : ◌≡◌ {A = ℕ} 0 1 = cc in omega arith))
 
-pub begin_leaves : (memory : List ℕ) (asked : Asked) → (begin_state memory asked).answer ≡ Fresh → well_formed_state (begin_state memory asked).memory ≡ true
+pub begin_leaves : (memory : List ℕ) (asked : Asked) → (begin_state memory asked).answer ≡ Ok tt → well_formed_state (begin_state memory asked).memory ≡ true
 begin_leaves memory asked e = let b = begun memory asked e in ap well_formed_state b.empty ∙ well_there asked [] (omega arith) b.listed

@@ -1,7 +1,7 @@
 -- Laws of `found`: by where the bytes end, of bytes that follow, and of how many are wanted or make a run.
+use Rattle.std.proofs.Common.{Option, Some, None}
 use mathlib.Core.Path.{◌≡◌, refl, sym, ap, subst, ◌∙◌}
 use Prim.Native.Nat.{ℕ, ◌+◌, ◌-◌, ◌≤◌, ◌<◌}
-use mathlib.Core.Option.{Option, none, some}
 use mathlib.Core.List.{List, [], ◌∷◌, ◌++◌}
 use native.Mathlib.Omega.{arith}
 use borrow.Author.Tests.{lt-ltb, le-ltb, ltb-true, ltb-false, eq-eqb, ne_eqb, eqb-true, eqb-false}
@@ -26,22 +26,22 @@ use Rattle.client_responses.specs.declared.ReadRefusal.TheVariants.{WrongMagic, 
 -- ---- by where the bytes end
 
 module _ (asked : Asked) (s : List ℕ) where
-  pub found_short : length s < 6 → found asked s ≡ none
+  pub found_short : length s < 6 → found asked s ≡ None
   unfolding found
   found_short l = rw (lt-ltb (length s) 6 l, found)
 
   module _ (six : 6 ≤ length s) where
-    pub found_magic : (magic s ≡ magic_number → ⊥) → found asked s ≡ some (refused WrongMagic)
+    pub found_magic : (magic s ≡ magic_number → ⊥) → found asked s ≡ Some (refused WrongMagic)
     unfolding found
     found_magic n = rw (le-ltb (length s) 6 six, ne_eqb (magic s) magic_number n, found)
 
     module _ (m : magic s ≡ magic_number) where
-      pub found_size : (header_size s ≡ response_header_size → ⊥) → found asked s ≡ some (refused WrongHeaderSize)
+      pub found_size : (header_size s ≡ response_header_size → ⊥) → found asked s ≡ Some (refused WrongHeaderSize)
       unfolding found
       found_size n = rw (le-ltb (length s) 6 six, eq-eqb (magic s) magic_number m, ne_eqb (header_size s) response_header_size n, found)
 
       module _ (h : header_size s ≡ response_header_size) where
-        pub found_header : length s < response_least → found asked s ≡ none
+        pub found_header : length s < response_least → found asked s ≡ None
         unfolding found
         found_header l =
             rw (le-ltb (length s) 6 six, eq-eqb (magic s) magic_number m, eq-eqb (header_size s) response_header_size h, lt-ltb (length s) response_least l, found)
@@ -56,17 +56,17 @@ module _ (asked : Asked) (h : ResponseHeader) (s : List ℕ) where
   abbrev checked : Option ReadRefusal
   checked = first_of (header_tests asked h)
 
-  pub behind_refused : (refusal : ReadRefusal) → checked ≡ some refusal → found_behind asked h s ≡ some (refused refusal)
+  pub behind_refused : (refusal : ReadRefusal) → checked ≡ Some refusal → found_behind asked h s ≡ Some (refused refusal)
   unfolding found_behind
   behind_refused refusal e = rw (e, found_behind)
 
-  module _ (e : checked ≡ none) where
-    pub behind_part : length s < response_least + h.content_length → found_behind asked h s ≡ none
+  module _ (e : checked ≡ None) where
+    pub behind_part : length s < response_least + h.content_length → found_behind asked h s ≡ None
     unfolding found_behind
     behind_part l = rw (e, lt-ltb (length s) (response_least + h.content_length) l, found_behind)
 
     pub behind_whole : response_least + h.content_length ≤ length s
-        → found_behind asked h s ≡ some (body_reply (format_for asked.accept_type) asked.opcode h.status (take h.content_length (drop response_least s)))
+        → found_behind asked h s ≡ Some (body_reply (format_for asked.accept_type) asked.opcode h.status (take h.content_length (drop response_least s)))
     unfolding found_behind
     behind_whole l = rw (e, le-ltb (length s) (response_least + h.content_length) l, found_behind)
 
@@ -83,14 +83,14 @@ module _ (asked : Asked) (s : List ℕ) where
   pub data Begun : Type 0 where
     short : length s < 6 → Begun
     in_header : 6 ≤ length s → magic s ≡ magic_number → header_size s ≡ response_header_size → length s < response_least → Begun
-    in_body : response_least ≤ length s → magic s ≡ magic_number → header_size s ≡ response_header_size → checked asked (response_of s) s ≡ none → length s < response_least + content → Begun
+    in_body : response_least ≤ length s → magic s ≡ magic_number → header_size s ≡ response_header_size → checked asked (response_of s) s ≡ None → length s < response_least + content → Begun
 
-  pub none_found : Begun → found asked s ≡ none
+  pub none_found : Begun → found asked s ≡ None
   none_found (short l) = found_short asked s l
   none_found (in_header six m h l) = found_header asked s six m h l
   none_found (in_body l m h c k) = found_whole asked s (omega arith) m h l ∙ behind_part asked (response_of s) s c k
 
-  pub begun : found asked s ≡ none → Begun
+  pub begun : found asked s ≡ None → Begun
   begun e =
       decide (ltb (length s) 6) (λ t. short (ltb-true _ _ t))
       (λ t. let six : 6 ≤ length s = ltb-false _ _ t in
@@ -106,12 +106,12 @@ module _ (asked : Asked) (s : List ℕ) where
       behind : 6 ≤ length s → magic s ≡ magic_number → header_size s ≡ response_header_size → response_least ≤ length s → Begun
       behind six m h l = go (checked asked (response_of s) s) refl
         where
-          none_behind : found_behind asked (response_of s) s ≡ none
+          none_behind : found_behind asked (response_of s) s ≡ None
           none_behind = sym (found_whole asked s six m h l) ∙ e
 
           go : (o : Option ReadRefusal) → checked asked (response_of s) s ≡ o → Begun
-          go (some r) c = absurd (some≢none (refused r) (sym (behind_refused asked (response_of s) s r c) ∙ none_behind))
-          go none c =
+          go (Some r) c = absurd (some≢none (refused r) (sym (behind_refused asked (response_of s) s r c) ∙ none_behind))
+          go None c =
               decide (ltb (length s) (response_least + content)) (λ t. in_body l m h c (ltb-true _ _ t))
               (λ t. absurd (some≢none _ (sym (behind_whole asked (response_of s) s c (ltb-false _ _ t)) ∙ none_behind)))
 
@@ -134,7 +134,7 @@ pub record Wanted (s : List ℕ) : Type 0 where
   pub more : length s < wanted_of s
   pub few : wanted_of s ≤ response_most
 
-pub wanted : (asked : Asked) (s : List ℕ) → found asked s ≡ none → Wanted s
+pub wanted : (asked : Asked) (s : List ℕ) → found asked s ≡ None → Wanted s
 wanted asked s e = go (begun asked s e)
   where
     go : Begun asked s → Wanted s
@@ -161,7 +161,7 @@ response_append s x l = λ i. record {
 }
 
 -- fewer than are wanted: nothing more can be said
-pub nothing_more : (asked : Asked) (s x : List ℕ) → found asked s ≡ none → length s + length x < wanted_of s → found asked (s ++ x) ≡ none
+pub nothing_more : (asked : Asked) (s x : List ℕ) → found asked s ≡ None → length s + length x < wanted_of s → found asked (s ++ x) ≡ None
 nothing_more asked s x e less = none_found asked (s ++ x) (go (begun asked s e))
   where
     long : length (s ++ x) ≡ length s + length x
@@ -181,7 +181,7 @@ nothing_more asked s x e less = none_found asked (s ++ x) (go (begun asked s e))
 -- ---- a run of bytes
 
 -- as many as are wanted
-pub run_wanted : (asked : Asked) (s rest : List ℕ) → found asked s ≡ none → Run asked s rest (wanted_of s - length s)
+pub run_wanted : (asked : Asked) (s rest : List ℕ) → found asked s ≡ None → Run asked s rest (wanted_of s - length s)
 run_wanted asked s rest e =
     let w = wanted asked s e in
     let more = w.more in
@@ -223,7 +223,7 @@ module _ (asked : Asked) (s : List ℕ) where
       same_header : response_least ≤ j → response_of (take j s) ≡ response_of s
       same_header g = sym (response_append (take j s) (drop j s) (omega (arith, long))) ∙ ap response_of (take-append-drop j s)
 
-      in_body_lem : first_of (header_tests asked (response_of s)) ≡ none → response_least ≤ j → j < response_least + (response_of s).content_length → Begun asked (take j s)
+      in_body_lem : first_of (header_tests asked (response_of s)) ≡ None → response_least ≤ j → j < response_least + (response_of s).content_length → Begun asked (take j s)
       in_body_lem c g k =
           let same = same_header g in
           let n = ap (λ (r : ResponseHeader). r.content_length) same in
@@ -231,7 +231,7 @@ module _ (asked : Asked) (s : List ℕ) where
           (ap (λ (r : ResponseHeader). first_of (header_tests asked r)) same ∙ c)
           (omega (arith, long, n))
 
-    before_header : (j : ℕ) → j < response_least → j ≤ length s → found asked (take j s) ≡ none
+    before_header : (j : ℕ) → j < response_least → j ≤ length s → found asked (take j s) ≡ None
     before_header j g l =
         decide (ltb j 6) (λ t. run_six.nothing_before j (ltb-true _ _ t) l)
         (λ t. none_found asked (take j s) (in_header_lem j l (ltb-false _ _ t) g))
@@ -239,7 +239,7 @@ module _ (asked : Asked) (s : List ℕ) where
     pub run_header : Run asked [] s response_least
     run_header = record { one = omega arith; few = omega arith; nothing_before = before_header }
 
-    pub run_whole : first_of (header_tests asked (response_of s)) ≡ none → Run asked [] s (response_least + (response_of s).content_length)
+    pub run_whole : first_of (header_tests asked (response_of s)) ≡ None → Run asked [] s (response_least + (response_of s).content_length)
     run_whole c =
         let few = content_few asked (response_of s) s c in
         record {

@@ -1,13 +1,11 @@
 -- Laws of looking at the bytes held: places moved, a header checked, a body read.
+use Rattle.std.proofs.Common.{Option, Some, None, Result, Ok, Err}
 use mathlib.Core.Path.{◌≡◌, refl, sym, ap, ◌∙◌}
 use Prim.Native.Nat.{ℕ, ◌+◌, ◌-◌, ◌≤◌}
-use mathlib.Core.Bool.{Bool, true, false}
-use mathlib.Core.Option.{Option, none, some}
-use mathlib.Core.List.{List, ◌∷◌}
+use mathlib.Core.List.{List}
 use native.Mathlib.Omega.{arith}
 use lib.ListN.{length, take, drop}
 use lib.Seq.{drop-drop}
-use Rattle.wire.specs.Choice.{first_of}
 use Rattle.wire.specs.Numbers.{field}
 use Rattle.wire.specs.Response.{response_least}
 use Rattle.wire.proofs.ListLaws.{length_part, part_of_part}
@@ -15,19 +13,16 @@ use Rattle.messages.specs.Formats.{format_of}
 use Rattle.messages.specs.Operations.{Output, providers, opcodes, exported, answer_of}
 use Rattle.messages.specs.Placed.{span_in, entries_of, list_in, output_in, read_in, SpanWithin, OutputWithin}
 use Rattle.messages.specs.declared.format.BodyFormat.{BodyFormat}
-use Rattle.messages.specs.declared.read.Span.{Span}
+use Rattle.wire.specs.declared.span.Span.{Span}
 use Rattle.messages.specs.declared.read.Output.{Output as OutputPlaces}
 use Rattle.messages.specs.declared.read.Output.TheVariants.{Nothing, Version, Providers, Opcodes, Data, Offset}
-use Rattle.messages.specs.declared.read.OutputRead.TheVariants.{Read, Unreadable}
 use Rattle.client_responses.specs.Reading.{response_content_most, Reply, answered, refused, of_output, body_reply}
 use Rattle.client_responses.specs.State.{count_at, bytes_at, state_size, bytes_in, said_of, said}
 use Rattle.client_responses.specs.Handed.{format_in}
-use Rattle.client_responses.specs.code.Looked.{body_at, span_moved, output_moved, check_of, Looked}
+use Rattle.client_responses.specs.code.Looked.{body_at, span_moved, output_moved, whole, Looked}
 use Rattle.client_responses.specs.declared.ReadRefusal.{ReadRefusal}
 use Rattle.client_responses.specs.declared.ReadRefusal.TheVariants.{UnreadableBody}
-use Rattle.client_responses.specs.declared.look.Said.{Said as SaidPlaces}
-use Rattle.client_responses.specs.declared.look.Said.TheVariants.{Waiting, Response, Refused}
-use Rattle.client_responses.specs.declared.look.HeaderCheck.TheVariants.{Passed, Refused as NotPassed}
+use Rattle.client_responses.specs.declared.look.Response.{Response}
 
 -- ---- places moved
 
@@ -63,35 +58,16 @@ within_more n most h (Opcodes span) w = omega arith
 within_more n most h (Data span) w = omega arith
 within_more n most h (Offset at) w = tt
 
--- ---- a header checked, test by test
-
-module _ (t : Bool) (refusal : ReadRefusal) (tests : List (Bool × ReadRefusal)) where
-  pub stops : t ≡ true → check_of (first_of ((t, refusal) ∷ tests)) ≡ NotPassed refusal
-  unfolding first_of
-  stops e = rw e
-
-  pub passes : t ≡ false → check_of (first_of ((t, refusal) ∷ tests)) ≡ check_of (first_of tests)
-  unfolding first_of
-  passes e = rw e
-
-pub passed : (o : Option ReadRefusal) → check_of o ≡ Passed → o ≡ none
-passed none e = refl
-passed (some r) e = absurd (let z : ◌≡◌ {A = ℕ} 0 1 = cc in omega arith)
-
-pub not_passed : (o : Option ReadRefusal) (r : ReadRefusal) → check_of o ≡ NotPassed r → o ≡ some r
-not_passed none r e = absurd (let z : ◌≡◌ {A = ℕ} 0 1 = cc in omega arith)
-not_passed (some q) r e = cc
-
 -- ---- what is said
 
 module _ (m : List ℕ) (reply : Option Reply) where
-  pub looked_waiting : reply ≡ none → Looked m reply Waiting
+  pub looked_waiting : reply ≡ None → Looked m reply (Ok None)
   looked_waiting e = record { said_is = ap said_of (sym e); within = tt }
 
-  pub looked_refused : (r : ReadRefusal) → reply ≡ some (refused r) → Looked m reply (Refused r)
+  pub looked_refused : (r : ReadRefusal) → reply ≡ Some (refused r) → Looked m reply (Err r)
   looked_refused r e = record { said_is = ap said_of (sym e); within = tt }
 
-  pub looked_as : (other : Option Reply) (r : SaidPlaces) → Looked m other r → reply ≡ other → Looked m reply r
+  pub looked_as : (other : Option Reply) (r : Result (Option Response) ReadRefusal) → Looked m other r → reply ≡ other → Looked m reply r
   looked_as other r l e = record { said_is = l.said_is ∙ ap said_of (sym e); within = l.within }
 
 -- ---- a body read
@@ -103,8 +79,8 @@ module _ (m : List ℕ) (size : length m ≡ state_size) (opcode status content 
   pub body_long : length body ≡ content
   body_long = length_part m body_at content (omega arith)
 
-  pub said_output : (output : OutputPlaces) → read_in (format_in m) body (Read output) ≡ answer_of (format_of (format_in m)) opcode status body → OutputWithin content output
-      → Looked m (some (body_reply (format_in m) opcode status body)) (Response (record { status = status; output = output_moved body_at output }))
+  pub said_output : (output : OutputPlaces) → read_in (format_in m) body (Some output) ≡ answer_of (format_of (format_in m)) opcode status body → OutputWithin content output
+      → Looked m (Some (body_reply (format_in m) opcode status body)) (whole (Ok (record { status = status; output = output_moved body_at output })))
   unfolding body_reply
   said_output output e w = record {
     said_is =
@@ -113,9 +89,9 @@ module _ (m : List ℕ) (size : length m ≡ state_size) (opcode status content 
     within = moved_within content body_at (length m) (omega arith) output w;
   }
 
-  pub said_unreadable : read_in (format_in m) body Unreadable ≡ answer_of (format_of (format_in m)) opcode status body → Looked m (some (body_reply (format_in m) opcode status body)) (Refused UnreadableBody)
+  pub said_unreadable : read_in (format_in m) body None ≡ answer_of (format_of (format_in m)) opcode status body → Looked m (Some (body_reply (format_in m) opcode status body)) (whole (Err UnreadableBody))
   unfolding body_reply
-  said_unreadable e = looked_refused m _ UnreadableBody (ap (λ (o : Option Output). some (of_output status o)) (sym e))
+  said_unreadable e = looked_refused m _ UnreadableBody (ap (λ (o : Option Output). Some (of_output status o)) (sym e))
 
 -- ---- the bytes held, as the code lends them
 

@@ -1,15 +1,15 @@
 -- A RESPONSE READ IN PIECES by the code: its calls are the definition's, so that the cut theorem speaks of them.
+use Rattle.std.proofs.Common.{Option, Some, None, is_some}
 use mathlib.Core.Path.{◌≡◌, refl, sym, ap, ap₂, subst, ◌∙◌}
 use Prim.Native.Nat.{ℕ}
 use mathlib.Core.Bool.{true, false, true≢false}
-use mathlib.Core.Option.{Option, none, some}
 use mathlib.Core.List.{List, [], ◌∷◌, ◌++◌, append-nil, append_assoc}
 use native.Mathlib.Omega.{arith}
 use borrow.Author.Tests.{ne_eqb}
 use lib.ListN.{take}
 use lib.Seq.{take-length}
 use lib.Dec.{eqb}
-use Rattle.wire.specs.Choice.{when◌then◌else◌, is_some}
+use Rattle.wire.specs.Choice.{when◌then◌else◌}
 use Rattle.reading.specs.Reader.{Reader, read}
 use Rattle.reading.specs.Call.{Effect, call_rule}
 use Rattle.reading.specs.Calls.{Call, took, call_on, taken_stream}
@@ -26,12 +26,12 @@ use Rattle.client_responses.proofs.ReadLaws.{outcome, outcome_refused}
 use Rattle.client_responses.proofs.CutLaws.{Fits, none_of, sound, call_fits, call_leaves, begun, begin_leaves}
 
 reply_back : (o : Option Reply) → reply_in (said_of o) ≡ o
-reply_back none = refl
-reply_back (some reply) = refl
+reply_back None = refl
+reply_back (Some reply) = refl
 
-not_refused : (o : Option Reply) → refusal_in (said_of o) ≡ none
-not_refused none = refl
-not_refused (some reply) = refl
+not_refused : (o : Option Reply) → refusal_in (said_of o) ≡ None
+not_refused None = refl
+not_refused (Some reply) = refl
 
 module _ (asked : Asked) where
   abbrev R : Reader (List ℕ) Reply
@@ -39,27 +39,27 @@ module _ (asked : Asked) where
 
   -- ---- what a call brings is what is found in the bytes after it
 
-  going : (s : List ℕ) → found asked s ≡ none → R.ended s ≡ false
-  unfolding response_reader is_some
+  going : (s : List ℕ) → found asked s ≡ None → R.ended s ≡ false
+  unfolding response_reader
   going s e = ap is_some e
 
-  not_ended : (s : List ℕ) → R.ended s ≡ false → found asked s ≡ none
+  not_ended : (s : List ℕ) → R.ended s ≡ false → found asked s ≡ None
   unfolding response_reader
   not_ended s e = none_of (found asked s) e
 
-  brought : (chunk s : List ℕ) → found asked s ≡ none → found asked (call_rule R s chunk).kept ≡ (call_rule R s chunk).event
+  brought : (chunk s : List ℕ) → found asked s ≡ None → found asked (call_rule R s chunk).kept ≡ (call_rule R s chunk).event
   unfolding call_rule response_reader
   brought [] s e = e
   brought (b ∷ chunk) s e = go (λ h. brought chunk (R.byte s b).kept h) (first R s b)
     where
-      go : (found asked (R.byte s b).kept ≡ none → found asked (call_rule R (R.byte s b).kept chunk).kept ≡ (call_rule R (R.byte s b).kept chunk).event)
+      go : (found asked (R.byte s b).kept ≡ None → found asked (call_rule R (R.byte s b).kept chunk).kept ≡ (call_rule R (R.byte s b).kept chunk).event)
           → First R s b → found asked (call_rule R s (b ∷ chunk)).kept ≡ (call_rule R s (b ∷ chunk)).event
       go ih (past p) = absurd (true≢false (sym p ∙ going s e))
       go ih (brings p v h) = rw (call_event R s b chunk p v h) h
       go ih (on p h) = rw (call_on_lem R s b chunk p h) (ih h)
 
   -- if it takes a byte; else it brings nothing
-  gives : (s chunk : List ℕ) → (when eqb (call_rule R s chunk).taken 0 then none else found asked (call_rule R s chunk).kept) ≡ (call_rule R s chunk).event
+  gives : (s chunk : List ℕ) → (when eqb (call_rule R s chunk).taken 0 then None else found asked (call_rule R s chunk).kept) ≡ (call_rule R s chunk).event
   unfolding call_rule
   gives s [] = refl
   gives s (b ∷ chunk) =
@@ -106,7 +106,7 @@ module _ (asked : Asked) where
           answer = record {
             refusal = not_refused (found asked c.kept) i;
             taken = c.taken;
-            given = (ap (λ (o : Option Reply). when eqb c.taken 0 then none else o) (reply_back (found asked c.kept)) ∙ gives s call.chunk) i;
+            given = (ap (λ (o : Option Reply). when eqb c.taken 0 then None else o) (reply_back (found asked c.kept)) ∙ gives s call.chunk) i;
           };
           memory = state_bytes asked c.kept;
         })

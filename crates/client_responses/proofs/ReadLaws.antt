@@ -1,17 +1,13 @@
 -- Laws of a call: the bytes of the chunk that it takes on, a run at a time, and what it then comes to.
+use Rattle.std.proofs.Common.{Option, Some, None, Result, Ok, Err, is_some}
 use mathlib.Core.Path.{◌≡◌, refl, sym, ap, ap₂, subst, ◌∙◌}
 use Prim.Native.Nat.{ℕ, zero, suc, ◌+◌, ◌≤◌, ◌<◌}
-use mathlib.Core.Bool.{true, false}
-use mathlib.Core.Option.{Option, none, some}
+use mathlib.Core.Bool.{true, false, true≢false, false≢true}
 use mathlib.Core.List.{List, [], ◌∷◌, ◌++◌, append_assoc, append-nil}
 use native.Mathlib.Omega.{arith}
-use mathlib.Core.Logic.{inl, inr}
-use denote.Enum.Declared.{tag_of}
-use types.Run.{OneOf}
 use native.Mathlib.Decide.{dec_lt}
-use lib.ListN.{length, take, drop, get_or, length-append}
+use lib.ListN.{length, take, drop, get_or, length-append, length-drop}
 use lib.Seq.{take-suc, take-add, length-take-le}
-use Rattle.wire.specs.Choice.{is_some}
 use Rattle.wire.specs.Lists.{all}
 use Rattle.wire.proofs.NumberLaws.{is_byte}
 use Rattle.wire.proofs.TestLaws.{some≢none}
@@ -22,44 +18,41 @@ use Rattle.reading.proofs.CallLaws.{Passed, pass_none, pass_run, stop_byte, stop
 use Rattle.client_responses.specs.Reading.{Asked, Reply, found, response_reader}
 use Rattle.client_responses.specs.State.{response_most, state_size, state_bytes, asked_in, bytes_in, layout, well_formed_state, ill_formed, waiting, said_of, ReadOutcome, refusal, read_outcome}
 use Rattle.client_responses.specs.Handed.{said_in, handed}
-use Rattle.client_responses.specs.code.Looked.{Looked, Holding, Filled}
-use Rattle.client_responses.specs.declared.look.Said.{Said as SaidPlaces}
-use Rattle.client_responses.specs.declared.look.Said.TheVariants.{IllFormed, Waiting, Response, Refused}
-use Rattle.client_responses.specs.contracts.look.Said.{the_type}
+use Rattle.client_responses.specs.code.Looked.{is_waiting, said_as, answered_as, Looked, Holding, Filled}
+use Rattle.client_responses.specs.declared.ReadRefusal.{ReadRefusal}
+use Rattle.client_responses.specs.declared.look.Response.{Response}
 use Rattle.client_responses.proofs.StateLaws.{Listed, asked_back, held_back, size_there, well_there, Well, well, memory_is}
 use Rattle.client_responses.proofs.FoundLaws.{wanted}
 
 -- ---- what is said
 
-waits : (m : List ℕ) (r : SaidPlaces) → said_in m r ≡ waiting → r ≡ Waiting
-waits m IllFormed e = absurd (let z : ◌≡◌ {A = ℕ} 0 1 = cc in omega arith)
-waits m Waiting e = refl
-waits m (Response x) e = absurd (let z : ◌≡◌ {A = ℕ} 0 1 = cc in omega arith)
-waits m (Refused x) e = absurd (let z : ◌≡◌ {A = ℕ} 0 1 = cc in omega arith)
+pub none_awaited : (r : Result (Option Response) ReadRefusal) → is_waiting r ≡ true → r ≡ Ok None
+none_awaited (Ok None) e = refl
+none_awaited (Ok (Some x)) e = absurd (false≢true e)
+none_awaited (Err x) e = absurd (false≢true e)
 
--- what is said to be another is not waiting
-pub not_waiting : (r : SaidPlaces) → OneOf (0 ∷ (2 ∷ (3 ∷ []))) (tag_of the_type r) → r ≡ Waiting → ⊥
-not_waiting r w e = go (subst (OneOf (0 ∷ (2 ∷ (3 ∷ [])))) (ap (tag_of the_type) e) w)
-  where
-    go : OneOf (0 ∷ (2 ∷ (3 ∷ []))) 1 → ⊥
-    go (inl p) = omega arith
-    go (inr (inl p)) = omega arith
-    go (inr (inr p)) = omega arith
+pub some_told : (r : Result (Option Response) ReadRefusal) → is_waiting r ≡ false → r ≡ Ok None → ⊥
+some_told r e w = true≢false (ap is_waiting (sym w) ∙ e)
 
-none_of : (o : Option Reply) → waiting ≡ said_of o → o ≡ none
-none_of none e = refl
-none_of (some x) e = absurd (let z : ◌≡◌ {A = ℕ} 0 1 = cc in omega arith)
+waits : (m : List ℕ) (r : Result (Option Response) ReadRefusal) → said_in m (said_as r) ≡ waiting → r ≡ Ok None
+waits m (Ok None) e = refl
+waits m (Ok (Some x)) e = absurd (let z : ◌≡◌ {A = ℕ} 0 1 = cc in omega arith)
+waits m (Err x) e = absurd (let z : ◌≡◌ {A = ℕ} 0 1 = cc in omega arith)
 
-module _ {m : List ℕ} {o : Option Reply} {r : SaidPlaces} (l : Looked m o r) where
-  pub told_waiting : r ≡ Waiting → o ≡ none
-  told_waiting e = none_of o (ap (said_in m) (sym e) ∙ l.said_is)
+none_of : (o : Option Reply) → waiting ≡ said_of o → o ≡ None
+none_of None e = refl
+none_of (Some x) e = absurd (let z : ◌≡◌ {A = ℕ} 0 1 = cc in omega arith)
 
-  pub told_none : o ≡ none → r ≡ Waiting
+module _ {m : List ℕ} {o : Option Reply} {r : Result (Option Response) ReadRefusal} (l : Looked m o r) where
+  pub told_waiting : r ≡ Ok None → o ≡ None
+  told_waiting e = none_of o (ap (λ (x : Result (Option Response) ReadRefusal). said_in m (said_as x)) (sym e) ∙ l.said_is)
+
+  pub told_none : o ≡ None → r ≡ Ok None
   told_none e = waits m r (l.said_is ∙ ap said_of e)
 
 -- ---- a state that holds the beginning of a response
 
-pub holding_of : (asked : Asked) (held memory : List ℕ) → memory ≡ state_bytes asked held → Listed asked → found asked held ≡ none → Holding memory
+pub holding_of : (asked : Asked) (held memory : List ℕ) → memory ≡ state_bytes asked held → Listed asked → found asked held ≡ None → Holding memory
 holding_of asked held memory e listed none' =
     let w = wanted asked held none' in
     let more = w.more in
@@ -83,8 +76,8 @@ module _ (m chunk : List ℕ) where
 
   abbrev of_call : CallOutcome (List ℕ) (Unit {0}) (Option Reply) → ReadOutcome
   of_call o = elim o.answer.refusal [
-    | some code ↦ record { said = ill_formed; taken = 0; memory = m }
-    | none ↦ record { said = said_of (found asked (bytes_in o.memory)); taken = o.answer.taken; memory = o.memory }
+    | Some code ↦ record { said = ill_formed; taken = 0; memory = m }
+    | None ↦ record { said = said_of (found asked (bytes_in o.memory)); taken = o.answer.taken; memory = o.memory }
   ]
 
   by_call : read_outcome m chunk ≡ of_call (call_on (response_reader asked) (layout asked) refusal m call)
@@ -118,14 +111,14 @@ module _ (m chunk : List ℕ) where
       })
 
   -- bytes that a response or a refusal was read from: nothing is taken, and the same is said again
-  pub outcome_past : Well m → well_formed_state m ≡ true → all is_byte m ≡ true → (r : SaidPlaces) → Looked m (found asked (bytes_in m)) r → (r ≡ Waiting → ⊥)
-      → handed m (record { said = r; taken = 0 }) ≡ read_outcome m chunk
-  unfolding response_reader is_some
+  pub outcome_past : Well m → well_formed_state m ≡ true → all is_byte m ≡ true → (r : Result (Option Response) ReadRefusal) → Looked m (found asked (bytes_in m)) r → (r ≡ Ok None → ⊥)
+      → handed m (answered_as r 0) ≡ read_outcome m chunk
+  unfolding response_reader
   outcome_past w g bytes r l other = go (found asked (bytes_in m)) refl
     where
-      go : (o : Option Reply) → found asked (bytes_in m) ≡ o → handed m (record { said = r; taken = 0 }) ≡ read_outcome m chunk
-      go none e = absurd (other (told_none l e))
-      go (some v) e =
+      go : (o : Option Reply) → found asked (bytes_in m) ≡ o → handed m (answered_as r 0) ≡ read_outcome m chunk
+      go None e = absurd (other (told_none l e))
+      go (Some v) e =
           let past = call_past (response_reader asked) (bytes_in m) chunk (ap is_some e) in
           (λ i. record { said = l.said_is i; taken = 0; memory = memory_is m w bytes i })
           ∙ sym (outcome g 0 (bytes_in m) (ap (λ (x : Effect (List ℕ) Reply). x.taken) past) (ap (λ (x : Effect (List ℕ) Reply). x.kept) past))
@@ -148,8 +141,8 @@ module _ (asked : Asked) (held chunk : List ℕ) where
   kept_long : (n : ℕ) → n ≤ length chunk → length (kept n) ≡ length held + n
   kept_long n h = length-append held (take n chunk) ∙ ap (λ (k : ℕ). length held + k) (length-take-le n chunk h)
 
-  going : (n : ℕ) → found asked (kept n) ≡ none → R.ended (kept n) ≡ false
-  unfolding response_reader is_some
+  going : (n : ℕ) → found asked (kept n) ≡ None → R.ended (kept n) ≡ false
+  unfolding response_reader
   going n e = ap is_some e
 
   byte_brings : (n : ℕ) (o : Option Reply) → n < length chunk → found asked (kept (suc n)) ≡ o → R.byte (kept n) (get_or chunk n 0) ≡ record { kept = kept (suc n); event = o }
@@ -160,10 +153,10 @@ module _ (asked : Asked) (held chunk : List ℕ) where
   pub record Part (memory : List ℕ) (used : ℕ) : Type 0 where
     pub left : used ≤ length chunk
     pub memory_is : memory ≡ state_bytes asked (kept used)
-    pub begun : found asked (kept used) ≡ none
+    pub begun : found asked (kept used) ≡ None
     pub passed : Passed R held chunk used (kept used)
 
-  pub part_none : (memory : List ℕ) → memory ≡ state_bytes asked held → found asked held ≡ none → Part memory 0
+  pub part_none : (memory : List ℕ) → memory ≡ state_bytes asked held → found asked held ≡ None → Part memory 0
   part_none memory e b =
       let same : held ≡ kept 0 = sym (append-nil held) in
       record {
@@ -184,7 +177,10 @@ module _ (asked : Asked) (held chunk : List ℕ) where
     part_bytes = ap bytes_in p.memory_is ∙ held_back asked (kept used)
 
     -- k bytes more
-    module _ (after : List ℕ) (k : ℕ) (f : Filled memory chunk used after k) where
+    module _ (after : List ℕ) (k : ℕ) (f : Filled memory (drop used chunk) after k) where
+      left_is : used + k ≤ length chunk
+      left_is = omega (arith, f.left, p.left, length-drop used chunk)
+
       after_is : after ≡ state_bytes asked (kept (used + k))
       after_is = f.after_is ∙ ap₂ state_bytes part_asked (ap (λ (l : List ℕ). l ++ take k (drop used chunk)) part_bytes ∙ kept_more used k)
 
@@ -192,7 +188,7 @@ module _ (asked : Asked) (held chunk : List ℕ) where
       after_few =
           let few : length (kept used) + k ≤ response_most = subst (λ (l : List ℕ). length l + k ≤ response_most) part_bytes f.few in
           let l = kept_long used p.left in
-          let l' = kept_long (used + k) f.left in
+          let l' = kept_long (used + k) left_is in
           omega arith
 
       pub after_well : well_formed_state after ≡ true
@@ -202,7 +198,7 @@ module _ (asked : Asked) (held chunk : List ℕ) where
       after_size = ap length after_is ∙ size_there asked (kept (used + k)) after_few
 
       -- what is said of them
-      module _ (r : SaidPlaces) (l : Looked after (found (asked_in after) (bytes_in after)) r) where
+      module _ (r : Result (Option Response) ReadRefusal) (l : Looked after (found (asked_in after) (bytes_in after)) r) where
         after_asked : asked_in after ≡ asked
         after_asked = ap asked_in after_is ∙ asked_back asked (kept (used + k))
 
@@ -212,64 +208,64 @@ module _ (asked : Asked) (held chunk : List ℕ) where
         looked : Looked after (found asked (kept (used + k))) r
         looked = record { said_is = l.said_is ∙ ap said_of (ap₂ found after_asked after_bytes); within = l.within }
 
-        none_before : (j : ℕ) → j < k → found asked (kept (used + j)) ≡ none
+        none_before : (j : ℕ) → j < k → found asked (kept (used + j)) ≡ None
         none_before j h =
             ap (found asked) (sym (kept_more used j))
             ∙ sym (ap₂ (λ (a : Asked) (l : List ℕ). found a (l ++ take j (drop used chunk))) part_asked part_bytes)
             ∙ f.nothing_before j h
 
-        module _ (j : ℕ) (h : j ≤ k) (e : found asked (kept (used + j)) ≡ none) where
-          nones : (i : ℕ) → i ≤ j → found asked (kept (used + i)) ≡ none
+        module _ (j : ℕ) (h : j ≤ k) (e : found asked (kept (used + j)) ≡ None) where
+          nones : (i : ℕ) → i ≤ j → found asked (kept (used + i)) ≡ None
           nones i g = elim (dec_lt i k) [
             | yes q ↦ none_before i q
-            | no q ↦ subst (λ (n : ℕ). found asked (kept (used + n)) ≡ none) (let x : j ≡ i = omega arith in x) e
+            | no q ↦ subst (λ (n : ℕ). found asked (kept (used + n)) ≡ None) (let x : j ≡ i = omega arith in x) e
           ]
 
           passes : Passed R held chunk (used + j) (kept (used + j))
           passes =
-              let fits = f.left in
+              let fits = left_is in
               pass_run R (λ i. kept (used + i))
               (subst (λ (n : ℕ). Passed R held chunk used (kept n)) (let x : used ≡ used + 0 = omega arith in x) p.passed)
               j (omega arith) (λ i g. going (used + i) (nones i (omega arith)))
               (λ i g.
               let next : suc (used + i) ≡ used + suc i = omega arith in
-              subst (λ (n : ℕ). R.byte (kept (used + i)) (get_or chunk (used + i) 0) ≡ record { kept = kept n; event = none }) next
-              (byte_brings (used + i) none (omega arith) (subst (λ (n : ℕ). found asked (kept n) ≡ none) (sym next) (nones (suc i) (omega arith)))))
+              subst (λ (n : ℕ). R.byte (kept (used + i)) (get_or chunk (used + i) 0) ≡ record { kept = kept n; event = None }) next
+              (byte_brings (used + i) None (omega arith) (subst (λ (n : ℕ). found asked (kept n) ≡ None) (sym next) (nones (suc i) (omega arith)))))
 
-        pub part_again : r ≡ Waiting → Part after (used + k)
+        pub part_again : r ≡ Ok None → Part after (used + k)
         part_again e =
             let none' = told_waiting looked e in
-            record { left = f.left; memory_is = after_is; begun = none'; passed = passes k (omega arith) none' }
+            record { left = left_is; memory_is = after_is; begun = none'; passed = passes k (omega arith) none' }
 
         -- so many bytes are taken, and they are kept
         record Stop : Type 0 where
           taken : (call_rule R held chunk).taken ≡ used + k
           kept_is : (call_rule R held chunk).kept ≡ kept (used + k)
 
-        stop : (r ≡ Waiting → length chunk ≤ used + k) → Stop
+        stop : (r ≡ Ok None → length chunk ≤ used + k) → Stop
         stop all' = go (found asked (kept (used + k))) refl
           where
             stops_with : (o : Option Reply) → call_rule R held chunk ≡ record { taken = used + k; event = o; kept = kept (used + k) } → Stop
             stops_with o e = record { taken = ap (λ (x : Effect (List ℕ) Reply). x.taken) e; kept_is = ap (λ (x : Effect (List ℕ) Reply). x.kept) e }
 
-            last : (v : Reply) (j : ℕ) → k ≡ suc j → found asked (kept (used + k)) ≡ some v → Stop
+            last : (v : Reply) (j : ℕ) → k ≡ suc j → found asked (kept (used + k)) ≡ Some v → Stop
             last v j e q =
-                let fits = f.left in
+                let fits = left_is in
                 let none' = none_before j (omega arith) in
                 let next : used + k ≡ suc (used + j) = omega arith in
                 let one : used + j + 1 ≡ used + k = omega arith in
-                stops_with (some v)
+                stops_with (Some v)
                 (stop_byte R (passes j (omega arith) none') (omega arith) (going (used + j) none') (kept (suc (used + j))) v
-                (byte_brings (used + j) (some v) (omega arith) (subst (λ (n : ℕ). found asked (kept n) ≡ some v) next q))
-                ∙ (λ i. record { taken = one i; event = some v; kept = kept (sym next i) }))
+                (byte_brings (used + j) (Some v) (omega arith) (subst (λ (n : ℕ). found asked (kept n) ≡ Some v) next q))
+                ∙ (λ i. record { taken = one i; event = Some v; kept = kept (sym next i) }))
 
             go : (o : Option Reply) → found asked (kept (used + k)) ≡ o → Stop
-            go none e = stops_with none (stop_all R (passes k (omega arith) e) (all' (told_none looked e)))
-            go (some v) e = step k refl
+            go None e = stops_with None (stop_all R (passes k (omega arith) e) (all' (told_none looked e)))
+            go (Some v) e = step k refl
               where
                 step : (n : ℕ) → k ≡ n → Stop
                 step zero z =
-                    absurd (some≢none v (sym e ∙ subst (λ (n : ℕ). found asked (kept n) ≡ none) (let x : used ≡ used + k = omega arith in x) p.begun))
+                    absurd (some≢none v (sym e ∙ subst (λ (n : ℕ). found asked (kept n) ≡ None) (let x : used ≡ used + k = omega arith in x) p.begun))
                 step (suc j) z = last v j z e
 
 -- ---- a call that takes bytes on, from its first byte to where it stops
@@ -278,9 +274,9 @@ module _ (m chunk : List ℕ) (w : well_formed_state m ≡ true) where
   abbrev Begin : (memory : List ℕ) (used : ℕ) → Type 0
   Begin memory used = Part (asked_in m) (bytes_in m) chunk memory used
 
-  module _ (memory : List ℕ) (used : ℕ) (p : Begin memory used) (after : List ℕ) (k : ℕ) (f : Filled memory chunk used after k)
-      (r : SaidPlaces) (l : Looked after (found (asked_in after) (bytes_in after)) r) where
-    pub part_stops : (r ≡ Waiting → length chunk ≤ used + k) → handed after (record { said = r; taken = used + k }) ≡ read_outcome m chunk
+  module _ (memory : List ℕ) (used : ℕ) (p : Begin memory used) (after : List ℕ) (k : ℕ) (f : Filled memory (drop used chunk) after k)
+      (r : Result (Option Response) ReadRefusal) (l : Looked after (found (asked_in after) (bytes_in after)) r) where
+    pub part_stops : (r ≡ Ok None → length chunk ≤ used + k) → handed after (answered_as r (used + k)) ≡ read_outcome m chunk
     part_stops all' =
         let listed = (well m w).listed in
         let s = stop (asked_in m) (bytes_in m) chunk listed memory used p after k f r l all' in

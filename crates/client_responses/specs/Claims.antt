@@ -1,6 +1,5 @@
 -- What is claimed of the reader of a response and of its code: types, no proof.
-use Rattle.std.specs.Prelude.{◌≡◌, ℕ, true, false, List, [], ◌∷◌, eqb}
-use Rattle.std.proofs.Math.Option.{Option, none, some}
+use Rattle.std.specs.Prelude.{◌≡◌, ℕ, true, false, List, [], ◌∷◌, eqb, Option, Some, None, Ok}
 use Rattle.wire.specs.Choice.{when◌then◌else◌}
 use Rattle.reading.specs.Reader.{read}
 use Rattle.reading.specs.Calls.{Call, CallOutcome, taken_stream}
@@ -8,7 +7,6 @@ use Rattle.reading.specs.Claims.{answers_in, left_after, Runs, Cut}
 use Rattle.client_responses.specs.Reading.{Asked, Reply, found, response_reader}
 use Rattle.client_responses.specs.State.{state_bytes, layout, well_formed_state, begin_state, Said, ill_formed, waiting, said, said_of, ReadOutcome, refusal, read_outcome}
 use Rattle.client_responses.specs.Handed.{handed, ReadContract}
-use Rattle.client_responses.specs.declared.Begun.TheVariants.{Fresh}
 use Rattle.client_responses.specs.declared.read.ReadAnswer.{ReadAnswer}
 
 -- ---- calls of `client_responses::read::read`: what each returned, and the memory that it left
@@ -25,19 +23,19 @@ abbrev pub outcome_of : ReadRun → ReadOutcome
 outcome_of r = handed r.memory r.says
 
 abbrev pub refusal_in : Said → Option (Unit {0})
-refusal_in ill_formed = some tt
-refusal_in waiting = none
-refusal_in (said reply) = none
+refusal_in ill_formed = Some tt
+refusal_in waiting = None
+refusal_in (said reply) = None
 
 abbrev pub reply_in : Said → Option Reply
-reply_in ill_formed = none
-reply_in waiting = none
-reply_in (said reply) = some reply
+reply_in ill_formed = None
+reply_in waiting = None
+reply_in (said reply) = Some reply
 
 -- as `reading` has a call: the reply is given by the one that takes its last byte; those behind it take none and say it again
 abbrev pub as_call : ReadOutcome → CallOutcome (List ℕ) (Unit {0}) (Option Reply)
 as_call o = record {
-  answer = record { refusal = refusal_in o.said; taken = o.taken; given = when eqb o.taken 0 then none else reply_in o.said };
+  answer = record { refusal = refusal_in o.said; taken = o.taken; given = when eqb o.taken 0 then None else reply_in o.said };
   memory = o.memory;
 }
 
@@ -68,11 +66,11 @@ pub record ReadsInPieces (asked : Asked) (fresh : List ℕ) : Type 1 where
 
 -- for every request begun
 abbrev pub InPieces : Type 1
-InPieces = (memory : List ℕ) (asked : Asked) → (begin_state memory asked).answer ≡ Fresh → ReadsInPieces asked (begin_state memory asked).memory
+InPieces = (memory : List ℕ) (asked : Asked) → (begin_state memory asked).answer ≡ Ok tt → ReadsInPieces asked (begin_state memory asked).memory
 
 -- ---- no call and no beginning leaves an ill-formed state, and of one nothing is taken and nothing changes
 
 pub record KeepsStates : Type 0 where
   pub call : (memory chunk : List ℕ) → well_formed_state memory ≡ true → well_formed_state (read_outcome memory chunk).memory ≡ true
-  pub begin : (memory : List ℕ) (asked : Asked) → (begin_state memory asked).answer ≡ Fresh → well_formed_state (begin_state memory asked).memory ≡ true
+  pub begin : (memory : List ℕ) (asked : Asked) → (begin_state memory asked).answer ≡ Ok tt → well_formed_state (begin_state memory asked).memory ≡ true
   pub ill_formed_lem : (memory chunk : List ℕ) → well_formed_state memory ≡ false → read_outcome memory chunk ≡ record { said = ill_formed; taken = 0; memory = memory }

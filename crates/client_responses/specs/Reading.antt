@@ -1,7 +1,6 @@
 -- A response read, uncut (document 02, "The client's half").
-use Rattle.std.specs.Prelude.{ℕ, ◌+◌, Bool, not, ◌&&◌, ◌||◌, List, [], ◌∷◌, ◌++◌, length, take, drop, ltb, eqb}
-use Rattle.std.proofs.Math.Option.{Option, none, some}
-use Rattle.wire.specs.Choice.{when◌then◌else◌, first_of, is_some}
+use Rattle.std.specs.Prelude.{ℕ, ◌+◌, Bool, not, ◌&&◌, ◌||◌, List, [], ◌∷◌, ◌++◌, length, take, drop, ltb, eqb, Option, Some, None, is_some}
+use Rattle.wire.specs.Choice.{when◌then◌else◌, first_of}
 use Rattle.wire.specs.Lists.{every, one_of}
 use Rattle.wire.specs.Request.{magic_number, magic, header_size}
 use Rattle.wire.specs.Response.{response_header_size, response_least, response_of}
@@ -11,14 +10,10 @@ use Rattle.messages.specs.Formats.{format_of, format_for}
 use Rattle.messages.specs.Opcodes.{core_opcodes}
 use Rattle.messages.specs.Operations.{Output, answer_of}
 use Rattle.messages.specs.declared.format.BodyFormat.{BodyFormat}
+-- the request that is answered: its opcode, session and accept type
+pub use Rattle.client_responses.specs.declared.Asked.{Asked}
 use Rattle.client_responses.specs.declared.ReadRefusal.{ReadRefusal}
 use Rattle.client_responses.specs.declared.ReadRefusal.TheVariants.{WrongMagic, WrongHeaderSize, WrongVersion, WrongContentType, NotItsRequests, ContentTooLong, UnreadableBody}
-
--- the request that is answered
-pub record Asked : Type 0 where
-  pub opcode : ℕ
-  pub session : ℕ
-  pub accept_type : ℕ
 
 -- provider 0 is core, 1 keystore
 abbrev pub provider_for : (opcode : ℕ) → ℕ
@@ -60,8 +55,8 @@ header_tests asked h =
 -- ---- the body, once it is whole
 
 abbrev pub of_output : (status : ℕ) → Option Output → Reply
-of_output status none = refused UnreadableBody
-of_output status (some output) = answered status output
+of_output status None = refused UnreadableBody
+of_output status (Some output) = answered status output
 
 unfoldable pub body_reply : BodyFormat → (opcode status : ℕ) (body : List ℕ) → Reply
 body_reply format opcode status body = of_output status (answer_of (format_of format) opcode status body)
@@ -71,18 +66,18 @@ body_reply format opcode status body = of_output status (answer_of (format_of fo
 -- behind a whole header
 unfoldable pub found_behind : Asked → ResponseHeader → (bytes : List ℕ) → Option Reply
 found_behind asked h bytes = elim (first_of (header_tests asked h)) [
-  | some refusal ↦ some (refused refusal)
-  | none ↦
-      when ltb (length bytes) (response_least + h.content_length) then none
-      else some (body_reply (format_for asked.accept_type) asked.opcode h.status (take h.content_length (drop response_least bytes)))
+  | Some refusal ↦ Some (refused refusal)
+  | None ↦
+      when ltb (length bytes) (response_least + h.content_length) then None
+      else Some (body_reply (format_for asked.accept_type) asked.opcode h.status (take h.content_length (drop response_least bytes)))
 ]
 
 unfoldable pub found : Asked → (bytes : List ℕ) → Option Reply
 found asked bytes =
-    when ltb (length bytes) 6 then none
-    else when not (eqb (magic bytes) magic_number) then some (refused WrongMagic)
-    else when not (eqb (header_size bytes) response_header_size) then some (refused WrongHeaderSize)
-    else when ltb (length bytes) response_least then none
+    when ltb (length bytes) 6 then None
+    else when not (eqb (magic bytes) magic_number) then Some (refused WrongMagic)
+    else when not (eqb (header_size bytes) response_header_size) then Some (refused WrongHeaderSize)
+    else when ltb (length bytes) response_least then None
     else found_behind asked (response_of bytes) bytes
 
 -- THE READER: it keeps the bytes, and ends with a response or a refusal

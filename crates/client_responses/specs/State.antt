@@ -1,6 +1,5 @@
 -- A reader's state in memory, and a call on it (docs/LAYOUT.md).
-use Rattle.std.specs.Prelude.{ℕ, ◌+◌, Bool, List, [], ◌∷◌, ◌++◌, length, take, drop, leb, eqb}
-use Rattle.std.proofs.Math.Option.{Option, none, some}
+use Rattle.std.specs.Prelude.{ℕ, ◌+◌, Bool, List, [], ◌∷◌, ◌++◌, length, take, drop, leb, eqb, Option, Some, None, Result, Ok, Err}
 use Rattle.wire.specs.Choice.{when◌then◌else◌}
 use Rattle.wire.specs.Lists.{all, every, one_of, is_zero, padded}
 use Rattle.wire.specs.Numbers.{little_endian_of, field}
@@ -9,8 +8,8 @@ use Rattle.reading.specs.Calls.{Call, Layout, call_on}
 use Rattle.messages.specs.Opcodes.{core_opcodes, keystore_opcodes}
 use Rattle.messages.specs.Formats.{content_types}
 use Rattle.client_responses.specs.Reading.{Asked, response_content_most, Reply, found, response_reader}
-use Rattle.client_responses.specs.declared.Begun.{Begun}
-use Rattle.client_responses.specs.declared.Begun.TheVariants.{Fresh, WrongSize, UnlistedOpcode, UnlistedType}
+use Rattle.client_responses.specs.declared.BeginRefusal.{BeginRefusal}
+use Rattle.client_responses.specs.declared.BeginRefusal.TheVariants.{WrongSize, UnlistedOpcode, UnlistedType}
 
 -- ---- how it lies in memory: the request's opcode, session and accept type, how many bytes are held, and they, with zeros behind
 
@@ -66,17 +65,17 @@ well_formed_state memory =
 -- ---- a state begun for a request
 
 pub record Beginning : Type 0 where
-  pub answer : Begun
+  pub answer : Result (Unit {0}) BeginRefusal
   pub memory : List ℕ
 
 unfoldable pub begin_state : (memory : List ℕ) → Asked → Beginning
 begin_state memory asked =
     when eqb (length memory) state_size then
     (when one_of (core_opcodes ++ keystore_opcodes) asked.opcode then
-    (when one_of content_types asked.accept_type then record { answer = Fresh; memory = state_bytes asked [] }
-    else record { answer = UnlistedType; memory = memory })
-    else record { answer = UnlistedOpcode; memory = memory })
-    else record { answer = WrongSize; memory = memory }
+    (when one_of content_types asked.accept_type then record { answer = Ok tt; memory = state_bytes asked [] }
+    else record { answer = Err UnlistedType; memory = memory })
+    else record { answer = Err UnlistedOpcode; memory = memory })
+    else record { answer = Err WrongSize; memory = memory }
 
 -- ---- A CALL'S WHOLE OUTCOME
 
@@ -86,8 +85,8 @@ pub data Said : Type 0 where
   said : Reply → Said
 
 abbrev pub said_of : Option Reply → Said
-said_of none = waiting
-said_of (some reply) = said reply
+said_of None = waiting
+said_of (Some reply) = said reply
 
 pub record ReadOutcome : Type 0 where
   pub said : Said
@@ -96,7 +95,7 @@ pub record ReadOutcome : Type 0 where
 
 -- an ill-formed state is refused: nothing is taken and nothing changes
 unfoldable pub refusal : (memory : List ℕ) → Call (Unit {0}) → Option (Unit {0})
-refusal memory call = when well_formed_state memory then none else some tt
+refusal memory call = when well_formed_state memory then None else Some tt
 
 -- what is said is told by the bytes that are held after the call
 unfoldable pub read_outcome : (memory chunk : List ℕ) → ReadOutcome
@@ -104,6 +103,6 @@ read_outcome memory chunk =
     let asked = asked_in memory in
     let o = call_on (response_reader asked) (layout asked) refusal memory (record { chunk = chunk; lent = tt }) in
     elim o.answer.refusal [
-      | some code ↦ record { said = ill_formed; taken = 0; memory = memory }
-      | none ↦ record { said = said_of (found asked (bytes_in o.memory)); taken = o.answer.taken; memory = o.memory }
+      | Some code ↦ record { said = ill_formed; taken = 0; memory = memory }
+      | None ↦ record { said = said_of (found asked (bytes_in o.memory)); taken = o.answer.taken; memory = o.memory }
     ]

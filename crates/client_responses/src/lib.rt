@@ -5,23 +5,37 @@ pub mod look;
 pub mod read;
 pub mod state;
 
-// Why a response is not read; the first that applies.
+// The request that is answered.
 #[derive(Clone, Copy)]
-pub enum ReadRefusal {
-    WrongMagic,
-    WrongHeaderSize,
-    WrongVersion,
-    WrongContentType,
-    NotItsRequests,
-    ContentTooLong,
-    UnreadableBody,
+pub struct Asked {
+    pub opcode: u16,
+    pub session: u64,
+    pub accept_type: u8,
 }
 
-// What beginning to read a response comes to.
+// Why a response is not read; the first that applies. Its number is the one that C is told.
 #[derive(Clone, Copy)]
-pub enum Begun {
-    Fresh,
-    WrongSize,
-    UnlistedOpcode,
-    UnlistedType,
+pub enum ReadRefusal {
+    WrongMagic = 3,
+    WrongHeaderSize = 4,
+    WrongVersion = 5,
+    WrongContentType = 6,
+    NotItsRequests = 7,
+    ContentTooLong = 8,
+    UnreadableBody = 9,
+}
+
+// Why no state is begun; the first that applies. Its number is the one that C is told.
+#[derive(Clone, Copy)]
+pub enum BeginRefusal {
+    WrongSize = 1,
+    UnlistedOpcode = 2,
+    UnlistedType = 3,
+}
+
+// Why a call says nothing of a response: the memory is no state, or the response is not read.
+#[derive(Clone, Copy)]
+pub enum ReadFault {
+    IllFormed,
+    Refused(ReadRefusal),
 }

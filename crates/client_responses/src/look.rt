@@ -1,23 +1,24 @@
 // What the bytes that a state holds are: the beginning of a response, a response, or none that is read (document 02, "The
 // client's half").
-ghost use Rattle.std.specs.Prelude.{◌≡◌, true, ◌||◌, [], ◌+◌, ◌≤◌, ◌<◌, length, take, drop};
-ghost use Rattle.std.proofs.Math.Option.{none, some};
+ghost use Rattle.std.specs.Prelude.{◌≡◌, true, ◌||◌, [], ◌+◌, ◌≤◌, ◌<◌, length, take, drop, Some, None};
+ghost use Rattle.std.specs.Result.{result_err};
 ghost use Rattle.wire.specs.Choice.{first_of};
 ghost use Rattle.wire.specs.Numbers.{field};
 ghost use Rattle.messages.specs.Placed.{OutputWithin, SpanWithin};
 ghost use Rattle.client_responses.specs.Reading.{provider_for, response_content_most, is_its, is_invalid_header, type_for, header_tests, body_reply, found_behind, found};
 ghost use Rattle.client_responses.specs.State.{count_at, bytes_at, response_most, state_size, asked_in, bytes_in, well_formed_state};
 ghost use Rattle.client_responses.specs.Handed.{format_in};
-ghost use Rattle.client_responses.specs.code.Looked.{body_at, span_moved, output_moved, check_of, wanted_of, Looked, Run};
+ghost use Rattle.client_responses.specs.code.Looked.{body_at, span_moved, output_moved, wanted_of, whole, Looked, Run};
 
-use crate::ReadRefusal;
-use crate::state::{BODY_AT, BYTES_AT, CONTENT_MOST, COUNT_AT, SESSION_AT, accept_type_of};
+use crate::state::{BODY_AT, BYTES_AT, CONTENT_MOST, COUNT_AT, accept_type_of, asked_in};
+use crate::{Asked, ReadRefusal};
 use messages::format::format_for;
 use messages::opcodes::is_core;
-use messages::read::{Output, OutputRead, Span, read_answer};
+use messages::read::{Output, read_answer};
 use wire::header::MAGIC;
-use wire::number::{read_u16, read_u32, read_u64};
+use wire::number::{read_u16, read_u32};
 use wire::response::{RESPONSE_HEADER_SIZE, RESPONSE_LEAST, ResponseHeader, read_response};
+use wire::span::Span;
 
 // The status's number, and the output, whose places are places in the state's memory.
 #[derive(Clone, Copy)]
@@ -26,104 +27,74 @@ pub struct Response {
     pub output: Output,
 }
 
-// What a call says.
-#[derive(Clone, Copy)]
-pub enum Said {
-    IllFormed,
-    Waiting,
-    Response(Response),
-    Refused(ReadRefusal),
-}
-
-// What a header alone decides.
-#[derive(Clone, Copy)]
-enum HeaderCheck {
-    Passed,
-    Refused(ReadRefusal),
-}
+// The status of a response to a request whose header could not be read.
+const INVALID_HEADER: u16 = 17;
 
 // The provider whose the opcode is.
 fn provider_for(opcode: u16) -> u8
     ensures { result ≡ provider_for opcode }
 {
-    if is_core(opcode) {
-        return 0;
-    }
-    1
+    if is_core(opcode) { 0 } else { 1 }
 }
 
 // Whether opcode, session and provider are the request's.
-fn is_its(opcode: u16, session: u64, h: ResponseHeader) -> bool
-    ensures { result ≡ is_its opcode session h }
+#[tactic(auto, unfolding(crate::specs::Reading::is_its))]
+fn is_its(asked: Asked, h: ResponseHeader) -> bool
+    ensures { result ≡ is_its asked.opcode asked.session h }
 {
-    if h.opcode != opcode {
-        return false;
-    }
-    if h.session != session {
-        return false;
-    }
-    h.provider == provider_for(opcode)
+    h.opcode == asked.opcode
+        && h.session == asked.session
+        && h.provider == provider_for(asked.opcode)
 }
 
 // Status 17 with opcode, session and provider zero and no content.
+#[tactic(auto, unfolding(crate::specs::Reading::is_invalid_header))]
 fn is_invalid_header(h: ResponseHeader) -> bool
     ensures { result ≡ is_invalid_header h }
 {
-    if h.status != 17 {
-        return false;
-    }
-    if h.opcode != 0 {
-        return false;
-    }
-    if h.session != 0 {
-        return false;
-    }
-    if h.provider != 0 {
-        return false;
-    }
-    h.content_length == 0
+    h.status == INVALID_HEADER
+        && h.opcode == 0
+        && h.session == 0
+        && h.provider == 0
+        && h.content_length == 0
 }
 
 // The answer to the request, or one that is read for any request.
-fn is_answer(opcode: u16, session: u64, h: ResponseHeader) -> bool
-    ensures { result ≡ is_its opcode session h || is_invalid_header h }
+fn is_answer(asked: Asked, h: ResponseHeader) -> bool
+    ensures { result ≡ is_its asked.opcode asked.session h || is_invalid_header h }
 {
-    if is_its(opcode, session, h) {
-        return true;
-    }
-    is_invalid_header(h)
+    is_its(asked, h) || is_invalid_header(h)
 }
 
 // The content type that a response must have.
+#[tactic(auto, unfolding(crate::specs::Reading::type_for))]
 fn type_for(accept_type: u8, status: u16) -> u8
     ensures { result ≡ type_for accept_type status }
 {
-    if status == 17 {
-        return 1;
+    match status {
+        INVALID_HEADER => 1,
+        _ => accept_type,
     }
-    accept_type
 }
 
 // The first test that applies.
-fn check_header(opcode: u16, session: u64, accept_type: u8, h: ResponseHeader) -> HeaderCheck
-    ensures { result ≡ check_of (first_of (header_tests (record { opcode = opcode; session = session; accept_type = accept_type }) h)) }
+#[tactic(auto, unfolding(crate::specs::Reading::header_tests, wire::specs::Choice::first_of))]
+fn check_header(asked: Asked, h: ResponseHeader) -> Result<(), ReadRefusal>
+    ensures { result_err result ≡ first_of (header_tests asked h) }
 {
-    if h.major != 1 {
-        return HeaderCheck::Refused(ReadRefusal::WrongVersion);
+    if h.major != 1 || h.minor != 0 {
+        return Err(ReadRefusal::WrongVersion);
     }
-    if h.minor != 0 {
-        return HeaderCheck::Refused(ReadRefusal::WrongVersion);
+    if h.content_type != type_for(asked.accept_type, h.status) {
+        return Err(ReadRefusal::WrongContentType);
     }
-    if h.content_type != type_for(accept_type, h.status) {
-        return HeaderCheck::Refused(ReadRefusal::WrongContentType);
-    }
-    if !is_answer(opcode, session, h) {
-        return HeaderCheck::Refused(ReadRefusal::NotItsRequests);
+    if !is_answer(asked, h) {
+        return Err(ReadRefusal::NotItsRequests);
     }
     if (CONTENT_MOST as u32) < h.content_length {
-        return HeaderCheck::Refused(ReadRefusal::ContentTooLong);
+        return Err(ReadRefusal::ContentTooLong);
     }
-    HeaderCheck::Passed
+    Ok(())
 }
 
 // A place in the body, as a place in the state's memory.
@@ -142,77 +113,79 @@ fn move_output(output: Output) -> Output
     ensures { result ≡ output_moved body_at output }
 {
     match output {
-        Output::Nothing => Output::Nothing,
-        Output::Version(major, minor) => Output::Version(major, minor),
         Output::Providers(span) => Output::Providers(move_span(span)),
         Output::Opcodes(span) => Output::Opcodes(move_span(span)),
         Output::Data(span) => Output::Data(move_span(span)),
-        Output::Offset(at) => Output::Offset(at),
+        Output::Nothing | Output::Version(_, _) | Output::Offset(_) => output,
     }
 }
 
 // What a whole body is read as.
-fn read_reply(memory: &[u8], opcode: u16, status: u16, content: usize) -> Said
+fn read_reply(
+    memory: &[u8],
+    opcode: u16,
+    status: u16,
+    content: usize,
+) -> Result<Response, ReadRefusal>
     requires { (length memory.now ≡ state_size) × (content ≤ response_content_most) }
-    ensures { Looked memory.now (some (body_reply (format_in memory.now) opcode status (take content (drop body_at memory.now)))) result }
+    ensures { Looked memory.now (Some (body_reply (format_in memory.now) opcode status (take content (drop body_at memory.now)))) (whole result) }
 {
     let format = format_for(accept_type_of(memory));
     let end = BODY_AT + content;
     match read_answer(format, opcode, status, &memory[BODY_AT..end]) {
-        OutputRead::Read(output) => Said::Response(Response {
+        Some(output) => Ok(Response {
             status,
             output: move_output(output),
         }),
-        OutputRead::Unreadable => Said::Refused(ReadRefusal::UnreadableBody),
+        None => Err(ReadRefusal::UnreadableBody),
     }
 }
 
-// What `count` bytes with a whole header are.
-fn look_behind(memory: &[u8], count: usize, h: ResponseHeader) -> Said
+// What `count` bytes with a whole header are; `None` while more are awaited.
+fn look_behind(
+    memory: &[u8],
+    count: usize,
+    h: ResponseHeader,
+) -> Result<Option<Response>, ReadRefusal>
     requires { (length memory.now ≡ state_size) × (count ≤ response_most) }
     ensures { Looked memory.now (found_behind (asked_in memory.now) h (take count (drop bytes_at memory.now))) result }
 {
-    let opcode = read_u16(memory, 0);
-    let session = read_u64(memory, SESSION_AT);
-    let accept_type = accept_type_of(memory);
-    match check_header(opcode, session, accept_type, h) {
-        HeaderCheck::Refused(refusal) => Said::Refused(refusal),
-        HeaderCheck::Passed => {
-            let content = h.content_length as usize;
-            if count < RESPONSE_LEAST + content {
-                return Said::Waiting;
-            }
-            read_reply(memory, opcode, h.status, content)
-        }
+    let asked = asked_in(memory);
+    check_header(asked, h)?;
+    let content = h.content_length as usize;
+    if count < RESPONSE_LEAST + content {
+        return Ok(None);
     }
+    let response = read_reply(memory, asked.opcode, h.status, content)?;
+    Ok(Some(response))
 }
 
-// What the bytes that a state holds are.
-pub fn look(memory: &[u8]) -> Said
+// What the bytes that a state holds are; `None` while more are awaited.
+pub fn look(memory: &[u8]) -> Result<Option<Response>, ReadRefusal>
     requires { well_formed_state memory.now ≡ true }
     ensures { Looked memory.now (found (asked_in memory.now) (bytes_in memory.now)) result }
 {
     let count = read_u16(memory, COUNT_AT) as usize;
     if count < 6 {
-        return Said::Waiting;
+        return Ok(None);
     }
     let end = BYTES_AT + count;
     let bytes = &memory[BYTES_AT..end];
     if read_u32(bytes, 0) != MAGIC {
-        return Said::Refused(ReadRefusal::WrongMagic);
+        return Err(ReadRefusal::WrongMagic);
     }
     if read_u16(bytes, 4) != RESPONSE_HEADER_SIZE {
-        return Said::Refused(ReadRefusal::WrongHeaderSize);
+        return Err(ReadRefusal::WrongHeaderSize);
     }
     if count < RESPONSE_LEAST {
-        return Said::Waiting;
+        return Ok(None);
     }
     look_behind(memory, count, read_response(bytes))
 }
 
 // How many bytes must be there before more can be said of them.
 pub fn wanted(memory: &[u8]) -> usize
-    requires { (well_formed_state memory.now ≡ true) × (found (asked_in memory.now) (bytes_in memory.now) ≡ none) }
+    requires { (well_formed_state memory.now ≡ true) × (found (asked_in memory.now) (bytes_in memory.now) ≡ None) }
     ensures { (result ≡ wanted_of (bytes_in memory.now)) × (field count_at 2 memory.now < result) × (result ≤ response_most) }
 {
     let count = read_u16(memory, COUNT_AT) as usize;
@@ -243,11 +216,8 @@ pub fn first_run(memory: &[u8], chunk: &[u8]) -> usize
         return 6;
     }
     let h = read_response(chunk);
-    let opcode = read_u16(memory, 0);
-    let session = read_u64(memory, SESSION_AT);
-    let accept_type = accept_type_of(memory);
-    match check_header(opcode, session, accept_type, h) {
-        HeaderCheck::Refused(_) => RESPONSE_LEAST,
-        HeaderCheck::Passed => RESPONSE_LEAST + h.content_length as usize,
+    match check_header(asked_in(memory), h) {
+        Err(_) => RESPONSE_LEAST,
+        Ok(()) => RESPONSE_LEAST + h.content_length as usize,
     }
 }

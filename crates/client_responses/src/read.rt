@@ -1,18 +1,19 @@
 // A response read in chunks (document 02, "The client's half"): bytes are taken a run at a time, up to where more can be said of
 // them, and no byte behind the response.
-ghost use Rattle.std.specs.Prelude.{◌≡◌, ◌≤◌, length};
+ghost use Rattle.std.specs.Prelude.{◌≡◌, length};
 ghost use Rattle.client_responses.specs.State.{asked_in, bytes_in};
 ghost use Rattle.client_responses.specs.Handed.{ReadContract, SaidWithin};
-ghost use Rattle.client_responses.specs.code.Looked.{Holding, Run, Filled};
+ghost use Rattle.client_responses.specs.code.Looked.{Holding, Run, Filled, is_waiting, answered_as};
 
-use crate::look::{Said, first_run, look, wanted};
+use crate::look::{Response, first_run, look, wanted};
 use crate::state::{COUNT_AT, append, is_well_formed};
-use wire::number::{least, read_u16};
+use crate::{ReadFault, ReadRefusal};
+use wire::number::read_u16;
 
-// What a call says, and how many bytes of the chunk it took.
+// What a call says, `None` while more is awaited, and how many bytes of the chunk it took.
 #[derive(Clone, Copy)]
 pub struct ReadAnswer {
-    pub said: Said,
+    pub said: Result<Option<Response>, ReadFault>,
     pub taken: usize,
 }
 
@@ -28,17 +29,32 @@ fn run(memory: &[u8], rest: &[u8]) -> usize
     wanted(memory) - held
 }
 
-// Takes on as many bytes of the chunk, from `used` on, as make a run or are left.
-fn fill(memory: &mut [u8], chunk: &[u8], used: usize) -> usize
-    requires { Holding memory.old × (used ≤ length chunk.now) }
-    ensures { Filled memory.old chunk.now used memory.new result }
+// Takes on as many of the bytes as make a run, or all that are left.
+fn fill(memory: &mut [u8], rest: &[u8]) -> usize
+    requires { Holding memory.old }
+    ensures { Filled memory.old rest.now memory.new result }
 {
     let held = read_u16(memory, COUNT_AT) as usize;
-    let most = run(memory, &chunk[used..]);
-    let k = least(most, chunk.len() - used);
-    let stop = used + k;
-    append(memory, held, &chunk[used..stop]);
+    let k = run(memory, rest).min(rest.len());
+    append(memory, held, &rest[..k]);
     k
+}
+
+// Whether more is awaited.
+fn is_waiting(looked: Result<Option<Response>, ReadRefusal>) -> bool
+    ensures { result ≡ is_waiting looked }
+{
+    matches!(looked, Ok(None))
+}
+
+// What was looked at, as a call says it.
+fn answer(looked: Result<Option<Response>, ReadRefusal>, taken: usize) -> ReadAnswer
+    ensures { result ≡ answered_as looked taken }
+{
+    ReadAnswer {
+        said: looked.map_err(ReadFault::Refused),
+        taken,
+    }
 }
 
 // Takes bytes of the chunk behind those of a response's beginning, up to its end.
@@ -48,15 +64,14 @@ fn take_on(memory: &mut [u8], chunk: &[u8]) -> ReadAnswer
 {
     let mut taken: usize = 0;
     loop {
-        taken += fill(memory, chunk, taken);
-        let said = look(memory);
+        taken += fill(memory, &chunk[taken..]);
+        let looked = look(memory);
         if taken == chunk.len() {
-            return ReadAnswer { said, taken };
+            return answer(looked, taken);
         }
-        if let Said::Waiting = said {
-            continue;
+        if !is_waiting(looked) {
+            return answer(looked, taken);
         }
-        return ReadAnswer { said, taken };
     }
 }
 
@@ -66,13 +81,13 @@ pub fn read(memory: &mut [u8], chunk: &[u8]) -> ReadAnswer
 {
     if !is_well_formed(memory) {
         return ReadAnswer {
-            said: Said::IllFormed,
+            said: Err(ReadFault::IllFormed),
             taken: 0,
         };
     }
-    let said = look(memory);
-    if let Said::Waiting = said {
+    let looked = look(memory);
+    if is_waiting(looked) {
         return take_on(memory, chunk);
     }
-    ReadAnswer { said, taken: 0 }
+    answer(looked, 0)
 }

@@ -3,13 +3,13 @@
 ghost use Rattle.std.specs.Prelude.{◌≡◌, List, ◌++◌, ℕ, ◌+◌, ◌≤◌, length};
 ghost use Rattle.wire.specs.Numbers.{field};
 ghost use Rattle.client_responses.specs.Reading.{Asked};
-ghost use Rattle.client_responses.specs.State.{response_most, accept_at, state_size, state_bytes, well_formed_state, begin_state};
+ghost use Rattle.client_responses.specs.State.{response_most, accept_at, state_size, state_bytes, asked_in, well_formed_state, begin_state};
 
-use crate::Begun;
+use crate::{Asked, BeginRefusal};
 use messages::format::is_content_type;
 use messages::opcodes::is_listed;
 use wire::bytes::{all_zero_long, clear, copy_into};
-use wire::number::{bytes_of_u16, bytes_of_u64, read_u16};
+use wire::number::{bytes_of_u16, bytes_of_u64, read_u16, read_u64};
 use wire::response::RESPONSE_LEAST;
 
 // The longest body of a response, and the longest response.
@@ -39,6 +39,19 @@ pub fn accept_type_of(memory: &[u8]) -> u8
     memory[ACCEPT_AT]
 }
 
+#[tactic(auto, unfolding(crate::specs::State::asked_in))]
+// The request whose response is read.
+pub(crate) fn asked_in(memory: &[u8]) -> Asked
+    requires { length memory.now ≡ state_size }
+    ensures { result ≡ asked_in memory.now }
+{
+    Asked {
+        opcode: read_u16(memory, 0),
+        session: read_u64(memory, SESSION_AT),
+        accept_type: accept_type_of(memory),
+    }
+}
+
 // Whether a slice of any length is a well-formed state.
 pub fn is_well_formed(memory: &[u8]) -> bool
     ensures { result ≡ well_formed_state memory.now }
@@ -61,25 +74,25 @@ pub fn is_well_formed(memory: &[u8]) -> bool
 }
 
 // Makes memory of the exact size a fresh state for the response to a request; any other memory stays as it came.
-pub fn begin(memory: &mut [u8], opcode: u16, session: u64, accept_type: u8) -> Begun
-    ensures { record { answer = result; memory = memory.new } ≡ begin_state memory.old (record { opcode = opcode; session = session; accept_type = accept_type }) }
+pub fn begin(memory: &mut [u8], asked: Asked) -> Result<(), BeginRefusal>
+    ensures { record { answer = result; memory = memory.new } ≡ begin_state memory.old asked }
 {
     if memory.len() != STATE_SIZE {
-        return Begun::WrongSize;
+        return Err(BeginRefusal::WrongSize);
     }
-    if !is_listed(opcode) {
-        return Begun::UnlistedOpcode;
+    if !is_listed(asked.opcode) {
+        return Err(BeginRefusal::UnlistedOpcode);
     }
-    if !is_content_type(accept_type) {
-        return Begun::UnlistedType;
+    if !is_content_type(asked.accept_type) {
+        return Err(BeginRefusal::UnlistedType);
     }
     clear(memory);
-    let first = bytes_of_u16(opcode);
+    let first = bytes_of_u16(asked.opcode);
     copy_into(memory, &first);
-    let second = bytes_of_u64(session);
+    let second = bytes_of_u64(asked.session);
     copy_into(&mut memory[SESSION_AT..], &second);
-    memory[ACCEPT_AT] = accept_type;
-    Begun::Fresh
+    memory[ACCEPT_AT] = asked.accept_type;
+    Ok(())
 }
 
 // Puts the bytes behind the `held` bytes that are there.

@@ -151,7 +151,7 @@ part_none memory chunk n h =
       begun = ap next none ∙ h.begun;
     }
 
-module _ (held chunk memory : List ℕ) (n used : ℕ) (l : length held ≡ n) (p : Part held chunk memory used) where
+module _ {held chunk memory : List ℕ} {n used : ℕ} (l : length held ≡ n) (p : Part held chunk memory used) where
   part_long : length (held ++ take used chunk) ≡ n + used
   part_long = length_gathered held chunk used p.left ∙ ap (λ (a : ℕ). a + used) l
 
@@ -161,62 +161,71 @@ module _ (held chunk memory : List ℕ) (n used : ℕ) (l : length held ≡ n) (
   part_in : held_in (n + used) memory ≡ held ++ take used chunk
   part_in = ap₂ (λ (k : ℕ) (m : List ℕ). held_in k m) (sym part_long) p.memory_is ∙ held_back (held ++ take used chunk)
 
-  -- k bytes more
-  module _ (after : List ℕ) (k : ℕ) (f : Filled (held_in (n + used) memory) chunk used after k) where
-    on : held_in (n + used) memory ++ take k (drop used chunk) ≡ held ++ take (used + k) chunk
-    on = ap (λ (x : List ℕ). x ++ take k (drop used chunk)) part_in ∙ append_assoc held (take used chunk) (take k (drop used chunk)) ∙ ap (λ (x : List ℕ). held ++ x) (sym (take-add used k chunk))
+-- n bytes were held and `used` more, and now k more
+pub record More (held chunk memory : List ℕ) (n used : ℕ) (after : List ℕ) (k : ℕ) : Type 0 where
+  pub long : length held ≡ n
+  pub part : Part held chunk memory used
+  pub filled : Filled (held_in (n + used) memory) (drop used chunk) after k
 
-    after_is : after ≡ connection_bytes (opened (held ++ take (used + k) chunk))
-    after_is = f.memory_is ∙ ap (λ (x : List ℕ). connection_bytes (opened x)) on
+module _ {held chunk memory : List ℕ} {n used : ℕ} {after : List ℕ} {k : ℕ} (r : More held chunk memory n used after k) where
+  holds : Holding memory (n + used)
+  holds = part_holds r.long r.part
 
-    after_long : length (held ++ take (used + k) chunk) ≡ n + (used + k)
-    after_long = length_gathered held chunk (used + k) f.left ∙ ap (λ (a : ℕ). a + (used + k)) l
+  on : held_in (n + used) memory ++ take k (drop used chunk) ≡ held ++ take (used + k) chunk
+  on = ap (λ (x : List ℕ). x ++ take k (drop used chunk)) (part_in r.long r.part) ∙ append_assoc held (take used chunk) (take k (drop used chunk)) ∙ ap (λ (x : List ℕ). held ++ x) (sym (take-add used k chunk))
 
-    pub after_few : n + (used + k) ≤ held_most
-    after_few =
-        let few = f.few in
-        let most = wanted_few (held_in (n + used) memory) part_holds.begun in
-        let long = part_holds.long in
-        omega arith
+  after_is : after ≡ connection_bytes (opened (held ++ take (used + k) chunk))
+  after_is = r.filled.memory_is ∙ ap (λ (x : List ℕ). connection_bytes (opened x)) on
 
-    pub after_size : length after ≡ connection_size
-    unfolding connection_bytes
-    after_size =
-        ap length after_is
-        ∙ size_there 0 (length (held ++ take (used + k) chunk)) (held ++ take (used + k) chunk) (let a = after_long in let b = after_few in (let x : length (held ++ take (used + k) chunk) ≤ held_most = omega arith in x))
+  pub after_left : used + k ≤ length chunk
+  after_left = let few = r.part.left in let more = r.filled.left in omega (arith, length-drop used chunk)
 
-    pub after_in : take (9 + n + (used + k) - 9) (drop 9 after) ≡ held ++ take (used + k) chunk
-    after_in =
-        ap₂ (λ (m : ℕ) (x : List ℕ). held_in m x) (let a = after_long in (let x : 9 + n + (used + k) - 9 ≡ length (held ++ take (used + k) chunk) = omega arith in x)) after_is
-        ∙ held_back (held ++ take (used + k) chunk)
+  after_long : length (held ++ take (used + k) chunk) ≡ n + (used + k)
+  after_long = length_gathered held chunk (used + k) after_left ∙ ap (λ (a : ℕ). a + (used + k)) r.long
 
-    pub after_some : used + k < length chunk → 0 < k
-    after_some h =
-        let more = f.more h in
-        let want = wanted_more (held_in (n + used) memory) part_holds.begun in
-        omega arith
+  pub after_few : n + (used + k) ≤ held_most
+  after_few =
+      let few = r.filled.few in
+      let most = wanted_few (held_in (n + used) memory) holds.begun in
+      let long = holds.long in
+      omega arith
 
-    pub part_again : next (held ++ take (used + k) chunk) ≡ unfinished → Part held chunk after (used + k)
-    part_again u = record { left = f.left; memory_is = after_is; begun = u }
+  pub after_size : length after ≡ connection_size
+  unfolding connection_bytes
+  after_size =
+      ap length after_is
+      ∙ size_there 0 (length (held ++ take (used + k) chunk)) (held ++ take (used + k) chunk) (let a = after_long in let b = after_few in (let x : length (held ++ take (used + k) chunk) ≤ held_most = omega arith in x))
 
-    pub gathers : (frame : Frame) → frame ≡ frame_of (next (held ++ take (used + k) chunk))
-        → (next (held ++ take (used + k) chunk) ≡ unfinished → used + k ≡ length chunk)
-        → Gathers held chunk after (record { used = used + k; frame = frame })
-    gathers frame e all =
-        let long : length (held_in (n + used) memory) ≡ n + used = part_holds.long in
-        let s : List ℕ = held_in (n + used) memory in
-        let x : List ℕ = take k (drop used chunk) in
-        let d = length-drop used chunk in
-        let left = f.left in
-        let k-long : length x ≡ k = length-take-le k (drop used chunk) (let y : k ≤ length (drop used chunk) = omega arith in y) in
-        let few = f.few in
-        let fits : length s + length x ≤ wanted_of s = omega arith in
-        record {
-          used = f.left;
-          memory_is = after_is;
-          frame = e;
-          all = all;
-          bad = λ b. let r = gathered_bad s x part_holds.begun fits (ap next on ∙ b) in omega arith;
-          header = λ h m b. sym on ∙ gathered_header s x part_holds.begun fits h m (ap next on ∙ b);
-          whole = λ w b. let r = gathered_whole s x part_holds.begun fits w (ap next on ∙ b) in omega arith;
-        }
+  pub after_in : take (9 + n + (used + k) - 9) (drop 9 after) ≡ held ++ take (used + k) chunk
+  after_in =
+      ap₂ (λ (m : ℕ) (x : List ℕ). held_in m x) (let a = after_long in (let x : 9 + n + (used + k) - 9 ≡ length (held ++ take (used + k) chunk) = omega arith in x)) after_is
+      ∙ held_back (held ++ take (used + k) chunk)
+
+  pub after_some : used + k < length chunk → 0 < k
+  after_some h =
+      let more = r.filled.more (omega (arith, length-drop used chunk)) in
+      let want = wanted_more (held_in (n + used) memory) holds.begun in
+      omega arith
+
+  pub part_again : next (held ++ take (used + k) chunk) ≡ unfinished → Part held chunk after (used + k)
+  part_again u = record { left = after_left; memory_is = after_is; begun = u }
+
+  pub gathers : (frame : Frame) → frame ≡ frame_of (next (held ++ take (used + k) chunk))
+      → (next (held ++ take (used + k) chunk) ≡ unfinished → used + k ≡ length chunk)
+      → Gathers held chunk after (record { used = used + k; frame = frame })
+  gathers frame e all =
+      let long = holds.long in
+      let s : List ℕ = held_in (n + used) memory in
+      let x : List ℕ = take k (drop used chunk) in
+      let k-long : length x ≡ k = length-take-le k (drop used chunk) r.filled.left in
+      let few = r.filled.few in
+      let fits : length s + length x ≤ wanted_of s = omega arith in
+      record {
+        used = after_left;
+        memory_is = after_is;
+        frame = e;
+        all = all;
+        bad = λ b. let w = gathered_bad s x holds.begun fits (ap next on ∙ b) in omega (arith, r.long);
+        header = λ h m b. sym on ∙ gathered_header s x holds.begun fits h m (ap next on ∙ b);
+        whole = λ m b. let w = gathered_whole s x holds.begun fits m (ap next on ∙ b) in omega (arith, r.long);
+      }

@@ -3,7 +3,7 @@
 --   kind 0  open: how many bytes are held, and those bytes; a fresh connection is all zero
 --   kind 1  skipping: how many bytes are to go, and the header
 --   kind 2  closed
-use Rattle.std.specs.Prelude.{ℕ, ◌+◌, Bool, ◌&&◌, List, [], ◌∷◌, ◌++◌, length, take, drop, get_or, eqb}
+use Rattle.std.specs.Prelude.{ℕ, ◌+◌, Bool, ◌&&◌, List, [], ◌∷◌, ◌++◌, length, take, drop, get_or, eqb, Result, Ok, Err}
 use Rattle.wire.specs.Choice.{when◌then◌else◌}
 use Rattle.wire.specs.Lists.{same, padded}
 use Rattle.wire.specs.Numbers.{little_endian_of, field}
@@ -11,8 +11,8 @@ use Rattle.wire.specs.Request.{header_length}
 use Rattle.stream.specs.Frame.{header_most, content_most, auth_most}
 use Rattle.stream.specs.Rules.{Connection, opened, skipping, closed}
 use Rattle.stream.specs.Call.{well_formed}
-use Rattle.connection.specs.declared.change.Opened.{Opened}
-use Rattle.connection.specs.declared.change.Opened.TheVariants.{Fresh, WrongSize}
+use Rattle.connection.specs.declared.change.OpenRefusal.{OpenRefusal}
+use Rattle.connection.specs.declared.change.OpenRefusal.TheVariants.{WrongSize}
 
 -- the longest request that is not oversized
 abbrev pub held_most : ℕ
@@ -49,11 +49,11 @@ well_formed_connection memory =
     && (well_formed (connection_of memory) && same (connection_bytes (connection_of memory)) memory)
 
 pub record Opening : Type 0 where
-  pub answer : Opened
+  pub answer : Result (Unit {0}) OpenRefusal
   pub memory : List ℕ
 
 -- memory of the exact size becomes a fresh connection, and any other stays as it came
 unfoldable pub open_connection : (memory : List ℕ) → Opening
 open_connection memory =
-    when eqb (length memory) connection_size then record { answer = Fresh; memory = connection_bytes (opened []) }
-    else record { answer = WrongSize; memory = memory }
+    when eqb (length memory) connection_size then record { answer = Ok tt; memory = connection_bytes (opened []) }
+    else record { answer = Err WrongSize; memory = memory }

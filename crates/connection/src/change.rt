@@ -8,12 +8,13 @@ use crate::{BYTES_AT, CLOSED, CONNECTION_SIZE, NUMBER_AT, SKIPPING};
 use wire::bytes::{clear, copy_into};
 use wire::number::bytes_of_u64;
 
-// What opening a connection answers.
+// Why memory is not opened.
 #[derive(Clone, Copy)]
-pub enum Opened {
-    Fresh,
+pub enum OpenRefusal {
     WrongSize,
 }
+
+// Kept: here and below a slice with its size in a `requires`, and no array: the caller lends a slice, which the call tests once.
 
 // Writes the number; the kind and the bytes held stay.
 fn write_number(memory: &mut [u8], number: u64)
@@ -61,12 +62,12 @@ pub fn close(memory: &mut [u8])
 }
 
 // Makes memory of the exact size a fresh connection; memory of any other stays as it came.
-pub fn open_connection(memory: &mut [u8]) -> Opened
+pub fn open_connection(memory: &mut [u8]) -> Result<(), OpenRefusal>
     ensures { record { answer = result; memory = memory.new } ≡ open_connection memory.old }
 {
     if memory.len() != CONNECTION_SIZE {
-        return Opened::WrongSize;
+        return Err(OpenRefusal::WrongSize);
     }
     reset(memory);
-    Opened::Fresh
+    Ok(())
 }

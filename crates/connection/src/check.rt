@@ -33,15 +33,7 @@ fn is_zero_from(memory: &[u8], from: usize) -> bool
 fn is_beginning(bytes: &[u8]) -> bool
     ensures { result ≡ is_beginning bytes.now }
 {
-    match read_frame(bytes) {
-        Frame::Unfinished => true,
-        Frame::BadStart => false,
-        Frame::Skipped {
-            header: _,
-            missing: _,
-        } => false,
-        Frame::Whole(_) => false,
-    }
+    matches!(read_frame(bytes), Frame::Unfinished)
 }
 
 // The next three take memory of the exact size and of the kind that they name.
@@ -50,15 +42,11 @@ fn open_well_formed(memory: &[u8]) -> bool
     ensures { result ≡ well_formed_connection memory.now }
 {
     let number = read_u64(memory, NUMBER_AT);
-    if (HELD_MOST as u64) < number {
+    if number > HELD_MOST as u64 {
         return false;
     }
-    let held = number as usize;
-    if !is_zero_from(memory, BYTES_AT + held) {
-        return false;
-    }
-    let end = BYTES_AT + held;
-    is_beginning(&memory[BYTES_AT..end])
+    let end = BYTES_AT + number as usize;
+    is_zero_from(memory, end) && is_beginning(&memory[BYTES_AT..end])
 }
 
 fn skipping_well_formed(memory: &[u8]) -> bool
@@ -66,21 +54,12 @@ fn skipping_well_formed(memory: &[u8]) -> bool
     ensures { result ≡ well_formed_connection memory.now }
 {
     let held = &memory[BYTES_AT..];
-    if !is_legal_start(held) {
-        return false;
-    }
-    if !is_oversized(held) {
-        return false;
-    }
     let to_go = read_u64(memory, NUMBER_AT);
-    if to_go < 1 {
-        return false;
-    }
-    let past = 1 + read_u32(held, 20) as u64 + read_u16(held, 24) as u64;
-    if past <= to_go {
-        return false;
-    }
-    is_zero_from(memory, BYTES_AT + header_length(held))
+    let past = 1 + u64::from(read_u32(held, 20)) + u64::from(read_u16(held, 24));
+    is_legal_start(held)
+        && is_oversized(held)
+        && (1..past).contains(&to_go)
+        && is_zero_from(memory, BYTES_AT + header_length(held))
 }
 
 fn closed_well_formed(memory: &[u8]) -> bool
@@ -97,17 +76,12 @@ pub fn is_well_formed(memory: &[u8]) -> bool
     if memory.len() != CONNECTION_SIZE {
         return false;
     }
-    let kind = memory[0];
-    if kind == OPEN {
-        return open_well_formed(memory);
+    match memory[0] {
+        OPEN => open_well_formed(memory),
+        SKIPPING => skipping_well_formed(memory),
+        CLOSED => closed_well_formed(memory),
+        _ => false,
     }
-    if kind == SKIPPING {
-        return skipping_well_formed(memory);
-    }
-    if kind == CLOSED {
-        return closed_well_formed(memory);
-    }
-    false
 }
 
 // What a well-formed connection is.
@@ -115,15 +89,12 @@ pub fn read_state(memory: &[u8]) -> State
     requires { well_formed_connection memory.now ≡ true }
     ensures { result ≡ state_of (connection_of memory.now) }
 {
-    let kind = memory[0];
     let number = read_u64(memory, NUMBER_AT);
-    if kind == OPEN {
-        return State::Open(number as usize);
+    match memory[0] {
+        OPEN => State::Open(number as usize),
+        SKIPPING => State::Skipping(number),
+        _ => State::Closed,
     }
-    if kind == SKIPPING {
-        return State::Skipping(number);
-    }
-    State::Closed
 }
 
 // How many bytes of an unfinished request a well-formed connection has seen, skipped ones too.
@@ -131,8 +102,7 @@ pub fn held_bytes(memory: &[u8]) -> u64
     requires { well_formed_connection memory.now ≡ true }
     ensures { result ≡ held_bytes (connection_of memory.now) }
 {
-    let state = read_state(memory);
-    match state {
+    match read_state(memory) {
         State::Open(held) => held as u64,
         State::Skipping(to_go) => request_length(&memory[BYTES_AT..]) - to_go,
         State::Closed => 0,

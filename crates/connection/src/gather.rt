@@ -9,7 +9,6 @@ use crate::BYTES_AT;
 use crate::change::append;
 use stream::frame::{Frame, read_frame, request_length};
 use wire::header::header_length;
-use wire::number::least;
 
 // What is gathered: how many bytes of the chunk, and what those held then begin with.
 #[derive(Clone, Copy)]
@@ -33,16 +32,15 @@ fn wanted(bytes: &[u8]) -> usize
     request_length(bytes) as usize
 }
 
-// Takes on as many bytes of the chunk, from `used` on, as are wanted or left.
-fn fill(memory: &mut [u8], held: usize, chunk: &[u8], used: usize) -> usize
-    requires { Holding memory.old held × (used ≤ length chunk.now) }
-    ensures { Filled (held_in held memory.old) chunk.now used memory.new result }
+// Takes on as many bytes of the chunk as are wanted or there.
+fn fill(memory: &mut [u8], held: usize, chunk: &[u8]) -> usize
+    requires { Holding memory.old held }
+    ensures { Filled (held_in held memory.old) chunk.now memory.new result }
 {
     let end = BYTES_AT + held;
     let want = wanted(&memory[BYTES_AT..end]);
-    let k = least(want - held, chunk.len() - used);
-    let stop = used + k;
-    append(memory, held, &chunk[used..stop]);
+    let k = chunk.len().min(want - held);
+    append(memory, held, &chunk[..k]);
     k
 }
 
@@ -51,18 +49,14 @@ pub fn gather(memory: &mut [u8], held: usize, chunk: &[u8]) -> Gathered
     requires { Holding memory.old held }
     ensures { Gathers (held_in held memory.old) chunk.now memory.new result }
 {
-    let mut used: usize = 0;
+    // Kept: a loop, whose cursor goes on by what was taken.
+    let mut used = 0;
     loop {
-        let before = held + used;
-        used += fill(memory, before, chunk, used);
+        used += fill(memory, held + used, &chunk[used..]);
         let end = BYTES_AT + held + used;
         let frame = read_frame(&memory[BYTES_AT..end]);
-        if used == chunk.len() {
+        if used == chunk.len() || !matches!(frame, Frame::Unfinished) {
             return Gathered { used, frame };
         }
-        if let Frame::Unfinished = frame {
-            continue;
-        }
-        return Gathered { used, frame };
     }
 }

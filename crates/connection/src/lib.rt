@@ -20,7 +20,7 @@ pub const BYTES_AT: usize = 9;
 
 pub const CONNECTION_SIZE: usize = BYTES_AT + HELD_MOST;
 
-// The kinds.
+// The kinds. Kept as numbers: they are the first byte of the lent memory (docs/LAYOUT.md).
 pub const OPEN: u8 = 0;
 
 pub const SKIPPING: u8 = 1;

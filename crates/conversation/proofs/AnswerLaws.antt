@@ -1,9 +1,9 @@
 -- WHAT THE SERVICE WRITES TO ANY REQUEST THAT A CLIENT MAY HAVE SENT, THE CLIENT READS AS THE SAME RESPONSE, on any well-formed
 -- registry: status and output, and never a refusal; and so it does the answer with status 17.
+use Rattle.std.proofs.Common.{Some}
 use mathlib.Core.Path.{◌≡◌, refl, sym, ap, ◌∙◌, subst}
 use Prim.Native.Nat.{ℕ, ◌+◌, ◌^◌, ◌≤◌, ◌<◌}
 use mathlib.Core.Bool.{Bool, true, false}
-use mathlib.Core.Option.{some}
 use mathlib.Core.List.{List, [], ◌++◌, append-nil}
 use native.Mathlib.Omega.{arith}
 use borrow.Author.Tests.{ltb-false}
@@ -32,7 +32,8 @@ use Rattle.judgement.specs.Operations.{Result, refuse}
 use Rattle.judgement.specs.Judgement.{refused_early, oversized_status, verdict_of, judgement}
 use Rattle.judgement.specs.declared.Status.TheVariants.{InvalidHeader}
 use Rattle.judgement.proofs.ResponseLaws.{judge_short}
-use Rattle.client_responses.specs.Reading.{Asked, response_content_most, body_reply, found}
+use Rattle.client_responses.specs.Reading.{response_content_most, body_reply, found}
+use Rattle.client_responses.specs.declared.Asked.{Asked}
 use Rattle.conversation.specs.Conversation.{reply_of, asked_by, result_for}
 use Rattle.conversation.specs.Claims.{Sent, Hears, ResponsesRead}
 use Rattle.conversation.proofs.Answered.{header_of, Its, found_whole, invalid_its, its_own, listed_type, Sound, sound_reply}
@@ -44,7 +45,7 @@ heard : (asked : Asked) (provider session content_type opcode status : ℕ) (bod
     → length body ≤ response_content_most → Hears asked (response_bytes provider session content_type opcode status body) (body_reply (format_for asked.accept_type) asked.opcode status body)
 heard asked provider session content_type opcode status body its short =
     let response : List ℕ = response_bytes provider session content_type opcode status body in
-    let finds : (rest : List ℕ) → found asked (response ++ rest) ≡ some (body_reply (format_for asked.accept_type) asked.opcode status body)
+    let finds : (rest : List ℕ) → found asked (response ++ rest) ≡ Some (body_reply (format_for asked.accept_type) asked.opcode status body)
     = λ rest. found_whole asked provider session content_type opcode status body rest its short in
     record {
       finds = finds;

@@ -1,8 +1,8 @@
 -- A response that is for the request, or the answer with status 17, is read as what its body says.
+use Rattle.std.proofs.Common.{Some, None}
 use mathlib.Core.Path.{◌≡◌, refl, sym, ap, ◌∙◌}
 use Prim.Native.Nat.{ℕ, ◌+◌, ◌*◌, ◌^◌, ◌≤◌, ◌<◌}
 use mathlib.Core.Bool.{Bool, true, false, false≢true, ◌||◌, or-true}
-use mathlib.Core.Option.{none, some}
 use mathlib.Core.List.{List, [], ◌∷◌, ◌++◌}
 use native.Mathlib.Omega.{arith}
 use borrow.Author.Tests.{eq-eqb, le-ltb, eqb-true}
@@ -24,7 +24,8 @@ use Rattle.messages.proofs.OperationLaws.{answer_back}
 use Rattle.messages.proofs.FormatsLaws.{lawful}
 use Rattle.judgement.specs.Status.{status_number}
 use Rattle.judgement.specs.Operations.{Result}
-use Rattle.client_responses.specs.Reading.{Asked, provider_for, response_content_most, is_its, is_invalid_header, type_for, header_tests, of_output, body_reply, found_behind, found}
+use Rattle.client_responses.specs.Reading.{provider_for, response_content_most, is_its, is_invalid_header, type_for, header_tests, of_output, body_reply, found_behind, found}
+use Rattle.client_responses.specs.declared.Asked.{Asked}
 use Rattle.conversation.specs.Conversation.{reply_of}
 
 -- ---- a response of any status and body that is for the request
@@ -48,14 +49,14 @@ Its asked h = (is_its asked.opcode asked.session h || is_invalid_header h ≡ tr
 
 -- a header that passes
 pub passes : (asked : Asked) (h : ResponseHeader) → h.major ≡ 1 → h.minor ≡ 0
-    → Its asked h → h.content_length ≤ response_content_most → first_of (header_tests asked h) ≡ none
+    → Its asked h → h.content_length ≤ response_content_most → first_of (header_tests asked h) ≡ None
 unfolding header_tests first_of
 passes asked h major minor (its, type) short =
     rw (eq-eqb h.major 1 major, eq-eqb h.minor 0 minor, eq-eqb h.content_type (type_for asked.accept_type h.status) type, its, le-ltb response_content_most h.content_length short)
 
 -- and then the body decides
-behind : (asked : Asked) (h : ResponseHeader) (bytes : List ℕ) → first_of (header_tests asked h) ≡ none → response_least + h.content_length ≤ length bytes
-    → found_behind asked h bytes ≡ some (body_reply (format_for asked.accept_type) asked.opcode h.status (take h.content_length (drop response_least bytes)))
+behind : (asked : Asked) (h : ResponseHeader) (bytes : List ℕ) → first_of (header_tests asked h) ≡ None → response_least + h.content_length ≤ length bytes
+    → found_behind asked h bytes ≡ Some (body_reply (format_for asked.accept_type) asked.opcode h.status (take h.content_length (drop response_least bytes)))
 unfolding found_behind
 behind asked h bytes e long = rw (e, found_behind, le-ltb (length bytes) (response_least + h.content_length) long)
 
@@ -64,7 +65,7 @@ module _ (asked : Asked) (provider session content_type opcode status : ℕ) (bo
   written = response_bytes provider session content_type opcode status body ++ rest
 
   pub found_whole : Its asked (header_of provider session content_type opcode status body) → length body ≤ response_content_most
-      → found asked written ≡ some (body_reply (format_for asked.accept_type) asked.opcode status body)
+      → found asked written ≡ Some (body_reply (format_for asked.accept_type) asked.opcode status body)
   unfolding found
   found_whole its short =
       let long = response_long provider session content_type opcode status body rest in
@@ -77,7 +78,7 @@ module _ (asked : Asked) (provider session content_type opcode status : ℕ) (bo
       )
       (ap (λ (h : ResponseHeader). found_behind asked h written) (response_back provider session content_type opcode status body rest)
       ∙ behind asked (header_of provider session content_type opcode status body) written (passes asked (header_of provider session content_type opcode status body) refl refl its short) (omega arith)
-      ∙ ap (λ (b : List ℕ). some (body_reply (format_for asked.accept_type) asked.opcode status b)) (response_body provider session content_type opcode status body rest))
+      ∙ ap (λ (b : List ℕ). Some (body_reply (format_for asked.accept_type) asked.opcode status b)) (response_body provider session content_type opcode status body rest))
 
 -- ---- status 17, whatever was asked
 

@@ -1,9 +1,9 @@
 -- WHAT THE CLIENT WRITES, THE SERVICE READS AS THE SAME REQUEST: framed as one whole request whatever follows it, the header's
 -- fields, the operation, the application.
+use Rattle.std.proofs.Common.{Some, None}
 use mathlib.Core.Path.{◌≡◌, refl, sym, ap, ◌∙◌}
 use Prim.Native.Nat.{ℕ, ◌≤◌}
 use mathlib.Core.Bool.{true, false}
-use mathlib.Core.Option.{none, some}
 use mathlib.Core.List.{List, [], ◌++◌, append-nil}
 use native.Mathlib.Omega.{arith}
 use borrow.Author.Tests.{eq-eqb, le-leb, le-ltb}
@@ -88,8 +88,8 @@ module _ (session : ℕ) (types : Types) (sender : Sender) (operation : Operatio
 
   application : (who : Sender) (registry : List ℕ) → application_of registry (request_for session types who operation) ≡ application_for registry who
   unfolding application_of application_for request_for
-  application none registry = refl
-  application (some name) registry = refl
+  application None registry = refl
+  application (Some name) registry = refl
 
 pub read_as_written : RequestsRead
 unfolding request_for

@@ -24,7 +24,8 @@ use Rattle.judgement.specs.Operations.{Result}
 use Rattle.judgement.specs.Judgement.{result_of, verdict_of, judgement}
 use Rattle.judgement.proofs.VerdictLaws.{verdict_kept}
 use Rattle.client_requests.specs.Writing.{request_for}
-use Rattle.client_responses.specs.Reading.{Asked, provider_for, Reply}
+use Rattle.client_responses.specs.Reading.{provider_for, Reply}
+use Rattle.client_responses.specs.declared.Asked.{Asked}
 use Rattle.conversation.specs.Conversation.{reply_of, asked_by, result_for, replies_in_turn, Ask, written, asked_for, replies_from}
 use Rattle.conversation.specs.Claims.{Writable, ReadAsWritten, Sent, Hears, AllSent, AllWritable}
 use Rattle.conversation.proofs.Asked.{read_as_written}

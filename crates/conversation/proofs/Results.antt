@@ -1,9 +1,9 @@
 -- Every result of a request can be read by the client that sent it: 0 and an output of the opcode's kind, 7 and where the body
 -- broke, or another status and no output.
+use Rattle.std.proofs.Common.{Option, Some, None}
 use mathlib.Core.Path.{◌≡◌, refl, sym, ap, subst}
 use Prim.Native.Nat.{ℕ, zero, suc, ◌-◌, ◌*◌, ◌^◌, ◌≤◌, ◌<◌}
 use mathlib.Core.Bool.{Bool, true, false, not}
-use mathlib.Core.Option.{Option, none, some}
 use mathlib.Core.List.{List, [], map}
 use native.Mathlib.Omega.{arith}
 use borrow.Author.Tests.{eqb-true, eqb-false, ltb-true}
@@ -29,8 +29,6 @@ use Rattle.registry.specs.Slots.{Entry, free}
 use Rattle.registry.specs.Registry.{slot_named, add_use}
 use Rattle.registry.specs.WellFormed.{well_formed_registry}
 use Rattle.registry.specs.declared.Line.{Line}
-use Rattle.registry.specs.declared.Found.{Found}
-use Rattle.registry.specs.declared.Found.TheVariants.{At, Nothing}
 use Rattle.registry.proofs.SlotLaws.{ShortEntry}
 use Rattle.registry.proofs.WellFormedLaws.{slots_short}
 use Rattle.shipped.specs.Shipped.{ListedKey, keys_in}
@@ -43,6 +41,7 @@ use Rattle.judgement.proofs.SourceLaws.{source_short}
 use Rattle.judgement.proofs.ImportLaws.{Taken, out_of_bounds, other_bits, name_taken, no_slot, imported}
 use Rattle.judgement.proofs.JudgementLaws.{asks as asks-line}
 use Rattle.conversation.proofs.Answered.{Brief, Sound}
+use Rattle.registry.specs.declared.Slot.{Slot}
 
 -- a result of the operation's kind
 abbrev SoundFor : Operation → Result → Type 0
@@ -90,13 +89,13 @@ module _ (slots : List Entry) (list : List ℕ) where
   unfolding perform_import success status_number
   sound_import key = first (within_bounds key) refl
     where
-      fourth : Taken import_bits key → key_named key.name slots keys ≡ none → (f : Found) → slot_named [] slots ≡ f → SoundFor (import_key key) (import_by import_bits key slots keys)
-      fourth t n Nothing e = subst (SoundFor (import_key key)) (sym (no_slot import_bits slots keys key t n e)) (refused _ _ (refl, refl, refl))
-      fourth t n (At slot) e = subst (SoundFor (import_key key)) (sym (imported import_bits slots keys key t n slot e)) (served refl of_import tt)
+      fourth : Taken import_bits key → key_named key.name slots keys ≡ None → (f : Option Slot) → slot_named [] slots ≡ f → SoundFor (import_key key) (import_by import_bits key slots keys)
+      fourth t n None e = subst (SoundFor (import_key key)) (sym (no_slot import_bits slots keys key t n e)) (refused _ _ (refl, refl, refl))
+      fourth t n (Some slot) e = subst (SoundFor (import_key key)) (sym (imported import_bits slots keys key t n slot e)) (served refl of_import tt)
 
       third : Taken import_bits key → (o : Option Source) → key_named key.name slots keys ≡ o → SoundFor (import_key key) (import_by import_bits key slots keys)
-      third t (some source) e = subst (SoundFor (import_key key)) (sym (name_taken import_bits slots keys key t source e)) (refused _ _ (refl, refl, refl))
-      third t none e = fourth t e (slot_named [] slots) refl
+      third t (Some source) e = subst (SoundFor (import_key key)) (sym (name_taken import_bits slots keys key t source e)) (refused _ _ (refl, refl, refl))
+      third t None e = fourth t e (slot_named [] slots) refl
 
       second : within_bounds key ≡ true → (t : Bool) → import_bits key.bits ≡ t → SoundFor (import_key key) (import_by import_bits key slots keys)
       second e false b = subst (SoundFor (import_key key)) (sym (other_bits import_bits slots keys key e b)) (refused _ _ (refl, refl, refl))
@@ -116,8 +115,8 @@ module _ (slots : List Entry) (list : List ℕ) where
   sound_destroy name = go (legal_name key_name_most name) refl
     where
       second : legal_name key_name_most name ≡ true → (o : Option Source) → key_named name slots keys ≡ o → SoundFor (destroy_key name) (perform_destroy name slots keys)
-      second v none e = rw (v, e, perform_destroy) (refused _ _ (refl, refl, refl))
-      second v (some source) e = rw (v, e, perform_destroy) (sound_destroying name source)
+      second v None e = rw (v, e, perform_destroy) (refused _ _ (refl, refl, refl))
+      second v (Some source) e = rw (v, e, perform_destroy) (sound_destroying name source)
 
       go : (t : Bool) → legal_name key_name_most name ≡ t → SoundFor (destroy_key name) (perform_destroy name slots keys)
       go false e = rw (e, perform_destroy) (refused _ _ (refl, refl, refl))
@@ -135,8 +134,8 @@ module _ (slots : List Entry) (list : List ℕ) where
   sound_export short name = go (legal_name key_name_most name) refl
     where
       second : legal_name key_name_most name ≡ true → (o : Option Source) → key_named name slots keys ≡ o → SoundFor (export_public_key name) (perform_export name slots keys)
-      second v none e = rw (v, e, perform_export) (refused _ _ (refl, refl, refl))
-      second v (some source) e = rw (v, e, perform_export) (sound_counted _ source _ (sound_exporting name (key_of source) (source_short name slots list short source e)))
+      second v None e = rw (v, e, perform_export) (refused _ _ (refl, refl, refl))
+      second v (Some source) e = rw (v, e, perform_export) (sound_counted _ source _ (sound_exporting name (key_of source) (source_short name slots list short source e)))
 
       go : (t : Bool) → legal_name key_name_most name ≡ t → SoundFor (export_public_key name) (perform_export name slots keys)
       go false e = rw (e, perform_export) (refused _ _ (refl, refl, refl))
@@ -168,8 +167,8 @@ module _ (slots : List Entry) (list : List ℕ) where
     sound_verify = go (legal_name key_name_most name) refl
       where
         second : legal_name key_name_most name ≡ true → (o : Option Source) → key_named name slots keys ≡ o → SoundVerify (perform_verify name hash signature slots keys)
-        second v none e = rw (v, e, perform_verify) (refused _ _ (refl, refl, refl))
-        second v (some source) e = rw (v, e, perform_verify) (sound_counted _ source _ (sound_verifying (key_of source)))
+        second v None e = rw (v, e, perform_verify) (refused _ _ (refl, refl, refl))
+        second v (Some source) e = rw (v, e, perform_verify) (sound_counted _ source _ (sound_verifying (key_of source)))
 
         go : (t : Bool) → legal_name key_name_most name ≡ t → SoundVerify (perform_verify name hash signature slots keys)
         go false e = rw (e, perform_verify) (refused _ _ (refl, refl, refl))
@@ -199,11 +198,11 @@ unfolding askers_slots
 short_slots registry w q i = go (application_of registry q) refl
   where
     go : (o : Option Line) → application_of registry q ≡ o → ShortEntry (get_or (askers_slots registry o) i free)
-    go none e = tt
-    go (some line) e = slots_short registry w line (asks-line registry q line e).there i
+    go None e = tt
+    go (Some line) e = slots_short registry w line (asks-line registry q line e).there i
 
 -- no test's status has an output
-status_bare : (registry : List ℕ) (q : Request) (status : Status) → first_of (refusals registry q) ≡ some status → Bare status
+status_bare : (registry : List ℕ) (q : Request) (status : Status) → first_of (refusals registry q) ≡ Some status → Bare status
 unfolding refusals status_number
 status_bare registry q status e =
     let no : Type 0 = (false ≡ false) × (false ≡ false) × (false ≡ false) in
@@ -304,5 +303,5 @@ result_sound list registry w q short = go (first_of (refusals registry q)) refl
     performed (asks operation) e h = subst (λ (n : ℕ). Sound n (perform operation slots (keys_in list))) e (sound_perform slots list (short_slots registry w q) operation)
 
     go : (o : Option Status) → first_of (refusals registry q) ≡ o → Sound q.opcode (result_of list registry q)
-    go (some status) e = rw (e, result_of) (refused q.opcode status (status_bare registry q status e))
-    go none e = rw (e, result_of) (performed (asked format q.opcode q.body) (asked_of format q.opcode q.body) (asked_within format q.opcode q.body))
+    go (Some status) e = rw (e, result_of) (refused q.opcode status (status_bare registry q status e))
+    go None e = rw (e, result_of) (performed (asked format q.opcode q.body) (asked_of format q.opcode q.body) (asked_within format q.opcode q.body))

@@ -18,7 +18,8 @@ use Rattle.stream.specs.Handed.{responses_in}
 use Rattle.service.specs.Call.{Call as ServiceCall, fresh}
 use Rattle.service.specs.Contract.{Ran}
 use Rattle.service.specs.Claims.{Runs, answers_in}
-use Rattle.client_responses.specs.Reading.{Asked, Reply, found, response_reader}
+use Rattle.client_responses.specs.Reading.{Reply, found, response_reader}
+use Rattle.client_responses.specs.declared.Asked.{Asked}
 use Rattle.client_responses.specs.State.{state_bytes, said_of}
 use Rattle.client_responses.specs.Claims.{ReadRun, ran_as}
 use Rattle.client_responses.proofs.StateLaws.{Listed}

@@ -1,6 +1,5 @@
 -- What is claimed of both ends (document 02, "The client's half").
-use Rattle.std.specs.Prelude.{ℕ, ◌^◌, ◌<◌, ◌≡◌, true, false, length, take}
-use Rattle.std.proofs.Math.Option.{Option, none, some}
+use Rattle.std.specs.Prelude.{ℕ, ◌^◌, ◌<◌, ◌≡◌, true, false, length, take, Option, Some, None, Ok}
 use mathlib.Core.List.{List, [], ◌∷◌, ◌++◌, map, flatten}
 use Rattle.wire.specs.Choice.{first_of}
 use Rattle.wire.specs.Lists.{one_of}
@@ -26,8 +25,8 @@ use Rattle.service.specs.Contract.{Ran}
 use Rattle.service.specs.Claims.{Runs, answers_in}
 use Rattle.client_requests.specs.Writing.{Sender, body_format, request_for, legal_types, legal_sender, field_tests, write_outcome}
 use Rattle.client_requests.specs.declared.Types.{Types}
-use Rattle.client_requests.specs.declared.Written.TheVariants.{Bytes}
-use Rattle.client_responses.specs.Reading.{Asked, provider_for, Reply, found, response_reader}
+use Rattle.client_responses.specs.Reading.{provider_for, Reply, found, response_reader}
+use Rattle.client_responses.specs.declared.Asked.{Asked}
 use Rattle.client_responses.specs.State.{state_bytes, waiting, said}
 use Rattle.client_responses.specs.Claims.{ReadRun, ran_as, Reads, last_said}
 use Rattle.conversation.specs.Conversation.{reply_of, asked_by, result_for, replies_in_turn, Ask, written, asked_for, replies_to}
@@ -48,20 +47,20 @@ Small (verify_signature name hash signature) = Unit {0}
 pub record Writable (types : Types) (sender : Sender) (operation : Operation) : Type 0 where
   pub types_legal : legal_types types ≡ true
   pub sender_legal : legal_sender sender ≡ true
-  pub fields_legal : first_of (field_tests (body_format types) operation) ≡ none
+  pub fields_legal : first_of (field_tests (body_format types) operation) ≡ None
   pub small : Small operation
 
 -- the application that the service finds for a sender
 unfoldable pub application_for : (registry : List ℕ) → Sender → Option Line
-application_for registry none = none
-application_for registry (some name) = application_named registry name
+application_for registry None = None
+application_for registry (Some name) = application_named registry name
 
 -- framed as one whole request whatever follows it; the header's fields, the operation and the application
 pub record ReadAsWritten (session : ℕ) (types : Types) (sender : Sender) (operation : Operation) : Type 0 where
   pub framed : (rest : List ℕ) → next (request_bytes (request_for session types sender operation) ++ rest) ≡ whole (length (request_bytes (request_for session types sender operation)))
   pub within : oversized (request_bytes (request_for session types sender operation)) ≡ false
   pub fields : request_of (request_bytes (request_for session types sender operation)) ≡ request_for session types sender operation
-  pub operation_read : operation_of (format_of (body_format types)) (request_for session types sender operation).opcode (request_for session types sender operation).body ≡ some operation
+  pub operation_read : operation_of (format_of (body_format types)) (request_for session types sender operation).opcode (request_for session types sender operation).body ≡ Some operation
   pub application : (registry : List ℕ) → application_of registry (request_for session types sender operation) ≡ application_for registry sender
 
 -- for any pair of formats
@@ -75,7 +74,7 @@ pub record WroteRequest (ask : Ask) (n : ℕ) (out : List ℕ) : Type 0 where
 
 abbrev pub RequestsWritten : Type 0
 RequestsWritten = (ask : Ask) → Small ask.operation → (before : List ℕ) (n : ℕ) (out : List ℕ)
-    → record { answer = Bytes n; out = out } ≡ write_outcome before ask.session ask.types ask.sender ask.operation → WroteRequest ask n out
+    → record { answer = Ok n; out = out } ≡ write_outcome before ask.session ask.types ask.sender ask.operation → WroteRequest ask n out
 
 -- ---- "what the service writes to it, the client reads as the same response"
 
@@ -90,7 +89,7 @@ pub record Sent (request : List ℕ) : Type 0 where
 
 -- whatever follows the response, it is found to be this reply, and the reader takes it to its last byte and nothing more
 pub record Hears (asked : Asked) (response : List ℕ) (reply : Reply) : Type 0 where
-  pub finds : (rest : List ℕ) → found asked (response ++ rest) ≡ some reply
+  pub finds : (rest : List ℕ) → found asked (response ++ rest) ≡ Some reply
   pub reads : (rest : List ℕ) → read (response_reader asked) [] (response ++ rest) ≡ record { taken = length response; events = reply ∷ []; kept = response }
 
 -- on any well-formed registry and counts, under any list of keys that we ship; `reply_of` is never a refusal

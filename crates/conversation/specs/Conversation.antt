@@ -11,7 +11,8 @@ use Rattle.judgement.specs.Counts.{Counts, no_counts}
 use Rattle.judgement.specs.Judgement.{oversized_status, result_of, verdict_of, judgement}
 use Rattle.client_requests.specs.Writing.{Sender, request_for}
 use Rattle.client_requests.specs.declared.Types.{Types}
-use Rattle.client_responses.specs.Reading.{Asked, Reply, answered}
+use Rattle.client_responses.specs.Reading.{Reply, answered}
+use Rattle.client_responses.specs.declared.Asked.{Asked}
 
 -- a result as it is heard: a status's number and an output
 abbrev pub reply_of : Result → Reply

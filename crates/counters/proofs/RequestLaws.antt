@@ -1,7 +1,7 @@
 -- Every answered request is counted once: served for one application, served with auth type 0, or refused with one status.
+use Rattle.std.proofs.Common.{Option, Some, None}
 use mathlib.Core.Path.{◌≡◌, refl, ◌∙◌}
 use Prim.Native.Nat.{ℕ, zero, suc, ◌+◌, ◌<◌}
-use mathlib.Core.Option.{Option, none, some}
 use mathlib.Core.List.{List, [], ◌∷◌}
 use native.Mathlib.Omega.{arith}
 use lib.ListN.{length, replicate, get_or, length-set}
@@ -70,14 +70,14 @@ module _ (servedSum : List ℕ → ℕ) (Fits : (registry : List ℕ) → Type 0
         (omega arith, (served, length_increment c.refused (index_of status refused_statuses) ∙ refused))
 
     module _ (r : List ℕ) (c : Counts) (room : Room r c) where
-      one_served : (line : Option Line) → ((l : Line) → line ≡ some l → Used r l) → OneMore c (count_served c line)
+      one_served : (line : Option Line) → ((l : Line) → line ≡ Some l → Used r l) → OneMore c (count_served c line)
       unfolding count_served
-      one_served none used = (omega arith, room.1)
-      one_served (some line) used =
+      one_served None used = (omega arith, room.1)
+      one_served (Some line) used =
           let more = adds.one r line c.served room.0 (used line refl) room.1.0 in
           (omega arith, (length_increment c.served line.0 ∙ room.1.0, room.1.1))
 
-      one_counted : (line : Option Line) (status : Status) → ((l : Line) → line ≡ some l → Used r l) → OneMore c (count c line status)
+      one_counted : (line : Option Line) (status : Status) → ((l : Line) → line ≡ Some l → Used r l) → OneMore c (count c line status)
       unfolding count
       one_counted line status used =
           either (OneMore c) (eqb (status_number status) 0)

@@ -3,18 +3,18 @@ ghost use Rattle.std.specs.Prelude.{◌≡◌};
 ghost use Rattle.counters.specs.code.Counted.{event_of};
 
 use crate::Event;
-use judgement::statuses::status_number;
-use judgement::{Asker, Status};
+use judgement::Status;
+use registry::Line;
 
 // Status 0 is one more served, for the asker; any other is one more refused with that status.
-pub fn event_of(asker: Asker, status: Status) -> Event
+pub fn event_of(asker: Option<Line>, status: Status) -> Event
     ensures { result ≡ event_of asker status }
 {
-    if status_number(status) != 0 {
+    if status != Status::Success {
         return Event::Refused(status);
     }
     match asker {
-        Asker::Nobody => Event::ServedUnauthenticated,
-        Asker::Named(line) => Event::Served(line),
+        None => Event::ServedUnauthenticated,
+        Some(line) => Event::Served(line),
     }
 }

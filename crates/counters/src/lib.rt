@@ -5,7 +5,6 @@
 use judgement::{REFUSED_STATUSES, Status};
 use registry::{LINES, Line};
 
-mod add;
 pub mod counting;
 pub mod events;
 pub mod limit;
@@ -23,20 +22,20 @@ pub struct Counters {
     pub refused: [u64; REFUSED_STATUSES],
 }
 
-// What the request that a call answered counts as, if it answered one: each kind of request has a counter of its own.
+// What the request that a call answered counts as: each kind of request has a counter of its own.
 #[derive(Clone, Copy)]
 pub enum Event {
-    NoRequest,
     Served(Line),
     ServedUnauthenticated,
     Refused(Status),
 }
 
-// What a call adds: the bytes that it took, those of the request that it answered, those that it dropped, and that request.
+// What a call adds: the bytes that it took, those of the request that it answered, those that it dropped, and that request, if it
+// answered one.
 #[derive(Clone, Copy)]
 pub struct Increments {
     pub taken: usize,
     pub answered: u64,
     pub dropped: usize,
-    pub event: Event,
+    pub event: Option<Event>,
 }

@@ -7,17 +7,13 @@ use crate::Counters;
 // 2^62.
 pub const COUNTER_MOST: u64 = 4611686018427387904;
 
-// The largest of some counters.
+// The largest of some counters; 0 of none.
 fn largest(counters: &[u64]) -> u64
     ensures { result ≡ maximum counters.now }
 {
-    let mut most: u64 = 0;
-    let mut i = 0;
-    while i < counters.len() {
-        if most < counters[i] {
-            most = counters[i];
-        }
-        i += 1;
+    let mut most = 0;
+    for counter in counters {
+        most = most.max(*counter);
     }
     most
 }
@@ -26,22 +22,15 @@ fn largest(counters: &[u64]) -> u64
 pub fn is_too_high(c: Counters) -> bool
     ensures { result ≡ ltb counter_most (largest_counter c) }
 {
-    if COUNTER_MOST < c.taken {
-        return true;
-    }
-    if COUNTER_MOST < c.answered {
-        return true;
-    }
-    if COUNTER_MOST < c.dropped {
-        return true;
-    }
-    if COUNTER_MOST < c.unauthenticated {
-        return true;
-    }
-    let served = c.served;
-    if COUNTER_MOST < largest(&served) {
-        return true;
-    }
-    let refused = c.refused;
-    COUNTER_MOST < largest(&refused)
+    let served = largest(&c.served);
+    let refused = largest(&c.refused);
+    COUNTER_MOST
+        < largest(&[
+            c.taken,
+            c.answered,
+            c.dropped,
+            served,
+            c.unauthenticated,
+            refused,
+        ])
 }

@@ -1,12 +1,15 @@
 -- Laws of CRC-32: eight bits at once by what they make of the low byte alone, and the published check value.
 use mathlib.Core.Path.{◌≡◌, refl, sym, ap, ap₂, ◌∙◌}
 use mathlib.Core.Bool.{Bool, true, false}
-use mathlib.Core.List.{[], ◌∷◌}
-use Prim.Native.Nat.{ℕ, zero, suc, ◌+◌, ◌*◌, ◌/◌, ◌%◌, ◌^◌, ◌<◌}
+use mathlib.Core.List.{List, [], ◌∷◌}
+use Prim.Native.Nat.{ℕ, zero, suc, ◌+◌, ◌*◌, ◌/◌, ◌%◌, ◌^◌, ◌≤◌, ◌<◌}
 use native.Mathlib.Nat.{mul-one}
+use native.Mathlib.Numerals.{add-one}
 use native.Mathlib.Omega.{arith}
 use lib.Arith.{bin_ind}
 use lib.Bits.{bit_xor, differ, xor_step, xor_zero_r, xor_shr, xor_shifted, shifted_half, shifted_even}
+use lib.ListN.{length, drop, get_or, drop_of_length-le}
+use lib.Seq.{drop-cons}
 use lib.Pow.{split}
 use lib.Dec.{eqb}
 use Rattle.wire.specs.Choice.{when◌then◌else◌}
@@ -77,6 +80,17 @@ byte_by_table r b h =
     ap (shift_bits 8) (sym (split m 8) ∙ sym (xor_shifted (m / 256) 8 (m % 256) small))
     ∙ bits_over 8 (m / 256) (m % 256)
     ∙ ap (λ (x : ℕ). bit_xor x (shift_bits 8 (m % 256))) upper
+
+-- ---- the register after the bytes from i on
+
+module _ (register : ℕ) (bytes : List ℕ) (i : ℕ) where
+  pub register_on : i < length bytes → register_after register (drop i bytes) ≡ register_after (shift_byte register (get_or bytes i 0)) (drop (i + 1) bytes)
+  unfolding register_after
+  register_on h = rw (add-one, drop-cons bytes i 0 h)
+
+  pub register_end : length bytes ≤ i → register_after register (drop i bytes) ≡ register
+  unfolding register_after
+  register_end h = rw (drop_of_length-le bytes h)
 
 -- ---- the published check value: "123456789"
 

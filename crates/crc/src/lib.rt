@@ -48,30 +48,29 @@ pub fn table() -> [u32; 256]
 }
 
 // The register after one byte more.
+#[tactic(auto, using(crate::proofs::TableLaws::by_table))]
 pub fn take_byte(entries: &[u32; 256], register: u32, byte: u8) -> u32
     requires { entries.now ≡ table_entries }
     ensures { result ≡ shift_byte register byte }
 {
-    let mixed = register ^ (byte as u32);
-    let low = (mixed % 256) as usize;
-    let high = register / 256;
-    high ^ entries[low]
+    let low = (register ^ u32::from(byte)) % 256;
+    register / 256 ^ entries[low as usize]
 }
 
 // The register after all bytes of a slice, for a record that comes in pieces.
+#[tactic(auto, using(crate::proofs::CrcLaws::register_on, crate::proofs::CrcLaws::register_end))]
 pub fn take_bytes(register: u32, bytes: &[u8]) -> u32
     ensures { result ≡ register_after register bytes.now }
 {
     let entries = table();
     let mut kept = register;
-    let mut i = 0;
-    while i < bytes.len() {
-        kept = take_byte(&entries, kept, bytes[i]);
-        i += 1;
+    for byte in bytes {
+        kept = take_byte(&entries, kept, *byte);
     }
     kept
 }
 
+#[tactic(auto, unfolding(crate::specs::Crc::crc32))]
 pub fn crc32_of(bytes: &[u8]) -> u32
     ensures { result ≡ crc32 bytes.now }
 {

@@ -6,16 +6,18 @@ ghost use Rattle.std.specs.Prelude.{◌≡◌};
 ghost use Rattle.fields.specs.code.Fields.{kind_of, with_value, all_absent};
 
 // What a field number stands for in a message.
-#[derive(Clone, Copy)]
+#[derive(Clone, Copy, Default)]
 pub enum Kind {
     Bytes,
     Uint32,
     Boolean,
+    #[default]
     Unlisted,
 }
 
-// The kinds of a message's field numbers 1 to 5; no other is listed.
-#[derive(Clone, Copy)]
+// The kinds of a message's field numbers 1 to 5; no other is listed, and by default none is. Kept, here and in `Values`: five
+// names and no array, since a field is named by its number, which begins at 1, and an array's place for it would be one below.
+#[derive(Clone, Copy, Default)]
 pub struct Schema {
     pub k1: Kind,
     pub k2: Kind,
@@ -24,15 +26,15 @@ pub struct Schema {
     pub k5: Kind,
 }
 
-// A value: of bytes the start and the count in the body, of the other kinds the number.
-#[derive(Clone, Copy)]
+// A value: of bytes the start and the count in the body, of the other kinds the number. By default a field is absent.
+#[derive(Clone, Copy, Default)]
 pub struct Value {
     pub start: usize,
     pub len: usize,
     pub number: u32,
 }
 
-#[derive(Clone, Copy)]
+#[derive(Clone, Copy, Default)]
 pub struct Values {
     pub f1: Value,
     pub f2: Value,
@@ -41,74 +43,50 @@ pub struct Values {
     pub f5: Value,
 }
 
-// A body that was read: its message, or where its first unreadable field's tag starts.
-#[derive(Clone, Copy)]
-pub enum Body {
-    Message(Values),
-    Unreadable(usize),
+pub fn kind_of(schema: Schema, number: u64) -> Kind
+    ensures { result ≡ kind_of schema number }
+{
+    match number {
+        1 => schema.k1,
+        2 => schema.k2,
+        3 => schema.k3,
+        4 => schema.k4,
+        5 => schema.k5,
+        _ => Kind::Unlisted,
+    }
 }
 
-pub fn kind_of(k: Schema, n: u64) -> Kind
-    ensures { result ≡ kind_of k n }
+#[tactic(auto, unfolding(crate::specs::code::Fields::with_value))]
+pub fn with_value(values: Values, number: u64, value: Value) -> Values
+    ensures { result ≡ with_value values number value }
 {
-    if n == 1 {
-        return k.k1;
+    match number {
+        1 => Values {
+            f1: value,
+            ..values
+        },
+        2 => Values {
+            f2: value,
+            ..values
+        },
+        3 => Values {
+            f3: value,
+            ..values
+        },
+        4 => Values {
+            f4: value,
+            ..values
+        },
+        5 => Values {
+            f5: value,
+            ..values
+        },
+        _ => values,
     }
-    if n == 2 {
-        return k.k2;
-    }
-    if n == 3 {
-        return k.k3;
-    }
-    if n == 4 {
-        return k.k4;
-    }
-    if n == 5 {
-        return k.k5;
-    }
-    Kind::Unlisted
-}
-
-pub fn with_value(m: Values, n: u64, v: Value) -> Values
-    ensures { result ≡ with_value m n v }
-{
-    let mut r = m;
-    if n == 1 {
-        r.f1 = v;
-        return r;
-    }
-    if n == 2 {
-        r.f2 = v;
-        return r;
-    }
-    if n == 3 {
-        r.f3 = v;
-        return r;
-    }
-    if n == 4 {
-        r.f4 = v;
-        return r;
-    }
-    if n == 5 {
-        r.f5 = v;
-        return r;
-    }
-    r
 }
 
 pub fn all_absent() -> Values
     ensures { result ≡ all_absent }
 {
-    let none = Value {
-        start: 0,
-        len: 0,
-        number: 0,
-    };
-    Values {
-        f1: none,
-        f2: none,
-        f3: none,
-        f4: none,
-        f5: none,
-    }
+    Values::default()
 }

@@ -8,9 +8,9 @@ ghost use Rattle.starting.specs.code.Sources.{RosterRead, ListRead};
 ghost use Rattle.starting.specs.code.Stream.{ReadWithin, KeptWithin};
 ghost use Rattle.file_input.specs.Argument.{argument_file};
 
-use starting::files::{Front, Input, TURNS, front_of, input_of, is_end};
+use starting::files::{Input, TURNS, front_of, input_of, is_end};
 use starting::memory::roster_front;
-use starting::start::{Source, load_front};
+use starting::start::{StartRefusal, load_front};
 use std::fs::File;
 use std::io::Read;
 use std::rt::{Env, Files};
@@ -21,26 +21,12 @@ pub const BUFFER_SIZE: usize = 4096;
 // So many bytes of a stream are read at once.
 pub const CHUNK_SIZE: usize = 65536;
 
-// The file that an argument names, or that it can't be opened.
-#[derive(Drop)]
-pub enum Argument {
-    Open(File),
-    Missing,
-}
-
 // A path that is no text in UTF-8 can't be opened.
-pub fn open_argument(rt: &(impl Env + Files<File = File>), number: usize) -> Argument {
+pub fn open_argument(rt: &(impl Env + Files<File = File>), number: usize) -> Option<File> {
     let mut path = [0; BUFFER_SIZE];
-    let Ok(size) = rt.arg(number, &mut path) else {
-        return Argument::Missing;
-    };
-    let Ok(name) = str::from_utf8(&path[..size]) else {
-        return Argument::Missing;
-    };
-    match File::open(rt, name) {
-        Ok(file) => Argument::Open(file),
-        Err(_) => Argument::Missing,
-    }
+    let size = rt.arg(number, &mut path).ok()?;
+    let name = str::from_utf8(&path[..size]).ok()?;
+    File::open(rt, name).ok()
 }
 
 // Reads once. No signal is handled here, so that no read is interrupted.
@@ -56,19 +42,17 @@ pub fn read_some(file: &mut File, buffer: &mut [u8]) -> Input
 // Reads what is left of a file, and says whether it could be read to its end.
 pub fn read_rest(file: &mut File) -> bool {
     let mut buffer = [0; CHUNK_SIZE];
-    let mut turns = TURNS;
-    while 0 < turns {
+    for _ in 0..TURNS {
         let input = read_some(file, &mut buffer);
         let Input::Bytes(_) = input else {
             return is_end(input);
         };
-        turns -= 1;
     }
     false
 }
 
 // Reads a file to its end, and keeps as many of its first bytes as there is room for.
-pub fn read_front(file: &mut File, front: &mut [u8]) -> Front
+pub fn read_front(file: &mut File, front: &mut [u8]) -> Option<usize>
     ensures { KeptWithin (length front.old) result }
 {
     let mut size = 0;
@@ -83,12 +67,12 @@ pub fn read_front(file: &mut File, front: &mut [u8]) -> Front
 }
 
 // Reads a roster file into memory lent for the registry.
-pub fn read_roster(roster: Argument, registry: &mut [u8]) -> Source
+pub fn read_roster(roster: Option<File>, registry: &mut [u8]) -> Result<(), StartRefusal>
     requires { length registry.old ≡ registry_size }
     ensures { RosterRead (argument_file roster) registry.new result }
 {
-    let Argument::Open(mut file) = roster else {
-        return Source::Unreadable;
+    let Some(mut file) = roster else {
+        return Err(StartRefusal::Unreadable);
     };
     let mut front = roster_front();
     let read = read_front(&mut file, &mut front);
@@ -96,11 +80,10 @@ pub fn read_roster(roster: Argument, registry: &mut [u8]) -> Source
 }
 
 // Reads a list of keys: so many of its bytes are kept as decide whether it is good.
-pub fn read_list(list: Argument, front: &mut [u8]) -> Front
+#[tactic(auto, unfolding(crate::specs::Argument::argument_file, starting::specs::code::Sources::ListRead))]
+pub fn read_list(list: Option<File>, front: &mut [u8]) -> Option<usize>
     ensures { ListRead (argument_file list) (length front.old) result }
 {
-    let Argument::Open(mut file) = list else {
-        return Front::Unreadable;
-    };
+    let mut file = list?;
     read_front(&mut file, front)
 }

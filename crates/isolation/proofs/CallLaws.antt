@@ -1,9 +1,9 @@
 -- What a call on a connection brings, told from the bytes that the connection took since its last response: whatever the
 -- judgement may be.
+use Rattle.std.proofs.Common.{Option, Some, None}
 use mathlib.Core.Path.{◌≡◌, refl, sym, ap, ap₂, ◌∙◌, subst}
 use Prim.Native.Nat.{ℕ, ◌+◌, ◌-◌, ◌≤◌, ◌<◌}
 use mathlib.Core.Bool.{true, false, true≢false}
-use mathlib.Core.Option.{Option, none, some}
 use mathlib.Core.List.{List, [], ◌∷◌, ◌++◌, append_assoc}
 use native.Mathlib.Omega.{arith}
 use native.Mathlib.Decide.{dec_lt}
@@ -76,8 +76,8 @@ module _ {Reg Count Out : Type 0} (J : Judgement Reg Count Out) where
   -- a response is that of the verdict on all the bytes, one request, and then none are waiting; without one they all are, and
   -- nothing else changed
   abbrev pub Came : State Reg Count → (bytes : List ℕ) → Option Out → State Reg Count → Type 0
-  Came s bytes none s' = Stands s'.connection bytes × (s'.registry ≡ s.registry) × (s'.totals.counts ≡ s.totals.counts)
-  Came s bytes (some response) s' =
+  Came s bytes None s' = Stands s'.connection bytes × (s'.registry ≡ s.registry) × (s'.totals.counts ≡ s.totals.counts)
+  Came s bytes (Some response) s' =
       Stands s'.connection [] × (verdict_on J s.registry s.totals.counts bytes
       ≡ record { response = response; registry = s'.registry; counts = s'.totals.counts }) × OneRequest bytes × Closes bytes s'.connection
 

@@ -1,9 +1,9 @@
 -- ONE APPLICATION CAN'T SWAY ANOTHER, over the definitions.
+use Rattle.std.proofs.Common.{Some}
 use mathlib.Core.Path.{◌≡◌, refl, sym, ap, ap₂, ◌∙◌, subst}
 use Prim.Native.Nat.{ℕ}
 use mathlib.Core.Logic.{◌⊎◌, inl, inr}
 use mathlib.Core.Bool.{Bool, true, false}
-use mathlib.Core.Option.{some}
 use mathlib.Core.List.{List, [], ◌∷◌}
 use Rattle.stream.specs.Rules.{Verdict, closed}
 use Rattle.stream.specs.Parts.{verdict_on}
@@ -35,7 +35,7 @@ answered list registry counters calls = exchanges calls (from list registry coun
 
 -- a well-formed registry, or nothing was answered
 sound_or_idle : (list name : List ℕ) (line : Line) (registry : List ℕ) (counters : Counters) (calls : List CallOn) → EachLine counters
-    → application_named registry name ≡ some line
+    → application_named registry name ≡ Some line
     → Good list name line registry (counts_in counters) ⊎ (requests (answered list registry counters calls) ≡ [])
 unfolding totals_of
 sound_or_idle list name line registry counters calls lines there = go (well_formed_registry registry) refl
@@ -53,7 +53,7 @@ module _ (list name : List ℕ) (line : Line) (registry registry' : List ℕ) (c
   unswayed =
       let xs : List Exchange = answered list registry counters calls in
       let xs' : List Exchange = answered list registry' counters' calls' in
-      let there' : application_named registry' name ≡ some line = found_by_names registry' registry name (sym alike.roster) ∙ alike.there in
+      let there' : application_named registry' name ≡ Some line = found_by_names registry' registry name (sym alike.roster) ∙ alike.there in
       let a = agree (judgement list) (Good list name line) (is_by name) (view list name line) (projection list name line)
       (requests xs) (requests xs') (sym (only_those (is_by name) xs) ∙ same ∙ only_those (is_by name) xs')
       registry registry' (counts_in counters) (counts_in counters')

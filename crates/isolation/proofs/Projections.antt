@@ -1,9 +1,9 @@
 -- What an application has, its slots, their counts and its served count, is moved by its own requests alone, and they are answered
 -- by it alone.
+use Rattle.std.proofs.Common.{Some}
 use mathlib.Core.Path.{◌≡◌, refl, sym, ap, ap₂, ◌∙◌}
 use Prim.Native.Nat.{ℕ, ◌<◌}
 use mathlib.Core.Bool.{Bool, true, false, true≢false}
-use mathlib.Core.Option.{some}
 use mathlib.Core.List.{List}
 use native.Mathlib.Omega.{arith}
 use borrow.Author.Tests.{eqb-true, eq-eqb, not-true}
@@ -71,7 +71,7 @@ same_view a b c = λ i. record { slots = a i; uses = b i; served = c i }
 module _ (list name : List ℕ) (line : Line) where
   pub record Good (r : List ℕ) (c : Counts) : Type 0 where
     pub good : well_formed_registry r ≡ true
-    pub there : application_named r name ≡ some line
+    pub there : application_named r name ≡ Some line
     pub lines : length c.served ≡ line_count
 
   abbrev pub view : List ℕ → Counts → View
@@ -104,7 +104,7 @@ module _ (list name : List ℕ) (line : Line) where
         same_view u.slots u.uses u.served
 
     module _ (q : List ℕ) (mine : Own name q) where
-      asked : application_of r (request_of q) ≡ some line
+      asked : application_of r (request_of q) ≡ Some line
       asked = asks_by_name r (request_of q) mine.typed ∙ ap (application_named r) mine.named ∙ g.there
 
       own_moves : view (verdict_on (judgement list) r c q).registry (verdict_on (judgement list) r c q).counts

@@ -1,9 +1,9 @@
 -- Whatever the connections were: a history does to registry and counters what its answered requests do, judged one after the
 -- other, and answers as they are answered.
+use Rattle.std.proofs.Common.{Option, Some, None}
 use mathlib.Core.Path.{◌≡◌, refl, sym, ap, ◌∙◌, subst}
 use Prim.Native.Nat.{ℕ, ◌<◌}
 use mathlib.Core.Bool.{Bool, true, false, true≢false}
-use mathlib.Core.Option.{Option, none, some}
 use mathlib.Core.List.{List, [], ◌∷◌, ◌++◌, append-nil}
 use native.Mathlib.Omega.{arith}
 use borrow.Author.Tests.{eq-eqb, ne_eqb, eqb-true}
@@ -54,8 +54,8 @@ abbrev Happened : (list : List ℕ) → Memory → (w : List ℕ) → Call → C
 Happened list m w call o =
     HappenedIf list (eqb o.answer.given.response.count 0) m (w ++ take o.answer.taken call.chunk) (bytes_of o.answer.given.response) o.memory
 
-abbrev Some : Verdict (List ℕ) Counts (List ℕ) → Type 0
-Some v = 0 < length v.response
+abbrev Responds : Verdict (List ℕ) Counts (List ℕ) → Type 0
+Responds v = 0 < length v.response
 
 module _ (list : List ℕ) where
   closed_back : connection_of (connection_bytes closed) ≡ closed
@@ -68,10 +68,10 @@ module _ (list : List ℕ) where
     landed : (n : ℕ) (o : Option Handed) (s : State (List ℕ) Counts) → Came (judgement list) (state_in m) (w ++ take n call.chunk) (bare_event (recorded_for list) (judgement list) o) s
         → Happened list m w call (record { answer = took layout n o call; memory = memory_of s })
     unfolding layout give written memory_of state_in totals_of counters_of
-    landed n none s (stands, same, counts) = (stored s.connection _ stands, same, counts)
-    landed n (some h) s (stands, verdict, one, closes) =
+    landed n None s (stands, same, counts) = (stored s.connection _ stands, same, counts)
+    landed n (Some h) s (stands, verdict, one, closes) =
         let r : List ℕ = h.response in
-        let some-response : 0 < length r = subst Some verdict (verdict_some list m.registry (counts_in m.counters) (w ++ take n call.chunk)) in
+        let some-response : 0 < length r = subst Responds verdict (verdict_some list m.registry (counts_in m.counters) (w ++ take n call.chunk)) in
         rw (ne_eqb (length r) 0 (λ z. (let x : ⊥ = omega arith in x)), bytes_of_lem r call.lent.response) (stored s.connection [] stands, verdict, one, λ bad. ap (λ (c : Connection). connection_of (connection_bytes c)) (closes bad) ∙ closed_back)
 
     happened : Stands (connection_of m.connection) w → Happened list m w call (call_outcome list m call)
@@ -79,8 +79,8 @@ module _ (list : List ℕ) where
     happened stands = go (refusal_of list m call) refl
       where
         go : (o : Option ℕ) → refusal_of list m call ≡ o → Happened list m w call (call_outcome list m call)
-        go (some code) e = rw (refused_outcome list m call code e) (subst (Stands (connection_of m.connection)) (sym (append-nil w)) stands, refl, refl)
-        go none e =
+        go (Some code) e = rw (refused_outcome list m call code e) (subst (Stands (connection_of m.connection)) (sym (append-nil w)) stands, refl, refl)
+        go None e =
             let f : Effect (State (List ℕ) Counts) Handed = recorded_effect list m call.chunk in
             rw (taken_outcome list m call e) (landed f.taken f.event f.kept
             (subst (λ (x : Effect (State (List ℕ) Counts) (List ℕ)). Came (judgement list) (state_in m) (w ++ take x.taken call.chunk) x.event x.kept)
@@ -94,10 +94,10 @@ module _ (list : List ℕ) where
   closed_unread m call e = go (refusal_of list m call) refl
     where
       go : (o : Option ℕ) → refusal_of list m call ≡ o → Unread m (call_outcome list m call).answer.given.response.count (call_outcome list m call).memory
-      go (some code) q =
+      go (Some code) q =
           rw (refused_outcome list m call code q)
           (record { nothing_written = refl; still_closed = e; same_registry = refl; same_counts = refl; same_answered = refl })
-      go none q =
+      go None q =
           rw (taken_outcome list m call q, call_closed (journalling list) (state_in m) call.chunk e)
           (record { nothing_written = refl; still_closed = closed_back; same_registry = refl; same_counts = refl; same_answered = refl })
 
@@ -246,8 +246,8 @@ module _ (list : List ℕ) where
       go : (o : Option ℕ) → refusal_of list (lent h t.connection) t.call ≡ o
           → ((h : Host) (w : ℕ → List ℕ) → well_formed_registry h.registry ≡ false → exchanges_from w calls (history_of list h calls).answers ≡ [])
           → exchanges_from w (t ∷ calls) (history_of list h (t ∷ calls)).answers ≡ []
-      go none e ih = absurd (true≢false (sym (passed list (lent h t.connection) t.call e).ready.registry_good ∙ bad))
-      go (some code) e ih = rw (refused_outcome list (lent h t.connection) t.call code e) (ih _ _ bad)
+      go None e ih = absurd (true≢false (sym (passed list (lent h t.connection) t.call e).ready.registry_good ∙ bad))
+      go (Some code) e ih = rw (refused_outcome list (lent h t.connection) t.call code e) (ih _ _ bad)
 
   pub idle : (registry : List ℕ) (counters : Counters) (calls : List CallOn) → well_formed_registry registry ≡ false
       → exchanges calls (history_of list (fresh_with registry counters) calls).answers ≡ []

@@ -1,12 +1,12 @@
 -- Two histories, computed: application "b" imports a key, in two chunks, exports it, and exports one that we ship. In the second,
 -- application "a" imports and exports a key of the same name on another connection between the two chunks and after them, somebody
 -- asks under b's name with auth type 2, and a connection that closed is not read though b's name stands in what it is sent.
+use Rattle.std.proofs.Common.{is_some, option_and_then}
 use mathlib.Core.Path.{◌≡◌, refl}
 use Prim.Native.Nat.{ℕ}
-use mathlib.Core.Option.{bind}
 use mathlib.Core.List.{List, [], ◌∷◌, ◌++◌, flat_map, flatten}
 use lib.ListN.{length, take, drop, get_or, replicate}
-use Rattle.wire.specs.Choice.{first_of, is_some}
+use Rattle.wire.specs.Choice.{first_of}
 use Rattle.wire.specs.Lists.{one_of}
 use Rattle.wire.specs.Numbers.{little_endian, little_endian_of, field}
 use Rattle.wire.specs.Scan.{scan_from, scan_at}
@@ -96,7 +96,7 @@ record Shown : Type 0 where
 
 -- what application "b" gets
 showing : List CallOn → Shown
-unfolding first_of is_some one_of little_endian little_endian_of field scan_from scan_at request_of response_header response_bytes varint_of number_at fixed_at span_at content_at field_at group_at with_value item_of step_at varint_within varint number_field bytes_field packed_field flat_map flatten legal_name legal_data legal_bits import_bits opcodes_of listed message_bytes read_message packed_of read_body input_fields asking_of asked operation_of format_for content_type_of output_bytes index_from distinct key_bytes slot_bytes slot_of used used_slot well_formed_slot application_named slots_of uses_of slot_named changed line_of registry_of used_first well_formed_registry is_whole record_turn read_records pair_step pairs_done list_of well_formed_list keys_in listed_named shipped_key key_of own_in listed_in key_named legal_start oversized next judge is_beginning well_formed keep respond drop_byte open_rule skip_rule byte_rule call_rule call_on written bytes_of connection_bytes connection_of well_formed_connection status_number success refuse within_bounds place_key import_by perform_import counted export_of perform_export perform refuse_at operated no_counts increment index_of count_refused count_served count application_of refusals askers_slots result_of changed_by verdict_of refused_early judgement totals_of counters_of zero_counters maximum largest_count largest_counter state_in memory_of give recorded_for journalling layout refusal_tests refusal_of call_outcome with history_of exchanges_from exchanges is_by those bind
+unfolding first_of one_of little_endian little_endian_of field scan_from scan_at request_of response_header response_bytes varint_of number_at fixed_at span_at content_at field_at group_at with_value item_of step_at varint_within varint number_field bytes_field packed_field flat_map flatten legal_name legal_data legal_bits import_bits opcodes_of listed message_bytes read_message packed_of read_body input_fields asking_of asked operation_of format_for content_type_of output_bytes index_from distinct key_bytes slot_bytes slot_of used used_slot well_formed_slot application_named slots_of uses_of slot_named changed line_of registry_of used_first well_formed_registry is_whole record_turn read_records pair_step pairs_done list_of well_formed_list keys_in listed_named shipped_key key_of own_in listed_in key_named legal_start oversized next judge is_beginning well_formed keep respond drop_byte open_rule skip_rule byte_rule call_rule call_on written bytes_of connection_bytes connection_of well_formed_connection status_number success refuse within_bounds place_key import_by perform_import counted export_of perform_export perform refuse_at operated no_counts increment index_of count_refused count_served count application_of refusals askers_slots result_of changed_by verdict_of refused_early judgement totals_of counters_of zero_counters maximum largest_count largest_counter state_in memory_of give recorded_for journalling layout refusal_tests refusal_of call_outcome with history_of exchanges_from exchanges is_by those
 showing calls =
     let o = history_of shipped (fresh_with (registry_of ((0x61 ∷ []) ∷ (0x62 ∷ []) ∷ [])) zero_counters) calls in
     let xs = exchanges calls o.answers in

@@ -1,7 +1,6 @@
 -- What is claimed of two histories, of requests with auth type 0, and of a closed connection (document 02, "One application can't
 -- sway another").
-use Rattle.std.specs.Prelude.{ℕ, ◌≡◌, true, false, List, [], ◌∷◌, length, get_or, eqb}
-use Rattle.std.proofs.Math.Option.{some}
+use Rattle.std.specs.Prelude.{ℕ, ◌≡◌, true, false, List, [], ◌∷◌, length, get_or, eqb, Some}
 use Rattle.wire.specs.Request.{request_of}
 use Rattle.stream.specs.Frame.{legal_start}
 use Rattle.stream.specs.Rules.{judge, closed}
@@ -27,7 +26,7 @@ EachLine counters = length counters.served ≡ line_count
 -- the same roster, on which the application `name` has this line, and the same slots, counts of uses and served count for it
 pub record Alike (name : List ℕ) (line : Line) (registry registry' : List ℕ) (counters counters' : Counters) : Type 0 where
   pub roster : names_in registry ≡ names_in registry'
-  pub there : application_named registry name ≡ some line
+  pub there : application_named registry name ≡ Some line
   pub slots : slots_of registry line ≡ slots_of registry' line
   pub uses : uses_of registry line ≡ uses_of registry' line
   pub served : served_for counters line ≡ served_for counters' line

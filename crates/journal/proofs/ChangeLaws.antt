@@ -1,7 +1,7 @@
 -- WHAT IS RECORDED IS WHAT CHANGES: the record of a served request is told by its change alone.
+use Rattle.std.proofs.Common.{Option, Some, None}
 use mathlib.Core.Path.{◌≡◌, refl, sym, ap, subst, ◌∙◌}
 use mathlib.Core.Bool.{Bool, true, false, true≢false, false≢true}
-use mathlib.Core.Option.{Option, none, some}
 use mathlib.Core.List.{List}
 use Prim.Native.Nat.{ℕ, ◌+◌, ◌-◌, ◌≤◌, ◌<◌, min}
 use native.Mathlib.Omega.{arith}
@@ -46,7 +46,7 @@ use Rattle.journal.proofs.ReplayLaws.{recorded, Rests, opcodes_rest, export_rest
 abbrev is_served : Result → Bool
 is_served x = eqb (status_number x.status) 0
 
-rests_none : (slots : List Entry) (line : Line) (c : Change) → recorded c ≡ unchanged → none ≡ act_of_change slots line c
+rests_none : (slots : List Entry) (line : Line) (c : Change) → recorded c ≡ unchanged → None ≡ act_of_change slots line c
 unfolding act_of_change recorded
 rests_none slots line unchanged e = refl
 rests_none slots line (add_use slot) e = refl
@@ -66,23 +66,23 @@ rests_none slots line (clear slot) e = absurd (true≢false (ap is_fill e))
     is_fill (add_use s) = false
 
 module _ (slots : List Entry) (keys : List ListedKey) (line : Line) where
-  import_act : (key : Key) → is_served (perform_import key slots keys) ≡ true → some (importing line key) ≡ act_of_change slots line (perform_import key slots keys).change
+  import_act : (key : Key) → is_served (perform_import key slots keys) ≡ true → Some (importing line key) ≡ act_of_change slots line (perform_import key slots keys).change
   unfolding perform_import refuse success act_of_change
-  import_act key = import_ends import_bits slots keys key (λ (x : Result). is_served x ≡ true → some (importing line key) ≡ act_of_change slots line x.change)
+  import_act key = import_ends import_bits slots keys key (λ (x : Result). is_served x ≡ true → Some (importing line key) ≡ act_of_change slots line x.change)
       (λ status z _ s. absurd (false≢true (sym z ∙ s))) (λ slot t n e s. refl)
 
-  destroy_act : (name : List ℕ) → is_served (perform_destroy name slots keys) ≡ true → some (destroying line name) ≡ act_of_change slots line (perform_destroy name slots keys).change
+  destroy_act : (name : List ℕ) → is_served (perform_destroy name slots keys) ≡ true → Some (destroying line name) ≡ act_of_change slots line (perform_destroy name slots keys).change
   unfolding perform_destroy destroy_of refuse success status_number act_of_change
   destroy_act name s = first (legal_name key_name_most name) refl
     where
       second : legal_name key_name_most name ≡ true → (o : Option Source) → key_named name slots keys ≡ o
-          → some (destroying line name) ≡ act_of_change slots line (perform_destroy name slots keys).change
-      second v none e = absurd (false≢true (rw (v, e, perform_destroy) at s))
-      second v (some (listed key)) e = absurd (false≢true (rw (v, e, perform_destroy) at s))
-      second v (some (own slot key)) e =
-          rw (v, e, perform_destroy) (ap (λ (n : List ℕ). some (destroying line n)) (sym (found_name name slots slot (own_there name slots keys slot key e))))
+          → Some (destroying line name) ≡ act_of_change slots line (perform_destroy name slots keys).change
+      second v None e = absurd (false≢true (rw (v, e, perform_destroy) at s))
+      second v (Some (listed key)) e = absurd (false≢true (rw (v, e, perform_destroy) at s))
+      second v (Some (own slot key)) e =
+          rw (v, e, perform_destroy) (ap (λ (n : List ℕ). Some (destroying line n)) (sym (found_name name slots slot (own_there name slots keys slot key e))))
 
-      first : (t : Bool) → legal_name key_name_most name ≡ t → some (destroying line name) ≡ act_of_change slots line (perform_destroy name slots keys).change
+      first : (t : Bool) → legal_name key_name_most name ≡ t → Some (destroying line name) ≡ act_of_change slots line (perform_destroy name slots keys).change
       first false e = absurd (false≢true (rw (e, perform_destroy) at s))
       first true e = second e (key_named name slots keys) refl
 
@@ -104,10 +104,10 @@ module _ (list r : List ℕ) (q : Request) where
   asker = application_of r q
 
   by_asker : (o : Option Line) (operation : Operation) → is_served (perform operation (askers_slots r o) (keys_in list)) ≡ true
-      → act_asked o (some operation) ≡ act_of_asker (askers_slots r o) o (perform operation (askers_slots r o) (keys_in list)).change
+      → act_asked o (Some operation) ≡ act_of_asker (askers_slots r o) o (perform operation (askers_slots r o) (keys_in list)).change
   unfolding act_asked act_of_asker
-  by_asker none operation s = refl
-  by_asker (some line) operation s = operation_act (askers_slots r (some line)) (keys_in list) line operation s
+  by_asker None operation s = refl
+  by_asker (Some line) operation s = operation_act (askers_slots r (Some line)) (keys_in list) line operation s
 
   served_act_lem : is_served x ≡ true → act_asked asker (operation_of (format_of (format_for q.content_type)) q.opcode q.body) ≡ act_of_asker (askers_slots r asker) asker x.change
   unfolding operation_of
@@ -140,10 +140,10 @@ module _ (list r : List ℕ) (q : Request) where
     verified = λ source name e h. absurd (h (ap status_number (served_status source _)));
   })
 
-  nobody_stays : (o : Option Line) → none ≡ act_of_asker (askers_slots r o) o unchanged
+  nobody_stays : (o : Option Line) → None ≡ act_of_asker (askers_slots r o) o unchanged
   unfolding act_of_asker act_of_change
-  nobody_stays none = refl
-  nobody_stays (some line) = refl
+  nobody_stays None = refl
+  nobody_stays (Some line) = refl
 
   -- THE RECORD OF A REQUEST is that of its change, on the registry before it
   pub act_changed : served_act list r q ≡ act_of_asker (askers_slots r asker) asker x.change
@@ -161,9 +161,9 @@ record_short list r q = go (is_served (result_of list r q)) refl
     self : Alike r r
     self = record { names = refl; slots = λ line u. refl }
 
-    short : (o : Option Act) (after : List ℕ) → replay_any r o ≡ some after → length (record_for o) ≤ record_most
-    short none after e = unfold record_for in omega arith
-    short (some act) after e = unfold record_for replay_any in omega (arith, length_record act, replay_short r act after e)
+    short : (o : Option Act) (after : List ℕ) → replay_any r o ≡ Some after → length (record_for o) ≤ record_most
+    short None after e = unfold record_for in omega arith
+    short (Some act) after e = unfold record_for replay_any in omega (arith, length_record act, replay_short r act after e)
 
     go : (t : Bool) → is_served (result_of list r q) ≡ t → length (record_for (served_act list r q)) ≤ record_most
     go true e = short (served_act list r q) _ (served_replayed list r r self q e)

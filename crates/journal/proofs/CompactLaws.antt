@@ -1,8 +1,8 @@
 -- THE COMPACT READER READS AS THE READER DOES, of a file of bytes that is no longer than the longest: it takes as many bytes, brings
 -- the same events, and keeps what stands for what the reader keeps.
+use Rattle.std.proofs.Common.{Option, Some, None, is_some}
 use mathlib.Core.Path.{◌≡◌, refl, sym, ap, ap₂, ◌∙◌}
 use mathlib.Core.Bool.{Bool, true, false, not, ◌&&◌}
-use mathlib.Core.Option.{Option, none, some}
 use mathlib.Core.List.{List, [], ◌∷◌, ◌++◌, append_assoc}
 use Prim.Native.Nat.{ℕ, suc, ◌+◌, ◌-◌, ◌≤◌, ◌<◌, min}
 use native.Mathlib.Omega.{arith}
@@ -10,7 +10,7 @@ use borrow.Author.Tests.{lt-leb, leb-true, leb-false, lt-ltb, ltb-true, ltb-fals
 use lib.ListN.{length, take, drop, set, replicate, length-append, length-take, length-drop, take-append-drop}
 use lib.Seq.{take_all, take-append-le, drop-append-le}
 use lib.Dec.{leb, ltb, eqb}
-use Rattle.wire.specs.Choice.{when◌then◌else◌, is_some}
+use Rattle.wire.specs.Choice.{when◌then◌else◌}
 use Rattle.wire.specs.Lists.{all, padded}
 use Rattle.wire.specs.Numbers.{little_endian, field}
 use Rattle.wire.proofs.TestLaws.{and_left, and_right, either}
@@ -22,17 +22,15 @@ use Rattle.records.specs.Records.{record_length, value_in, record_in}
 use Rattle.crc.specs.Crc.{all_ones, shift_byte, register_after, crc32, residue}
 use Rattle.crc.proofs.ResidueLaws.{register_append, residue_tells}
 use Rattle.journal.specs.declared.Fault.{Fault}
-use Rattle.journal.specs.declared.Fault.TheVariants.{WrongCrc, WrongLayout, NotAllowed}
+use Rattle.journal.specs.declared.Fault.TheVariants.{WrongCrc}
 use Rattle.journal.specs.Record.{Act, sealed_length, is_whole, value_most, act_in}
-use Rattle.journal.specs.Replay.{fault_number, Judged, good, bad, judge_act, judge_record}
+use Rattle.journal.specs.Replay.{Judged, good, bad, judge_act, judge_record}
 use Rattle.journal.specs.Reader.{Kept, reading, after_record, after_byte, journal, read_journal}
 use Rattle.journal.specs.Compact.{front_most, file_most, Compact, between, front_then, with_byte, is_begun_whole, act_in_front, judge_begun, compact_record, compact_step, has_ended, compact_journal}
+use Rattle.journal.specs.code.Done.{fault_code}
+use Rattle.journal.proofs.StepLaws.{ended_fault}
 
 -- ---- what stands for what the reader keeps
-
-unfoldable pub fault_code : Option Fault → ℕ
-fault_code none = 0
-fault_code (some fault) = fault_number fault
 
 -- a record begun with these bytes
 abbrev pub begun_with : (registry : List ℕ) (fault kept : ℕ) (held : List ℕ) → Compact
@@ -143,18 +141,18 @@ module _ (h : List ℕ) (e : sealed_length h ≡ length h) (w : all is_byte h �
       ∙ residue_tells xs c (all_take is_byte (record_length h) h w) (all_drop is_byte (record_length h) h w) four
       ∙ ap (λ (l : List ℕ). eqb (little_endian l) (crc32 xs)) (sym (take_all 4 c (omega arith)))
 
-  too_long : value_most < length (value_in h) → act_in (record_in h) ≡ none
+  too_long : value_most < length (value_in h) → act_in (record_in h) ≡ None
   unfolding act_in
   too_long far = rw (lt-ltb value_most (length (value_in h)) far)
 
   act_same : act_in_front (front h) ≡ act_in (record_in h)
   unfolding act_in_front
-  act_same = ap (λ (n : ℕ). when ltb value_most n then none else act_in (record_in (front h))) n_is ∙ go (ltb value_most (field 1 2 h)) refl
+  act_same = ap (λ (n : ℕ). when ltb value_most n then None else act_in (record_in (front h))) n_is ∙ go (ltb value_most (field 1 2 h)) refl
     where
       n_is : field 1 2 (front h) ≡ field 1 2 h
       n_is = told h (omega arith)
 
-      go : (t : Bool) → ltb value_most (field 1 2 h) ≡ t → (when t then none else act_in (record_in (front h))) ≡ act_in (record_in h)
+      go : (t : Bool) → ltb value_most (field 1 2 h) ≡ t → (when t then None else act_in (record_in (front h))) ≡ act_in (record_in h)
       go true t =
           let long : length (value_in h) ≡ field 1 2 h = length_part h 3 (field 1 2 h) (omega arith) in
           let more : value_most < field 1 2 h = ltb-true _ _ t in
@@ -203,7 +201,7 @@ module _ (g : List ℕ) (k : ℕ) (h : List ℕ) (b : ℕ) where
   unfolding compact_step
   step_whole w = rw (whole_same next ∙ w)
 
-  step_more : is_whole next ≡ false → compact_step (begun_with g 0 k next) ≡ record { kept = begun_with g 0 k next; event = none }
+  step_more : is_whole next ≡ false → compact_step (begun_with g 0 k next) ≡ record { kept = begun_with g 0 k next; event = None }
   unfolding compact_step
   step_more w = rw (whole_same next ∙ w)
 
@@ -211,7 +209,7 @@ module _ (g : List ℕ) (k : ℕ) (h : List ℕ) (b : ℕ) where
   unfolding after_byte
   after_whole w = rw (w, after_byte)
 
-  after_more : is_whole next ≡ false → after_byte (reading g k h) next ≡ record { kept = reading g k next; event = none }
+  after_more : is_whole next ≡ false → after_byte (reading g k h) next ≡ record { kept = reading g k next; event = None }
   unfolding after_byte
   after_more w = rw (w, after_byte)
 
@@ -257,12 +255,6 @@ byte_sane g k h b n a w =
     (λ _. record_sane g k next (n + 1) m (judge_record g next))
     (λ u. record { unfinished = u; bytes = a; within = m })
 
-fault_some : (fault : Fault) → not (eqb (fault_number fault) 0) ≡ true
-unfolding fault_number
-fault_some WrongCrc = refl
-fault_some WrongLayout = refl
-fault_some NotAllowed = refl
-
 abbrev along : Reading Kept Fault → Reading Compact Fault
 along a = record { taken = a.taken; events = a.events; kept = compact_of a.kept }
 
@@ -283,15 +275,12 @@ reads_same (b ∷ bytes) s n p a w =
     by_fault : (o : Option Fault) → s.fault ≡ o
         → ((s' : Kept) → Sane (n + 1) s' → read compact_journal (compact_of s') bytes ≡ along (read journal s' bytes))
         → read compact_journal (compact_of s) (b ∷ bytes) ≡ along (read journal s (b ∷ bytes))
-    by_fault (some fault) e ih =
-        let over : is_some s.fault ≡ true = ap is_some e ∙ (unfold is_some in refl) in
+    by_fault (Some fault) e ih =
+        let over : is_some s.fault ≡ true = ap is_some e in
         let over' : has_ended (fault_code s.fault) s.kept (length s.held) ≡ true
-        = ap (λ (o : Option Fault). has_ended (fault_code o) s.kept (length s.held)) e ∙ ended_some fault in
+        = ap (λ (o : Option Fault). has_ended (fault_code o) s.kept (length s.held)) e ∙ sym (ended_fault (Some fault) s.kept (length s.held) refl) in
         read_past compact_journal (compact_of s) (b ∷ bytes) over' ∙ ap along (sym (read_past journal s (b ∷ bytes) over))
-      where
-        ended_some : (fault : Fault) → has_ended (fault_code (some fault)) s.kept (length s.held) ≡ true
-        ended_some fault = unfold has_ended fault_code in rw (fault_some fault)
-    by_fault none e ih =
+    by_fault None e ih =
         let t : Kept = reading s.registry s.kept s.held in
         let s-is : s ≡ t = (λ i. record { registry = s.registry; kept = s.kept; held = s.held; fault = e i }) in
         let c-is : compact_of s ≡ begun_with s.registry 0 s.kept s.held
@@ -312,11 +301,11 @@ reads_same (b ∷ bytes) s n p a w =
         ∙ ap along (sym (read_byte journal t b bytes not_over))
         ∙ ap (λ (x : Kept). along (read journal x (b ∷ bytes))) (sym s-is)
       where
-        no_code : begun_with s.registry (fault_code none) s.kept s.held ≡ begun_with s.registry 0 s.kept s.held
+        no_code : begun_with s.registry (fault_code None) s.kept s.held ≡ begun_with s.registry 0 s.kept s.held
         no_code = unfold fault_code in refl
 
         not_over : journal.ended (reading s.registry s.kept s.held) ≡ false
-        not_over = unfold is_some in refl
+        not_over = refl
 
 -- THE COMPACT READER READS AS THE READER DOES
 pub compact_reads : (first file : List ℕ) → all is_byte file ≡ true → length file ≤ file_most

@@ -1,7 +1,7 @@
 -- The uncut reader on records: whole, in part, cut at any byte, and refused.
+use Rattle.std.proofs.Common.{Some}
 use mathlib.Core.Path.{◌≡◌, refl, sym, ap, ap₂, ◌∙◌}
 use mathlib.Core.Bool.{Bool, true, false, true≢false}
-use mathlib.Core.Option.{some}
 use mathlib.Core.List.{List, [], ◌∷◌, ◌++◌, append_assoc, append-nil, flatten}
 use Prim.Native.Nat.{ℕ, suc, ◌+◌, ◌-◌, ◌≤◌, ◌<◌}
 use native.Mathlib.Omega.{arith}
@@ -9,7 +9,6 @@ use borrow.Author.Tests.{le-leb, lt-leb, leb-true, leb-false, eqb-true, eq-eqb}
 use lib.ListN.{length, take, drop, length-append, length-drop, take-append-drop}
 use lib.Seq.{take-nil, take-append-le, take-append-add, length-take-le}
 use lib.Dec.{leb}
-use Rattle.wire.specs.Choice.{is_some}
 use Rattle.wire.specs.Lists.{all}
 use Rattle.wire.specs.Numbers.{field}
 use Rattle.wire.proofs.TestLaws.{and_left, and_right, some≢none}
@@ -89,12 +88,10 @@ read_then s xs ys = ap (λ (a : Reading Kept Fault). a.kept) (read_append journa
 module _ (g : List ℕ) (k : ℕ) where
   on : (h : List ℕ) (b : ℕ) (xs : List ℕ)
       → (read journal (reading g k h) (b ∷ xs)).kept ≡ (read journal (after_byte (reading g k h) (h ++ (b ∷ []))).kept xs).kept
-  unfolding is_some
   on h b xs = ap (λ (a : Reading Kept Fault). a.kept) (read_byte journal (reading g k h) b xs refl)
 
   takes : (h : List ℕ) (b : ℕ) (xs : List ℕ)
       → (read journal (reading g k h) (b ∷ xs)).taken ≡ suc (read journal (after_byte (reading g k h) (h ++ (b ∷ []))).kept xs).taken
-  unfolding is_some
   takes h b xs = ap (λ (a : Reading Kept Fault). a.taken) (read_byte journal (reading g k h) b xs refl)
 
   held_on : (h h' : List ℕ) → is_whole h' ≡ false → (after_byte (reading g k h) h').kept ≡ reading g k h'
@@ -175,8 +172,8 @@ module _ (g : List ℕ) (k : ℕ) where
 
 -- ---- record after record
 
-good_first : (g x : List ℕ) (records : List (List ℕ)) (last : List ℕ) → after_all g (x ∷ records) ≡ some last
-    → {P : Type 0} → ((after : List ℕ) → judge_record g x ≡ good after → after_all after records ≡ some last → P) → P
+good_first : (g x : List ℕ) (records : List (List ℕ)) (last : List ℕ) → after_all g (x ∷ records) ≡ Some last
+    → {P : Type 0} → ((after : List ℕ) → judge_record g x ≡ good after → after_all after records ≡ Some last → P) → P
 unfolding after_all
 good_first g x records last e {P} f = go (judge_record g x) refl
   where
@@ -185,7 +182,7 @@ good_first g x records last e {P} f = go (judge_record g x) refl
     go (bad fault) q = absurd (some≢none last (sym (rw (q, after_all) at e)))
 
 -- all of them
-pub read_all : (g : List ℕ) (k : ℕ) (records : List (List ℕ)) (last : List ℕ) → all is_record records ≡ true → after_all g records ≡ some last
+pub read_all : (g : List ℕ) (k : ℕ) (records : List (List ℕ)) (last : List ℕ) → all is_record records ≡ true → after_all g records ≡ Some last
     → (read journal (reading g k []) (flatten records)).kept ≡ reading last (k + length (flatten records)) []
 unfolding flatten
 read_all g k [] last r e = unfold read after_all in (let same : g ≡ last = cc in ap₂ (λ (a : List ℕ) (n : ℕ). reading a n []) same (omega arith))
@@ -201,11 +198,11 @@ read_all g k (x ∷ records) last r e =
 pub record FirstBytes (g : List ℕ) (k n : ℕ) (records : List (List ℕ)) : Type 0 where
   pub after : List ℕ
   pub held : List ℕ
-  pub replayed : after_all g (whole_in n records) ≡ some after
+  pub replayed : after_all g (whole_in n records) ≡ Some after
   pub parts : take n (flatten records) ≡ flatten (whole_in n records) ++ held
   pub reads : (read journal (reading g k []) (take n (flatten records))).kept ≡ reading after (k + length (flatten (whole_in n records))) held
 
-pub first_bytes : (g : List ℕ) (k n : ℕ) (records : List (List ℕ)) (last : List ℕ) → all is_record records ≡ true → after_all g records ≡ some last → FirstBytes g k n records
+pub first_bytes : (g : List ℕ) (k n : ℕ) (records : List (List ℕ)) (last : List ℕ) → all is_record records ≡ true → after_all g records ≡ Some last → FirstBytes g k n records
 unfolding flatten whole_in after_all
 first_bytes g k n [] last r e = record {
   after = g;

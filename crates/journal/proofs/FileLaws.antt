@@ -1,15 +1,15 @@
 -- CUT ANYWHERE, EVERY FILE, and J1 TO J3: what calls of the code come to on a file of records, in any chunks.
+use Rattle.std.proofs.Common.{Some, None, is_some}
 use mathlib.Core.Path.{◌≡◌, refl, sym, ap, ap₂, ◌∙◌, subst}
 use Prim.Native.Nat.{ℕ, zero, suc, ◌+◌, ◌≤◌, ◌<◌}
 use mathlib.Core.Bool.{true, false, ◌&&◌}
-use mathlib.Core.Option.{none, some}
 use mathlib.Core.List.{List, [], ◌∷◌, ◌++◌, append_assoc, flatten}
 use native.Mathlib.Omega.{arith}
 use native.Mathlib.Nat.{zero-add, le_refl}
 use borrow.Author.Tests.{eq-eqb, ne_eqb}
 use lib.ListN.{length, take, length-append, length-take}
 use lib.Dec.{ltb, eqb}
-use Rattle.wire.specs.Choice.{when◌then◌else◌, is_some}
+use Rattle.wire.specs.Choice.{when◌then◌else◌}
 use Rattle.wire.specs.Lists.{all}
 use Rattle.wire.proofs.ListLaws.{all_take}
 use Rattle.registry.specs.WellFormed.{well_formed_registry}
@@ -32,17 +32,16 @@ reads_as registry file result w f e = subst (ReadsAs registry file) e (file_back
 -- ---- a file of which no record is refused
 
 -- the reader is at a border, or waits for the rest of a record
-border : (held : List ℕ) (kept n : ℕ) → n ≡ kept + length held → said_for none held ≡ (when eqb kept n then AtBorder else Waiting)
+border : (held : List ℕ) (kept n : ℕ) → n ≡ kept + length held → said_for None held ≡ (when eqb kept n then AtBorder else Waiting)
 border [] kept n e = rw (eq-eqb kept n (omega arith))
 border (b ∷ held) kept n e = rw (ne_eqb kept n (λ z. omega (arith, z)))
 
-border_alone : (held : List ℕ) → said_for none held ≡ (when eqb (length held) 0 then AtBorder else Waiting)
+border_alone : (held : List ℕ) → said_for None held ≡ (when eqb (length held) 0 then AtBorder else Waiting)
 border_alone [] = refl
 border_alone (b ∷ held) = rw (ne_eqb (length (b ∷ held)) 0 (λ z. omega (arith, z)))
 
 pub unrefused : (registry file after held : List ℕ) (kept : ℕ) → (read_journal registry file).kept ≡ reading after kept held → length file ≡ kept + length held
     → read_back registry file ≡ record { said = when eqb kept (length file) then AtBorder else Waiting; taken = length file; kept = kept; registry = after }
-unfolding is_some
 unrefused registry file after held kept e n =
     let all_taken : (read_journal registry file).taken ≡ length file
     = (extent journal (reading registry 0 []) file).all (ap (λ (s : Kept). is_some s.fault) e) in
@@ -78,9 +77,8 @@ cut_anywhere registry records last w r e (b, l) n =
 -- ---- J1, J2, J3
 
 refused_back : (registry : List ℕ) (records : List (List ℕ)) (last x rest : List ℕ) (fault : Fault) → all is_record records ≡ true
-    → after_all registry records ≡ some last → is_record x ≡ true → judge_record last x ≡ bad fault
+    → after_all registry records ≡ Some last → is_record x ≡ true → judge_record last x ≡ bad fault
     → read_back registry (flatten records ++ (x ++ rest)) ≡ record { said = Refused fault; taken = length (flatten records) + length x; kept = length (flatten records); registry = last }
-unfolding is_some
 refused_back registry records last x rest fault r e rx q =
     let k : ℕ = length (flatten records) in
     let s : Kept = reading registry 0 [] in
@@ -145,7 +143,7 @@ divide (suc fuel) g bytes h = divide_first g bytes (λ after f. divide fuel afte
 pub every_file : EveryFile
 every_file registry file = divide (length file) registry file (le_refl (length file))
 
-waiting_back : (registry : List ℕ) (records : List (List ℕ)) (last rest : List ℕ) → all is_record records ≡ true → after_all registry records ≡ some last
+waiting_back : (registry : List ℕ) (records : List (List ℕ)) (last rest : List ℕ) → all is_record records ≡ true → after_all registry records ≡ Some last
     → is_whole rest ≡ false → (read_journal registry (flatten records ++ rest)).kept ≡ reading last (length (flatten records)) rest
 waiting_back registry records last rest r e u =
     let k : ℕ = length (flatten records) in

@@ -1,7 +1,7 @@
 -- What reading keeps: a well-formed registry stays well formed, whoever wrote the file.
+use Rattle.std.proofs.Common.{Option, Some, None}
 use mathlib.Core.Path.{◌≡◌, refl, sym, ap, ◌∙◌}
 use mathlib.Core.Bool.{Bool, true, false, not, ◌&&◌}
-use mathlib.Core.Option.{Option, none, some}
 use mathlib.Core.List.{List, [], ◌∷◌, ◌++◌}
 use Prim.Native.Nat.{ℕ}
 use borrow.Author.Tests.{ltb-true}
@@ -43,20 +43,20 @@ module _ (slots : List Entry) where
   destroy_allowed name = first (legal_name key_name_most name) refl
     where
       second : legal_name key_name_most name ≡ true → (o : Option Source) → key_named name slots [] ≡ o → Allowed slots (perform_destroy name slots []).change
-      second v none e = rw (v, e, perform_destroy) stays
-      second v (some (own slot key)) e = rw (v, e, perform_destroy) (clears name (own_there name slots [] slot key e))
-      second v (some (listed key)) e = rw (v, e, perform_destroy) stays
+      second v None e = rw (v, e, perform_destroy) stays
+      second v (Some (own slot key)) e = rw (v, e, perform_destroy) (clears name (own_there name slots [] slot key e))
+      second v (Some (listed key)) e = rw (v, e, perform_destroy) stays
 
       first : (t : Bool) → legal_name key_name_most name ≡ t → Allowed slots (perform_destroy name slots []).change
       first false e = rw (e, perform_destroy) stays
       first true e = second e (key_named name slots []) refl
 
 module _ (r : List ℕ) (line : Line) where
-  pub carried_is : (x : Result) (after : List ℕ) → carried_out r line x ≡ some after → (in_use r line ≡ true) × (changed r line x.change ≡ after)
+  pub carried_is : (x : Result) (after : List ℕ) → carried_out r line x ≡ Some after → (in_use r line ≡ true) × (changed r line x.change ≡ after)
   unfolding carried_out
   carried_is x after e = go (in_use r line) (eqb (status_number x.status) 0) e
     where
-      go : (t v : Bool) → (let o : Option (List ℕ) = when t && v then some (changed r line x.change) else none in o) ≡ some after
+      go : (t v : Bool) → (let o : Option (List ℕ) = when t && v then Some (changed r line x.change) else None in o) ≡ Some after
           → (t ≡ true) × (changed r line x.change ≡ after)
       go true true q = (refl, cc)
       go true false q = absurd (some≢none after (sym q))
@@ -67,12 +67,12 @@ module _ (r : List ℕ) (line : Line) where
   used u = record { there = ltb-true _ _ (and_left _ _ u); used = and_right (ltb line.0 line_count) _ u }
 
   carried_good : (x : Result) (after : List ℕ) → well_formed_registry r ≡ true → Allowed (slots_of r line) x.change
-      → carried_out r line x ≡ some after → well_formed_registry after ≡ true
+      → carried_out r line x ≡ Some after → well_formed_registry after ≡ true
   carried_good x after w ok e =
       let (u, same) = carried_is x after e in
       ap well_formed_registry (sym same) ∙ (change_kept r w line (used u) x.change ok).0
 
-pub replay_good : (r : List ℕ) (act : Act) (after : List ℕ) → well_formed_registry r ≡ true → replay r act ≡ some after → well_formed_registry after ≡ true
+pub replay_good : (r : List ℕ) (act : Act) (after : List ℕ) → well_formed_registry r ≡ true → replay r act ≡ Some after → well_formed_registry after ≡ true
 unfolding replay
 replay_good r (importing line key) after w e = carried_good r line _ after w (import_allowed (slots_of r line) key) e
 replay_good r (destroying line name) after w e = carried_good r line _ after w (destroy_allowed (slots_of r line) name) e
@@ -84,12 +84,12 @@ GoodIf (bad fault) = Unit {0}
 
 pub act_good : (r : List ℕ) → well_formed_registry r ≡ true → (o : Option Act) → GoodIf (judge_act r o)
 unfolding judge_act GoodIf
-act_good r w none = tt
-act_good r w (some act) = go (replay r act) refl
+act_good r w None = tt
+act_good r w (Some act) = go (replay r act) refl
   where
-    go : (o : Option (List ℕ)) → replay r act ≡ o → GoodIf (judge_act r (some act))
-    go none e = rw (e, judge_act) tt
-    go (some after) e = rw (e, judge_act) (replay_good r act after w e)
+    go : (o : Option (List ℕ)) → replay r act ≡ o → GoodIf (judge_act r (Some act))
+    go None e = rw (e, judge_act) tt
+    go (Some after) e = rw (e, judge_act) (replay_good r act after w e)
 
 judged_good : (r bytes : List ℕ) → well_formed_registry r ≡ true → GoodIf (judge_record r bytes)
 unfolding judge_record

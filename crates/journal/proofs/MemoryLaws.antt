@@ -1,7 +1,7 @@
 -- The journal's reader in lent memory: what a call can meet, stored and loaded, and what the cut theorem asks for.
+use Rattle.std.proofs.Common.{None}
 use mathlib.Core.Path.{◌≡◌, refl, sym, ap, ap₂, ◌∙◌}
 use mathlib.Core.Bool.{true, false, not}
-use mathlib.Core.Option.{none}
 use mathlib.Core.List.{List, [], ◌∷◌, ◌++◌}
 use Prim.Native.Nat.{ℕ, zero, suc, ◌+◌, ◌-◌, ◌≤◌, ◌<◌}
 use native.Mathlib.Omega.{arith}
@@ -155,7 +155,7 @@ module _ (s : Compact) where
 
 -- ---- what the cut theorem asks of a reader
 
-pub accepted : (s : Compact) → Reachable s → read_refusal s.registry (state_bytes s) ≡ none
+pub accepted : (s : Compact) → Reachable s → read_refusal s.registry (state_bytes s) ≡ None
 unfolding read_refusal first_of
 accepted s r = rw (r.good, state_good s r)
 

@@ -1,9 +1,9 @@
 -- THE JOURNAL READ IN PIECES by the code: its calls are the definition's, so that the cut theorem speaks of them, and what they
 -- come to is what the uncut reader comes to.
+use Rattle.std.proofs.Common.{Option, Some, None}
 use mathlib.Core.Path.{◌≡◌, refl, sym, ap, ap₂, subst, ◌∙◌}
 use Prim.Native.Nat.{ℕ, suc, ◌+◌}
 use mathlib.Core.Bool.{Bool, true, false, not}
-use mathlib.Core.Option.{Option, none, some}
 use mathlib.Core.List.{List, [], ◌∷◌, flatten}
 use native.Mathlib.Omega.{arith}
 use native.Mathlib.Nat.{zero-add}
@@ -30,18 +30,19 @@ use Rattle.journal.specs.Reader.{Kept, read_journal}
 use Rattle.journal.specs.Compact.{Compact, between, with_byte, is_begun_whole, judge_begun, compact_record, compact_step, has_ended, compact_journal}
 use Rattle.journal.specs.Memory.{state_bytes, compact_in, well_formed_state, fresh_state, read_refusal, fault_of, said_of, ReadOutcome, outcome_of, read_outcome, Memory, journal_layout, refusal}
 use Rattle.journal.specs.Claims.{Contract, refusal_in, fault_in, ran_as, Reads, begun_on, ReadBack, read_by, said_for, read_back_in, read_back, ReadsAs, is_file, InPieces, KeepsMemory}
-use Rattle.journal.proofs.CompactLaws.{fault_code, compact_of, compact_reads}
+use Rattle.journal.specs.code.Done.{fault_code}
+use Rattle.journal.proofs.CompactLaws.{compact_of, compact_reads}
 use Rattle.journal.proofs.MemoryLaws.{Reachable, goes_on, state_back, state_good, accepted, sound, reachable_in}
 
 -- ---- a call stops at the reader's end alone, so that it is uncut reading
 
-ends : (s : Compact) (fault : Fault) → (compact_step s).event ≡ some fault
+ends : (s : Compact) (fault : Fault) → (compact_step s).event ≡ Some fault
     → (let t : Compact = (compact_step s).kept in has_ended t.fault t.kept t.count ≡ true)
 unfolding compact_step
-ends s fault = either (λ (x : Step Compact Fault). x.event ≡ some fault → has_ended x.kept.fault x.kept.kept x.kept.count ≡ true)
+ends s fault = either (λ (x : Step Compact Fault). x.event ≡ Some fault → has_ended x.kept.fault x.kept.kept x.kept.count ≡ true)
     (is_begun_whole s.count s.front) (λ _. by_judged (judge_begun s.registry s.register s.front)) (λ _ q. absurd (some≢none fault (sym q)))
   where
-    by_judged : (j : Judged) → (compact_record s j).event ≡ some fault
+    by_judged : (j : Judged) → (compact_record s j).event ≡ Some fault
         → (let t : Compact = (compact_record s j).kept in has_ended t.fault t.kept t.count ≡ true)
     by_judged (good after) q = absurd (some≢none fault (sym (unfold compact_record in q)))
     by_judged (bad WrongCrc) q = unfold compact_record has_ended fault_number in refl
@@ -75,10 +76,10 @@ call_reads (b ∷ chunk) s = decide (compact_journal.ended s) past (on (call_rea
         k = ap (λ (x : Reading Compact Fault). x.kept) (read_byte compact_journal s b chunk e)
 
         go : (o : Option Fault) → (compact_journal.byte s b).event ≡ o → SameEffect s (b ∷ chunk)
-        go none q =
+        go None q =
             let c = call_on_lem compact_journal s b chunk e q in
             (ap (λ (x : Effect Compact Fault). x.taken) c ∙ ap suc ih.0 ∙ sym r, ap (λ (x : Effect Compact Fault). x.kept) c ∙ ih.1 ∙ sym k)
-        go (some fault) q =
+        go (Some fault) q =
             let c = call_event compact_journal s b chunk e fault q in
             let p = read_past compact_journal (compact_journal.byte s b).kept chunk (ends (with_byte s b) fault q) in (
               ap (λ (x : Effect Compact Fault). x.taken) c ∙ sym (r ∙ ap (λ (x : Reading Compact Fault). suc x.taken) p),
@@ -123,23 +124,23 @@ no_fault fault kept count e = eqb-true fault 0 (not_across _ _ (or_left _ _ e))
 
 said_fault : (o : Option Fault) (count : ℕ) → fault_in (said_of (fault_code o) count) ≡ o
 unfolding said_of fault_code
-said_fault none count = either (λ (s : Said). fault_in s ≡ none) (eqb count 0) (λ _. refl) (λ _. refl)
-said_fault (some WrongCrc) count = unfold fault_number fault_of in refl
-said_fault (some WrongLayout) count = unfold fault_number fault_of in refl
-said_fault (some NotAllowed) count = unfold fault_number fault_of in refl
+said_fault None count = either (λ (s : Said). fault_in s ≡ None) (eqb count 0) (λ _. refl) (λ _. refl)
+said_fault (Some WrongCrc) count = unfold fault_number fault_of in refl
+said_fault (Some WrongLayout) count = unfold fault_number fault_of in refl
+said_fault (Some NotAllowed) count = unfold fault_number fault_of in refl
 
-not_refused : (fault count : ℕ) → refusal_in (said_of fault count) ≡ none
+not_refused : (fault count : ℕ) → refusal_in (said_of fault count) ≡ None
 unfolding said_of
 not_refused fault count =
-    either (λ (s : Said). refusal_in s ≡ none) (not (eqb fault 0)) (λ _. refl) (λ _. either (λ (s : Said). refusal_in s ≡ none) (eqb count 0) (λ _. refl) (λ _. refl))
+    either (λ (s : Said). refusal_in s ≡ None) (not (eqb fault 0)) (λ _. refl) (λ _. either (λ (s : Said). refusal_in s ≡ None) (eqb count 0) (λ _. refl) (λ _. refl))
 
 said_for_lem : (o : Option Fault) (held : List ℕ) → said_of (fault_code o) (length held) ≡ said_for o held
 unfolding said_of fault_code
-said_for_lem (some WrongCrc) held = unfold fault_number fault_of in refl
-said_for_lem (some WrongLayout) held = unfold fault_number fault_of in refl
-said_for_lem (some NotAllowed) held = unfold fault_number fault_of in refl
-said_for_lem none [] = refl
-said_for_lem none (b ∷ held) = rw (ne_eqb (length (b ∷ held)) 0 (λ z. omega (arith, z)))
+said_for_lem (Some WrongCrc) held = unfold fault_number fault_of in refl
+said_for_lem (Some WrongLayout) held = unfold fault_number fault_of in refl
+said_for_lem (Some NotAllowed) held = unfold fault_number fault_of in refl
+said_for_lem None [] = refl
+said_for_lem None (b ∷ held) = rw (ne_eqb (length (b ∷ held)) 0 (λ z. omega (arith, z)))
 
 -- ---- THE CODE'S CALL IS `reading`'s
 
@@ -157,7 +158,7 @@ on_call s call r = rw (accepted s r, call_on, state_back s)
 
 -- a call that takes a byte brings the fault that it says
 gives : (s : Compact) (chunk : List ℕ)
-    → (let e = call_rule compact_journal s chunk in (when eqb e.taken 0 then none else fault_in (said_of e.kept.fault e.kept.count)) ≡ e.event)
+    → (let e = call_rule compact_journal s chunk in (when eqb e.taken 0 then None else fault_in (said_of e.kept.fault e.kept.count)) ≡ e.event)
 unfolding call_rule
 gives s [] = refl
 gives s (b ∷ chunk) =
@@ -271,11 +272,11 @@ module _ (registry state chunk : List ℕ) where
   abbrev refused_as : Said → ReadOutcome
   refused_as said = record { said = said; taken = 0; kept = 0; state = state; registry = registry }
 
-  refused_call : (said : Said) → read_refusal registry state ≡ some said → read_outcome registry state chunk ≡ refused_as said
+  refused_call : (said : Said) → read_refusal registry state ≡ Some said → read_outcome registry state chunk ≡ refused_as said
   unfolding read_outcome
   refused_call said e = rw (e, read_outcome)
 
-  well_there : read_refusal registry state ≡ none → Reachable (compact_in registry state)
+  well_there : read_refusal registry state ≡ None → Reachable (compact_in registry state)
   unfolding read_refusal
   well_there e =
       let tests : List (Bool × Said) = (not (well_formed_registry registry), RegistryIllFormed) ∷ (not (well_formed_state state), StateIllFormed) ∷ [] in
@@ -286,8 +287,8 @@ module _ (registry state chunk : List ℕ) where
   by_refusal P f g = go (read_refusal registry state) refl
     where
       go : (o : Option Said) → read_refusal registry state ≡ o → P (read_outcome registry state chunk)
-      go (some said) e = rw (e, read_outcome) (f said)
-      go none e =
+      go (Some said) e = rw (e, read_outcome) (f said)
+      go None e =
           let a : Reading Compact Fault = read compact_journal (compact_in registry state) chunk in
           rw (e, read_outcome) (g a.kept a.taken (reached (compact_in registry state) chunk (well_there e)))
 

@@ -51,8 +51,8 @@ module _ (s₀ : Compact) (chunk : List ℕ) where
         let past = read_past compact_journal s (drop i chunk) e in
         (sym (ap (λ (a : Reading Compact Fault). a.kept) past) ∙ p.kept_is, omega (arith, ap (λ (a : Reading Compact Fault). a.taken) past, p.taken_is))
 
-    pub part_end : length chunk ≤ i → (s ≡ whole.kept) × (i ≡ whole.taken)
+    pub part_end : length chunk ≤ i → (s ≡ whole.kept) × (length chunk ≡ whole.taken)
     unfolding read
     part_end h =
         let none : drop i chunk ≡ [] = drop_of_length-le chunk h in
-        (sym (ap (λ (l : List ℕ). (read compact_journal s l).kept) none) ∙ p.kept_is, omega (arith, ap (λ (l : List ℕ). (read compact_journal s l).taken) none, p.taken_is))
+        (sym (ap (λ (l : List ℕ). (read compact_journal s l).kept) none) ∙ p.kept_is, omega (arith, ap (λ (l : List ℕ). (read compact_journal s l).taken) none, p.taken_is, p.left))

@@ -1,7 +1,7 @@
 -- A RECORD WRITTEN IS READ AS ITSELF: it has the layout, its length and its CRC, and says what was written.
+use Rattle.std.proofs.Common.{Option, Some, None}
 use mathlib.Core.Path.{◌≡◌, refl, sym, ap, ap₂, ◌∙◌}
 use mathlib.Core.Bool.{Bool, true, false}
-use mathlib.Core.Option.{Option, none, some}
 use mathlib.Core.List.{List, [], ◌++◌, append_assoc, append-nil}
 use Prim.Native.Nat.{ℕ, ◌+◌, ◌≤◌}
 use native.Mathlib.Omega.{arith}
@@ -65,18 +65,18 @@ module _ (line : Line) (key : Key) where
         le-leb (6 + length key.name) (length value) (omega arith),
       )
 
-  import_back : length value ≤ value_most → act_in (record { tag = 2; value = value }) ≡ some (importing line key)
+  import_back : length value ≤ value_most → act_in (record { tag = 2; value = value }) ≡ Some (importing line key)
   unfolding act_in
   import_back h =
-      ap (λ (t : Bool). let a : Option Act = when t then none else when every (import_tests value) then some (importing (line_in value) (key_in value)) else none in a) (le-ltb _ _ h)
-      ∙ ap (λ (t : Bool). let a : Option Act = when t then some (importing (line_in value) (key_in value)) else none in a) import_tests_lem
-      ∙ ap₂ (λ (l : Line) (k : Key). some (importing l k)) (unfold value_of in refl) key_back
+      ap (λ (t : Bool). let a : Option Act = when t then None else when every (import_tests value) then Some (importing (line_in value) (key_in value)) else None in a) (le-ltb _ _ h)
+      ∙ ap (λ (t : Bool). let a : Option Act = when t then Some (importing (line_in value) (key_in value)) else None in a) import_tests_lem
+      ∙ ap₂ (λ (l : Line) (k : Key). Some (importing l k)) (unfold value_of in refl) key_back
 
-destroy_back : (line : Line) (name : List ℕ) → length (value_of (destroying line name)) ≤ value_most → act_in (record { tag = 3; value = value_of (destroying line name) }) ≡ some (destroying line name)
+destroy_back : (line : Line) (name : List ℕ) → length (value_of (destroying line name)) ≤ value_most → act_in (record { tag = 3; value = value_of (destroying line name) }) ≡ Some (destroying line name)
 unfolding act_in value_of
 destroy_back line name h = rw (le-ltb value_most (length (value_of (destroying line name))) h, le-leb 1 (length (value_of (destroying line name))) (omega arith))
 
-pub act_back : (act : Act) → length (value_of act) ≤ value_most → act_in (record { tag = tag_of act; value = value_of act }) ≡ some act
+pub act_back : (act : Act) → length (value_of act) ≤ value_most → act_in (record { tag = tag_of act; value = value_of act }) ≡ Some act
 unfolding tag_of
 act_back (importing line key) h = import_back line key h
 act_back (destroying line name) h = destroy_back line name h
@@ -135,7 +135,7 @@ module _ (act : Act) where
       ∙ take_at (value_of act) (little_endian_of 4 (crc32 front)) (field 1 2 bytes) (sym length_told)
 
   -- A RECORD WRITTEN IS JUDGED BY WHAT IT SAYS
-  pub record_back : (registry : List ℕ) → length (value_of act) ≤ value_most → judge_record registry bytes ≡ judge_act registry (some act)
+  pub record_back : (registry : List ℕ) → length (value_of act) ≤ value_most → judge_record registry bytes ≡ judge_act registry (Some act)
   unfolding judge_record
   record_back registry h =
       rw (eq-eqb _ _ crc_back, judge_record)

@@ -1,7 +1,7 @@
 -- WHAT A REQUEST CHANGES IS WHAT REPLAYING ITS RECORD CHANGES, counts of uses aside.
+use Rattle.std.proofs.Common.{Option, Some, None}
 use mathlib.Core.Path.{◌≡◌, refl, sym, ap, ◌∙◌}
 use mathlib.Core.Bool.{Bool, true, false, true≢false, false≢true, not, ◌&&◌}
-use mathlib.Core.Option.{Option, none, some}
 use mathlib.Core.List.{List, []}
 use Prim.Native.Nat.{ℕ, ◌≤◌}
 use native.Mathlib.Omega.{arith}
@@ -90,8 +90,8 @@ module _ (slots : List Entry) (keys : List ListedKey) where
   export_rests name = first (legal_name key_name_most name) refl
     where
       second : legal_name key_name_most name ≡ true → (o : Option Source) → key_named name slots keys ≡ o → Rests (perform_export name slots keys)
-      second v none e = rw (v, e, perform_export) (unfold Rests recorded refuse in refl)
-      second v (some source) e = rw (v, e, perform_export) (counted_rests source _ (export_still (key_of source)))
+      second v None e = rw (v, e, perform_export) (unfold Rests recorded refuse in refl)
+      second v (Some source) e = rw (v, e, perform_export) (counted_rests source _ (export_still (key_of source)))
 
       first : (t : Bool) → legal_name key_name_most name ≡ t → Rests (perform_export name slots keys)
       first false v = rw (v, perform_export) (unfold Rests recorded refuse in refl)
@@ -102,8 +102,8 @@ module _ (slots : List Entry) (keys : List ListedKey) where
   verify_rests name hash signature = first (legal_name key_name_most name) refl
     where
       second : legal_name key_name_most name ≡ true → (o : Option Source) → key_named name slots keys ≡ o → Rests (perform_verify name hash signature slots keys)
-      second v none e = rw (v, e, perform_verify) (unfold Rests recorded refuse in refl)
-      second v (some source) e = rw (v, e, perform_verify) (counted_rests source _ (verify_still hash signature (key_of source)))
+      second v None e = rw (v, e, perform_verify) (unfold Rests recorded refuse in refl)
+      second v (Some source) e = rw (v, e, perform_verify) (counted_rests source _ (verify_still hash signature (key_of source)))
 
       first : (t : Bool) → legal_name key_name_most name ≡ t → Rests (perform_verify name hash signature slots keys)
       first false v = rw (v, perform_verify) (unfold Rests recorded refuse in refl)
@@ -125,7 +125,7 @@ module _ (slots : List Entry) (keys : List ListedKey) where
       wider : Taken import_bits key → Taken legal_bits key
       wider t = record { bounds = t.bounds; bits = import_legal key.bits t.bits }
 
-      alone : Taken import_bits key → key_named key.name slots keys ≡ none → key_named key.name slots [] ≡ none
+      alone : Taken import_bits key → key_named key.name slots keys ≡ None → key_named key.name slots [] ≡ None
       alone t n = none_own key.name slots [] (new_there import_bits slots keys key t n) ∙ (unfold listed_in listed_named in refl)
 
   pub destroy_clears : (name : List ℕ) → is_served (perform_destroy name slots keys) ≡ true
@@ -135,10 +135,10 @@ module _ (slots : List Entry) (keys : List ListedKey) where
     where
       second : legal_name key_name_most name ≡ true → (o : Option Source) → key_named name slots keys ≡ o
           → perform_destroy name slots [] ≡ perform_destroy name slots keys
-      second v none e = absurd (false≢true (rw (v, e, perform_destroy) at s))
-      second v (some (listed key)) e = absurd (false≢true (rw (v, e, perform_destroy) at s))
-      second v (some (own slot key)) e =
-          let alone : key_named name slots [] ≡ some (own slot key) =
+      second v None e = absurd (false≢true (rw (v, e, perform_destroy) at s))
+      second v (Some (listed key)) e = absurd (false≢true (rw (v, e, perform_destroy) at s))
+      second v (Some (own slot key)) e =
+          let alone : key_named name slots [] ≡ Some (own slot key) =
           own_named name slots [] slot (own_there name slots keys slot key e) ∙ ap (own_in slot) (own_held name slots keys slot key e) ∙ (unfold own_in in refl) in
           rw (v, e, alone, perform_destroy)
 
@@ -150,13 +150,13 @@ module _ (slots : List Entry) (keys : List ListedKey) where
 
 -- the registry after what was served, if it was an import or a destroy
 unfoldable pub replay_any : (registry : List ℕ) → Option Act → Option (List ℕ)
-replay_any registry none = some registry
-replay_any registry (some act) = replay registry act
+replay_any registry None = Some registry
+replay_any registry (Some act) = replay registry act
 
 -- what a recorded change makes of a registry
 unfoldable pub changed_for : (registry : List ℕ) → Option Line → Change → List ℕ
-changed_for registry none change = registry
-changed_for registry (some line) change = changed registry line (recorded change)
+changed_for registry None change = registry
+changed_for registry (Some line) change = changed registry line (recorded change)
 
 -- the two have the same applications and keys
 pub record Alike (g r : List ℕ) : Type 0 where
@@ -164,7 +164,7 @@ pub record Alike (g r : List ℕ) : Type 0 where
   pub slots : (line : Line) → Used r line → slots_of g line ≡ slots_of r line
 
 module _ (g : List ℕ) where
-  carried : (line : Line) (x : Result) → in_use g line ≡ true → is_served x ≡ true → carried_out g line x ≡ some (changed g line x.change)
+  carried : (line : Line) (x : Result) → in_use g line ≡ true → is_served x ≡ true → carried_out g line x ≡ Some (changed g line x.change)
   unfolding carried_out
   carried line x u s = rw (u, s, carried_out)
 
@@ -178,9 +178,9 @@ module _ (g : List ℕ) where
     where
       second : legal_name key_name_most name ≡ true → (o : Option Source) → key_named name slots [] ≡ o
           → recorded (perform_destroy name slots []).change ≡ (perform_destroy name slots []).change
-      second v none e = rw (v, e, perform_destroy)
-      second v (some (own slot key)) e = rw (v, e, perform_destroy)
-      second v (some (listed key)) e = rw (v, e, perform_destroy)
+      second v None e = rw (v, e, perform_destroy)
+      second v (Some (own slot key)) e = rw (v, e, perform_destroy)
+      second v (Some (listed key)) e = rw (v, e, perform_destroy)
 
       first : (t : Bool) → legal_name key_name_most name ≡ t → recorded (perform_destroy name slots []).change ≡ (perform_destroy name slots []).change
       first false e = rw (e, perform_destroy)
@@ -192,34 +192,34 @@ module _ (g : List ℕ) where
     slots = slots_of g line
 
     line_served : (operation : Operation) → is_served (perform operation slots keys) ≡ true
-        → replay_any g (act_of line operation) ≡ some (changed g line (recorded (perform operation slots keys).change))
+        → replay_any g (act_of line operation) ≡ Some (changed g line (recorded (perform operation slots keys).change))
     unfolding act_of replay_any replay perform success recorded changed Rests
     line_served ping s = refl
     line_served list_providers s = refl
-    line_served (list_opcodes provider) s = ap (λ c. some (changed g line c)) (sym (opcodes_rest provider))
+    line_served (list_opcodes provider) s = ap (λ c. Some (changed g line c)) (sym (opcodes_rest provider))
     line_served (import_key key) s =
         let alone = import_replayed slots keys key s in
         carried line (import_by legal_bits key slots []) u (ap is_served alone ∙ s)
-        ∙ ap (λ c. some (changed g line c)) (sym (fill_told key slots) ∙ ap (λ (x : Result). recorded x.change) alone)
+        ∙ ap (λ c. Some (changed g line c)) (sym (fill_told key slots) ∙ ap (λ (x : Result). recorded x.change) alone)
     line_served (destroy_key name) s =
         let (alone, v) = destroy_clears slots keys name s in
         carried line (perform_destroy name slots []) u (ap is_served alone ∙ s)
-        ∙ ap (λ c. some (changed g line c)) (sym (clear_told name slots) ∙ ap (λ (x : Result). recorded x.change) alone)
-    line_served (export_public_key name) s = ap (λ c. some (changed g line c)) (sym (export_rests slots keys name))
-    line_served (verify_signature name hash signature) s = ap (λ c. some (changed g line c)) (sym (verify_rests slots keys name hash signature))
+        ∙ ap (λ c. Some (changed g line c)) (sym (clear_told name slots) ∙ ap (λ (x : Result). recorded x.change) alone)
+    line_served (export_public_key name) s = ap (λ c. Some (changed g line c)) (sym (export_rests slots keys name))
+    line_served (verify_signature name hash signature) s = ap (λ c. Some (changed g line c)) (sym (verify_rests slots keys name hash signature))
 
 -- ---- what is carried out has a value that is not too long
 
-pub served_carried : (r : List ℕ) (line : Line) (x : Result) (after : List ℕ) → carried_out r line x ≡ some after → is_served x ≡ true
+pub served_carried : (r : List ℕ) (line : Line) (x : Result) (after : List ℕ) → carried_out r line x ≡ Some after → is_served x ≡ true
 unfolding carried_out
 served_carried r line x after e = go (in_use r line) (is_served x) e
   where
-    go : (t u : Bool) → (let o : Option (List ℕ) = when t && u then some (changed r line x.change) else none in o) ≡ some after → u ≡ true
+    go : (t u : Bool) → (let o : Option (List ℕ) = when t && u then Some (changed r line x.change) else None in o) ≡ Some after → u ≡ true
     go true true w = refl
     go true false w = absurd (some≢none after (sym w))
     go false u w = absurd (some≢none after (sym w))
 
-pub replay_short : (r : List ℕ) (act : Act) (after : List ℕ) → replay r act ≡ some after → length (value_of act) ≤ value_most
+pub replay_short : (r : List ℕ) (act : Act) (after : List ℕ) → replay r act ≡ Some after → length (value_of act) ≤ value_most
 unfolding replay value_of little_endian_of
 replay_short r (importing line key) after e =
     let t = import_taken (slots_of r line) [] legal_bits key (served_carried r line _ after e) in
@@ -236,15 +236,15 @@ module _ (list g r : List ℕ) (a : Alike g r) where
   in_use_lem line u =
       rw (lt-ltb _ _ u.there) (ap (λ (names : List (List ℕ)). is_used (get_or names line.0 [])) a.names ∙ u.used)
 
-  asker_served : (o : Option Line) (operation : Operation) → ((line : Line) → o ≡ some line → Used r line)
+  asker_served : (o : Option Line) (operation : Operation) → ((line : Line) → o ≡ Some line → Used r line)
       → is_served (perform operation (askers_slots r o) (keys_in list)) ≡ true
-      → replay_any g (act_asked o (some operation)) ≡ some (changed_for g o (perform operation (askers_slots r o) (keys_in list)).change)
+      → replay_any g (act_asked o (Some operation)) ≡ Some (changed_for g o (perform operation (askers_slots r o) (keys_in list)).change)
   unfolding act_asked changed_for askers_slots replay_any
-  asker_served none operation u s = refl
-  asker_served (some line) operation u s =
+  asker_served None operation u s = refl
+  asker_served (Some line) operation u s =
       let same : slots_of g line ≡ slots_of r line = a.slots line (u line refl) in
       line_served g line (in_use_lem line (u line refl)) (keys_in list) operation (ap (λ (l : List Entry). is_served (perform operation l (keys_in list))) same ∙ s)
-      ∙ ap (λ (l : List Entry). some (changed g line (recorded (perform operation l (keys_in list)).change))) same
+      ∙ ap (λ (l : List Entry). Some (changed g line (recorded (perform operation l (keys_in list)).change))) same
 
   module _ (q : Request) where
     abbrev x : Result
@@ -254,7 +254,7 @@ module _ (list g r : List ℕ) (a : Alike g r) where
     asked = application_of r q
 
     request_served : is_served x ≡ true
-        → replay_any g (act_asked asked (operation_of (format_of (format_for q.content_type)) q.opcode q.body)) ≡ some (changed_for g asked x.change)
+        → replay_any g (act_asked asked (operation_of (format_of (format_for q.content_type)) q.opcode q.body)) ≡ Some (changed_for g asked x.change)
     unfolding operation_of
     request_served s = second (asking (format_of (format_for q.content_type)) q.opcode q.body) refl
       where
@@ -262,21 +262,21 @@ module _ (list g r : List ℕ) (a : Alike g r) where
         is = unfold result_of in rw (served_passes list r q (eqb-true _ _ s), result_of)
 
         second : (a : Asking) → asking (format_of (format_for q.content_type)) q.opcode q.body ≡ a
-            → replay_any g (act_asked asked (operation_in a)) ≡ some (changed_for g asked x.change)
+            → replay_any g (act_asked asked (operation_in a)) ≡ Some (changed_for g asked x.change)
         second (garbled at) w =
             let y : x ≡ refuse_at at = is ∙ (unfold operated in rw (w, operated)) in
             absurd (true≢false (sym s ∙ ap is_served y ∙ (unfold refuse_at status_number in refl)))
         second (asksFor operation) w =
             let y : x ≡ perform operation (askers_slots r asked) (keys_in list) = is ∙ (unfold operated in rw (w, operated)) in
             asker_served asked operation (asks r q) (ap is_served (sym y) ∙ s)
-            ∙ ap (λ (z : Result). some (changed_for g asked z.change)) (sym y)
+            ∙ ap (λ (z : Result). Some (changed_for g asked z.change)) (sym y)
 
     -- THE KEY STEP, of a request that is served
-    pub served_replayed : is_served x ≡ true → replay_any g (served_act list r q) ≡ some (changed_for g asked x.change)
+    pub served_replayed : is_served x ≡ true → replay_any g (served_act list r q) ≡ Some (changed_for g asked x.change)
     unfolding served_act
     served_replayed e = rw (e, served_act) (request_served e)
 
     -- and one that is refused has no record
-    pub refused_unrecorded : is_served x ≡ false → served_act list r q ≡ none
+    pub refused_unrecorded : is_served x ≡ false → served_act list r q ≡ None
     unfolding served_act
     refused_unrecorded e = rw (e, served_act)

@@ -1,25 +1,26 @@
 -- A state in memory, clause by clause, and written.
-use mathlib.Core.Path.{◌≡◌, refl, sym, ap, ◌∙◌}
+use Rattle.std.proofs.Common.{None, Ok, Err}
+use mathlib.Core.Path.{◌≡◌, sym, ap, ◌∙◌}
 use mathlib.Core.Bool.{Bool, true, false, not, and-true}
 use mathlib.Core.List.{List, [], ◌∷◌, ◌++◌}
 use Prim.Native.Nat.{ℕ, ◌+◌, ◌-◌, ◌≤◌, ◌<◌}
 use native.Mathlib.Omega.{arith}
 use borrow.Author.Tests.{le-leb, lt-leb, leb-true, eqb-true, eq-eqb, ne_eqb}
 use borrow.Rule.Slice.PartMut.{put_mid}
-use lib.ListN.{length, take, drop, get_or, replicate, drop_of_length-le, length-drop}
+use lib.ListN.{length, take, drop, get_or, set, replicate, drop_of_length-le, length-drop}
 use lib.Dec.{leb, eqb}
-use Rattle.wire.specs.Lists.{all, is_zero, over}
+use lib.Seq.{drop-drop}
+use Rattle.wire.specs.Lists.{all, is_zero}
 use Rattle.wire.specs.Numbers.{little_endian_of, field}
-use Rattle.wire.specs.code.Wrote.{Wrote}
 use Rattle.wire.proofs.TestLaws.{not_across, every_at}
 use Rattle.wire.proofs.ListLaws.{drop_zeros}
 use Rattle.wire.proofs.PutLaws.{length_put}
 use Rattle.wire.proofs.BufferLaws.{put_mid_lem, lent}
-use Rattle.crc.specs.Crc.{all_ones}
 use Rattle.journal.specs.declared.Progress.{Progress}
 use Rattle.journal.specs.Compact.{front_most, file_most, is_begun_whole}
 use Rattle.journal.specs.Memory.{kept_at, count_at, front_at, state_size, state_head, state_bytes, well_formed_state, fresh_state, begin_state}
-use Rattle.journal.specs.code.Done.{compact_with}
+use Rattle.journal.specs.declared.state.BeginRefusal.TheVariants.{WrongSize}
+use Rattle.journal.specs.code.Done.{fault_code, compact_with, progress_between}
 
 -- ---- well formed or not
 
@@ -91,33 +92,33 @@ module _ (m : List ℕ) where
 
 module _ (p : Progress) where
   abbrev head : List ℕ
-  head = state_head p.fault p.kept p.count p.register
+  head = state_head (fault_code p.fault) p.kept p.count p.register
 
-  head_long : length head ≡ front_at
-  unfolding little_endian_of
-  head_long = refl
-
-  pub stored : (m v after : List ℕ) {r : ℕ} → v ≡ head → Wrote v m after r → after ≡ state_bytes (compact_with [] p (drop front_at m))
-  unfolding state_bytes
-  stored m v after e w =
-      w.bytes ∙ ap (λ (l : List ℕ). over l m) e ∙ ap (λ (n : ℕ). head ++ drop n m) head_long
+  -- part by part
+  pub stored : (m : List ℕ) (code : ℕ) (kept count register : List ℕ) → length m ≡ state_size
+      → code ≡ fault_code p.fault → kept ≡ little_endian_of 8 p.kept → count ≡ little_endian_of 8 p.count → register ≡ little_endian_of 4 p.register
+      → put_mid 17 4 (put_mid 9 8 (put_mid 1 8 (set m 0 code) kept) count) register ≡ state_bytes (compact_with [] p (drop front_at m))
+  unfolding state_bytes little_endian_of
+  stored [] code kept count register size f k c r = absurd (let x : ⊥ = omega (arith, size) in x)
+  stored (x ∷ m) code kept count register size f k c r =
+      rw (f, k, c, r) (ap (λ (l : List ℕ). head ++ l) (ap (drop 4) (drop-drop 8 8 m) ∙ drop-drop 4 16 m))
 
 -- ---- a fresh one
 
-pub begun_not : (m : List ℕ) → (length m ≡ state_size → ⊥) → record { begun = false; state = m } ≡ begin_state m
+pub begun_not : (m : List ℕ) → (length m ≡ state_size → ⊥) → record { answer = Err WrongSize; state = m } ≡ begin_state m
 unfolding begin_state
 begun_not m h = rw (ne_eqb (length m) state_size h)
 
 pub begun_fresh : (m cleared after : List ℕ) → length m ≡ state_size → cleared ≡ replicate (length m) 0
-    → after ≡ state_bytes (compact_with [] (record { fault = 0; kept = 0; count = 0; register = all_ones }) (drop front_at cleared))
-    → record { begun = true; state = after } ≡ begin_state m
-unfolding begin_state fresh_state
+    → after ≡ state_bytes (compact_with [] (progress_between None 0) (drop front_at cleared))
+    → record { answer = Ok tt; state = after } ≡ begin_state m
+unfolding begin_state fresh_state fault_code
 begun_fresh m cleared after size c e =
     let front : drop front_at cleared ≡ replicate front_most 0
     = ap (drop front_at) (c ∙ ap (λ (n : ℕ). replicate n 0) size) ∙ drop_zeros front_at state_size in
     rw (eq-eqb (length m) state_size size)
-    (ap (λ (l : List ℕ). record { begun = true; state = l })
-    (e ∙ ap (λ (l : List ℕ). state_bytes (compact_with [] (record { fault = 0; kept = 0; count = 0; register = all_ones }) l)) front))
+    (ap (λ (l : List ℕ). record { answer = Ok tt; state = l })
+    (e ∙ ap (λ (l : List ℕ). state_bytes (compact_with [] (progress_between None 0) l)) front))
 
 -- ---- the front, lent
 

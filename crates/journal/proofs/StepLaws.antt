@@ -1,7 +1,7 @@
 -- One byte of the compact reader, case by case.
+use Rattle.std.proofs.Common.{Option, Some, None, is_some, Result, Ok, Err, ◌||◌, refl}
 use mathlib.Core.Path.{◌≡◌, sym, ap, ◌∙◌}
-use mathlib.Core.Bool.{true, false, not}
-use mathlib.Core.Option.{Option, none}
+use mathlib.Core.Bool.{Bool, true, false, not}
 use mathlib.Core.List.{List}
 use Prim.Native.Nat.{ℕ, ◌+◌, ◌-◌, ◌≤◌, ◌<◌}
 use native.Mathlib.Omega.{arith}
@@ -20,7 +20,7 @@ use Rattle.journal.specs.declared.Progress.{Progress}
 use Rattle.journal.specs.Record.{Act, value_most, act_in}
 use Rattle.journal.specs.Replay.{fault_number, Judged, good, bad, judge_act}
 use Rattle.journal.specs.Compact.{front_most, file_most, Compact, between, front_then, with_byte, is_begun_whole, act_in_front, judge_begun, compact_record, compact_step, has_ended}
-use Rattle.journal.specs.code.Done.{Left, left_by, compact_with}
+use Rattle.journal.specs.code.Done.{Left, left_by, fault_code, compact_with}
 
 -- ---- whether the record is whole
 
@@ -38,8 +38,8 @@ module _ (g : List ℕ) (register : ℕ) (front : List ℕ) where
   abbrev judged : Left
   judged = left_by g (judge_begun g register front)
 
-  pub judge_crc : (register ≡ residue → ⊥) → record { fault = 1; registry = g } ≡ judged
-  unfolding judge_begun left_by fault_number
+  pub judge_crc : (register ≡ residue → ⊥) → record { judged = Err WrongCrc; registry = g } ≡ judged
+  unfolding judge_begun left_by
   judge_crc h = rw (ne_eqb register residue h)
 
   module _ (same : register ≡ residue) where
@@ -47,10 +47,10 @@ module _ (g : List ℕ) (register : ℕ) (front : List ℕ) where
     unfolding judge_begun
     judge_act_lem = rw (eq-eqb register residue same)
 
-    pub judge_long : value_most < field 1 2 front → record { fault = 2; registry = g } ≡ judged
-    unfolding left_by fault_number judge_act
+    pub judge_long : value_most < field 1 2 front → record { judged = Err WrongLayout; registry = g } ≡ judged
+    unfolding left_by judge_act
     judge_long h =
-        let n : act_in_front front ≡ none = (unfold act_in_front in rw (lt-ltb value_most (field 1 2 front) h)) in
+        let n : act_in_front front ≡ None = (unfold act_in_front in rw (lt-ltb value_most (field 1 2 front) h)) in
         ap (λ (o : Option Act). left_by g (judge_act g o)) (sym n) ∙ ap (left_by g) (sym judge_act_lem)
 
     -- as the code finds tag and value
@@ -69,23 +69,19 @@ module _ (s : Compact) where
   abbrev ended : Judged → Compact
   ended j = (compact_record s j).kept
 
-  -- ---- a record's end
+  -- ---- a record's end, as the code has it
 
-  pub record_bad : (j : Judged) (l : Left) → l ≡ left_by s.registry j → (l.fault ≡ 0 → ⊥) → between l.registry l.fault s.kept ≡ ended j
+  abbrev pub ended_by : Result (Unit {0}) Fault → (registry : List ℕ) → Compact
+  ended_by (Ok done) registry = between registry 0 (s.kept + s.count)
+  ended_by (Err fault) registry = between registry (fault_number fault) s.kept
+
+  judged_ended : (j : Judged) → ended_by (left_by s.registry j).judged (left_by s.registry j).registry ≡ ended j
   unfolding left_by compact_record
-  record_bad (good after) l e h = absurd (h (ap (λ (x : Left). x.fault) e))
-  record_bad (bad fault) l e h = ap (λ (x : Left). between x.registry x.fault s.kept) e
+  judged_ended (good after) = refl
+  judged_ended (bad fault) = refl
 
-  fault_some : (fault : Fault) → fault_number fault ≡ 0 → ⊥
-  unfolding fault_number
-  fault_some WrongCrc e = omega arith
-  fault_some WrongLayout e = omega arith
-  fault_some NotAllowed e = omega arith
-
-  pub record_good : (j : Judged) (l : Left) → l ≡ left_by s.registry j → l.fault ≡ 0 → between l.registry 0 (s.kept + s.count) ≡ ended j
-  unfolding left_by compact_record
-  record_good (good after) l e h = ap (λ (x : Left). between x.registry 0 (s.kept + s.count)) e
-  record_good (bad fault) l e h = absurd (fault_some fault (sym (ap (λ (x : Left). x.fault) e) ∙ h))
+  pub record_ended : (j : Judged) (l : Left) → l ≡ left_by s.registry j → ended_by l.judged l.registry ≡ ended j
+  record_ended j l e = ap (λ (x : Left). ended_by x.judged x.registry) e ∙ judged_ended j
 
 -- ---- one byte more
 
@@ -104,7 +100,7 @@ module _ (g : List ℕ) (p : Progress) (front front' : List ℕ) (byte register 
 
   next_is : compact_with g next front' ≡ with_byte (compact_with g p front) byte
   unfolding with_byte
-  next_is = λ i. record { registry = g; fault = p.fault; kept = p.kept; count = p.count + 1; register = r i; front = f i }
+  next_is = λ i. record { registry = g; fault = fault_code p.fault; kept = p.kept; count = p.count + 1; register = r i; front = f i }
 
   step_on : (s : Compact) → is_begun_whole s.count s.front ≡ false → s ≡ (compact_step s).kept
   unfolding compact_step
@@ -125,13 +121,19 @@ module _ (g : List ℕ) (p : Progress) (front front' : List ℕ) (byte register 
 
 -- ---- the end of the reader
 
-pub ended_fault : (fault kept count : ℕ) → (fault ≡ 0 → ⊥) → true ≡ has_ended fault kept count
-unfolding has_ended
-ended_fault fault kept count h = rw (ne_eqb fault 0 h)
+ended_is : (fault : Option Fault) (kept count : ℕ) → is_some fault || leb file_most (kept + count) ≡ has_ended (fault_code fault) kept count
+unfolding has_ended fault_code fault_number
+ended_is None kept count = refl
+ended_is (Some WrongCrc) kept count = refl
+ended_is (Some WrongLayout) kept count = refl
+ended_is (Some NotAllowed) kept count = refl
 
-pub ended_most : (fault kept count : ℕ) → fault ≡ 0 → leb file_most (kept + count) ≡ has_ended fault kept count
-unfolding has_ended
-ended_most fault kept count h = rw (eq-eqb fault 0 h)
+module _ (fault : Option Fault) (kept count : ℕ) where
+  pub ended_fault : is_some fault ≡ true → true ≡ has_ended (fault_code fault) kept count
+  ended_fault e = ap (λ (t : Bool). t || leb file_most (kept + count)) (sym e) ∙ ended_is fault kept count
+
+  pub ended_most : is_some fault ≡ false → leb file_most (kept + count) ≡ has_ended (fault_code fault) kept count
+  ended_most e = ap (λ (t : Bool). t || leb file_most (kept + count)) (sym e) ∙ ended_is fault kept count
 
 pub not_ended : (fault kept count : ℕ) → has_ended fault kept count ≡ false → kept + count < file_most
 unfolding has_ended

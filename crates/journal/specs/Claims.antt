@@ -1,7 +1,6 @@
 -- What is claimed of the journal's reader and of its code: types, no proof. Each is for any cut of a file into chunks, and about
 -- whatever code meets the contract of a call, as `journal::read::read_journal` does.
-use Rattle.std.specs.Prelude.{◌≡◌, ℕ, ◌+◌, ◌≤◌, Bool, true, false, length, take, ltb, eqb}
-use Rattle.std.proofs.Math.Option.{Option, none, some}
+use Rattle.std.specs.Prelude.{◌≡◌, ℕ, ◌+◌, ◌≤◌, Bool, true, false, length, take, ltb, eqb, Option, Some, None}
 use mathlib.Core.List.{List, [], ◌∷◌, ◌++◌, map, flatten}
 use Rattle.wire.specs.Choice.{when◌then◌else◌}
 use Rattle.wire.specs.Lists.{all}
@@ -26,24 +25,24 @@ abbrev pub Contract : Memory → Call (Unit {0}) → ReadOutcome → Type 0
 Contract m call r = r ≡ read_outcome m.registry m.state call.chunk
 
 abbrev pub refusal_in : Said → Option Said
-refusal_in RegistryIllFormed = some RegistryIllFormed
-refusal_in StateIllFormed = some StateIllFormed
-refusal_in Waiting = none
-refusal_in AtBorder = none
-refusal_in (Refused fault) = none
+refusal_in RegistryIllFormed = Some RegistryIllFormed
+refusal_in StateIllFormed = Some StateIllFormed
+refusal_in Waiting = None
+refusal_in AtBorder = None
+refusal_in (Refused fault) = None
 
 abbrev pub fault_in : Said → Option Fault
-fault_in RegistryIllFormed = none
-fault_in StateIllFormed = none
-fault_in Waiting = none
-fault_in AtBorder = none
-fault_in (Refused fault) = some fault
+fault_in RegistryIllFormed = None
+fault_in StateIllFormed = None
+fault_in Waiting = None
+fault_in AtBorder = None
+fault_in (Refused fault) = Some fault
 
 -- as `reading` has a call: a fault is given by the one that takes the record's last byte; those behind it take none and say it
 -- again
 abbrev pub ran_as : ReadOutcome → CallOutcome Memory Said (Option Fault)
 ran_as r = record {
-  answer = record { refusal = refusal_in r.said; taken = r.taken; given = when eqb r.taken 0 then none else fault_in r.said };
+  answer = record { refusal = refusal_in r.said; taken = r.taken; given = when eqb r.taken 0 then None else fault_in r.said };
   memory = record { registry = r.registry; state = r.state };
 }
 
@@ -73,9 +72,9 @@ read_by b (r ∷ runs) = read_by (record { said = r.said; taken = b.taken + r.ta
 
 -- by the uncut reader
 abbrev pub said_for : Option Fault → (held : List ℕ) → Said
-said_for (some fault) held = Refused fault
-said_for none [] = AtBorder
-said_for none (b ∷ held) = Waiting
+said_for (Some fault) held = Refused fault
+said_for None [] = AtBorder
+said_for None (b ∷ held) = Waiting
 
 abbrev pub read_back_in : Reading Kept Fault → ReadBack
 read_back_in a = record { said = said_for a.kept.fault a.kept.held; taken = a.taken; kept = a.kept.kept; registry = a.kept.registry }
@@ -119,7 +118,7 @@ pub record KeepsMemory : Type 0 where
   pub registry : (registry state chunk : List ℕ) → well_formed_registry registry ≡ true → well_formed_registry (read_outcome registry state chunk).registry ≡ true
   pub state : (registry state chunk : List ℕ) → well_formed_state state ≡ true → well_formed_state (read_outcome registry state chunk).state ≡ true
   -- a refused call alters nothing
-  pub refused : (registry state chunk : List ℕ) (said : Said) → read_refusal registry state ≡ some said
+  pub refused : (registry state chunk : List ℕ) (said : Said) → read_refusal registry state ≡ Some said
       → read_outcome registry state chunk ≡ record { said = said; taken = 0; kept = 0; state = state; registry = registry }
 
 -- ---- CUT ANYWHERE: the first n bytes of a file of good records give the registry after exactly the records that are whole in
@@ -127,14 +126,14 @@ pub record KeepsMemory : Type 0 where
 
 pub record CutAt (registry : List ℕ) (records : List (List ℕ)) (n : ℕ) : Type 0 where
   pub after : List ℕ
-  pub replayed : after_all registry (whole_in n records) ≡ some after
+  pub replayed : after_all registry (whole_in n records) ≡ Some after
   pub reads : (let file : List ℕ = take n (flatten records) in
       let kept : ℕ = length (flatten (whole_in n records)) in
       ReadsAs registry file (record { said = when eqb kept (length file) then AtBorder else Waiting; taken = length file; kept = kept; registry = after }))
 
 abbrev pub CutAnywhere : Type 0
 CutAnywhere = (registry : List ℕ) (records : List (List ℕ)) (last : List ℕ) → well_formed_registry registry ≡ true → all is_record records ≡ true
-    → after_all registry records ≡ some last → is_file (flatten records) → (n : ℕ) → CutAt registry records n
+    → after_all registry records ≡ Some last → is_file (flatten records) → (n : ℕ) → CutAt registry records n
 
 -- ---- EVERY FILE is good records, and behind them the beginning of another, or one that is refused and whatever stands behind
 -- it. What is read of the one kind and of the other:
@@ -149,7 +148,7 @@ pub record Divided (registry file : List ℕ) : Type 0 where
   pub rest : List ℕ
   pub parts : file ≡ flatten records ++ rest
   pub whole : all is_record records ≡ true
-  pub replayed : after_all registry records ≡ some last
+  pub replayed : after_all registry records ≡ Some last
   pub ends : Ends last rest
 
 abbrev pub EveryFile : Type 0
@@ -171,4 +170,4 @@ module _ (registry : List ℕ) (records : List (List ℕ)) (last : List ℕ) whe
 
 abbrev pub ReadToItsEnd : Type 0
 ReadToItsEnd = (registry : List ℕ) (records : List (List ℕ)) (last : List ℕ) → well_formed_registry registry ≡ true → all is_record records ≡ true
-    → after_all registry records ≡ some last → Waits registry records last × Refuses registry records last
+    → after_all registry records ≡ Some last → Waits registry records last × Refuses registry records last

@@ -1,7 +1,6 @@
 -- The reader as memory is to hold it: of the record begun how many bytes there are, the CRC's register after them, and the first
 -- of them. So no record, however long it says it is, needs more room than the longest import.
-use Rattle.std.specs.Prelude.{ℕ, ◌+◌, ◌^◌, Bool, not, ◌&&◌, ◌||◌, List, set, replicate, leb, ltb, eqb}
-use Rattle.std.proofs.Math.Option.{Option, none, some}
+use Rattle.std.specs.Prelude.{ℕ, ◌+◌, ◌^◌, Bool, not, ◌&&◌, ◌||◌, List, set, replicate, leb, ltb, eqb, Option, Some, None}
 use Rattle.wire.specs.Choice.{when◌then◌else◌}
 use Rattle.wire.specs.Numbers.{field}
 use Rattle.reading.specs.Reader.{Step, Reader}
@@ -60,19 +59,19 @@ is_begun_whole count front = leb 3 count && leb (sealed_length front) count
 
 -- what a front says; a value that is too long for the layout is not all there
 unfoldable pub act_in_front : (front : List ℕ) → Option Act
-act_in_front front = when ltb value_most (field 1 2 front) then none else act_in (record_in front)
+act_in_front front = when ltb value_most (field 1 2 front) then None else act_in (record_in front)
 
 unfoldable pub judge_begun : (registry : List ℕ) (register : ℕ) (front : List ℕ) → Judged
 judge_begun registry register front = when not (eqb register residue) then bad WrongCrc else judge_act registry (act_in_front front)
 
 unfoldable pub compact_record : Compact → Judged → Step Compact Fault
-compact_record s (good after) = record { kept = between after 0 (s.kept + s.count); event = none }
-compact_record s (bad fault) = record { kept = between s.registry (fault_number fault) s.kept; event = some fault }
+compact_record s (good after) = record { kept = between after 0 (s.kept + s.count); event = None }
+compact_record s (bad fault) = record { kept = between s.registry (fault_number fault) s.kept; event = Some fault }
 
 unfoldable pub compact_step : Compact → Step Compact Fault
 compact_step s =
     when is_begun_whole s.count s.front then compact_record s (judge_begun s.registry s.register s.front)
-    else record { kept = s; event = none }
+    else record { kept = s; event = None }
 
 -- it has ended with a fault, or with the longest file
 unfoldable pub has_ended : (fault kept count : ℕ) → Bool

@@ -1,7 +1,6 @@
 -- The reader in lent memory (docs/LAYOUT.md), and A CALL'S WHOLE OUTCOME: an ill-formed registry is refused first, then an
 -- ill-formed reader's state.
-use Rattle.std.specs.Prelude.{ℕ, ◌+◌, Bool, true, false, not, List, [], ◌∷◌, ◌++◌, length, drop, get_or, leb, eqb}
-use Rattle.std.proofs.Math.Option.{Option, none, some}
+use Rattle.std.specs.Prelude.{ℕ, ◌+◌, Bool, not, List, [], ◌∷◌, ◌++◌, length, drop, get_or, leb, eqb, Option, Some, None, Result, Ok, Err}
 use Rattle.wire.specs.Choice.{when◌then◌else◌, first_of}
 use Rattle.wire.specs.Lists.{all, every, is_zero}
 use Rattle.wire.specs.Numbers.{little_endian_of, field}
@@ -12,6 +11,8 @@ use Rattle.journal.specs.declared.Fault.{Fault}
 use Rattle.journal.specs.declared.Fault.TheVariants.{WrongCrc, WrongLayout, NotAllowed}
 use Rattle.journal.specs.declared.read.Said.{Said}
 use Rattle.journal.specs.declared.read.Said.TheVariants.{RegistryIllFormed, StateIllFormed, Waiting, AtBorder, Refused}
+use Rattle.journal.specs.declared.state.BeginRefusal.{BeginRefusal}
+use Rattle.journal.specs.declared.state.BeginRefusal.TheVariants.{WrongSize}
 use Rattle.journal.specs.Compact.{front_most, file_most, Compact, between, is_begun_whole, compact_journal}
 
 -- ---- how it lies in memory: the fault's number, the bytes kept, how many bytes of a record are begun, the register, and the
@@ -66,13 +67,13 @@ unfoldable pub fresh_state : List ℕ
 fresh_state = state_bytes (between [] 0 0)
 
 pub record Beginning : Type 0 where
-  pub begun : Bool
+  pub answer : Result (Unit {0}) BeginRefusal
   pub state : List ℕ
 
 -- memory of another size stays as it came
 unfoldable pub begin_state : (state : List ℕ) → Beginning
 begin_state state =
-    when eqb (length state) state_size then record { begun = true; state = fresh_state } else record { begun = false; state = state }
+    when eqb (length state) state_size then record { answer = Ok tt; state = fresh_state } else record { answer = Err WrongSize; state = state }
 
 -- ---- A CALL'S WHOLE OUTCOME
 
@@ -99,8 +100,8 @@ outcome_of taken s = record { said = said_of s.fault s.count; taken = taken; kep
 
 unfoldable pub read_outcome : (registry state chunk : List ℕ) → ReadOutcome
 read_outcome registry state chunk = elim (read_refusal registry state) [
-  | some said ↦ record { said = said; taken = 0; kept = 0; state = state; registry = registry }
-  | none ↦
+  | Some said ↦ record { said = said; taken = 0; kept = 0; state = state; registry = registry }
+  | None ↦
       let reading = read compact_journal (compact_in registry state) chunk in
       outcome_of reading.taken reading.kept
 ]

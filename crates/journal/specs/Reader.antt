@@ -1,7 +1,6 @@
 -- THE JOURNAL'S READER: record by record, each judged once it is whole; it ends with the first that is refused.
-use Rattle.std.specs.Prelude.{ℕ, ◌+◌, List, [], ◌∷◌, ◌++◌, length}
-use Rattle.std.proofs.Math.Option.{Option, none, some}
-use Rattle.wire.specs.Choice.{when◌then◌else◌, is_some}
+use Rattle.std.specs.Prelude.{ℕ, ◌+◌, List, [], ◌∷◌, ◌++◌, length, Option, Some, None, is_some}
+use Rattle.wire.specs.Choice.{when◌then◌else◌}
 use Rattle.reading.specs.Reader.{Step, Reader, Reading, read}
 use Rattle.journal.specs.Record.{is_whole}
 use Rattle.journal.specs.declared.Fault.{Fault}
@@ -15,21 +14,21 @@ pub record Kept : Type 0 where
 
 -- no record was refused
 abbrev pub reading : (registry : List ℕ) (kept : ℕ) (held : List ℕ) → Kept
-reading registry kept held = record { registry = registry; kept = kept; held = held; fault = none }
+reading registry kept held = record { registry = registry; kept = kept; held = held; fault = None }
 
 abbrev pub stopped : (registry : List ℕ) (kept : ℕ) → Fault → Kept
-stopped registry kept fault = record { registry = registry; kept = kept; held = []; fault = some fault }
+stopped registry kept fault = record { registry = registry; kept = kept; held = []; fault = Some fault }
 
 -- a whole record, judged
 unfoldable pub after_record : (registry : List ℕ) (kept : ℕ) (bytes : List ℕ) → Judged → Step Kept Fault
-after_record registry kept bytes (good after) = record { kept = reading after (kept + length bytes) []; event = none }
-after_record registry kept bytes (bad fault) = record { kept = stopped registry kept fault; event = some fault }
+after_record registry kept bytes (good after) = record { kept = reading after (kept + length bytes) []; event = None }
+after_record registry kept bytes (bad fault) = record { kept = stopped registry kept fault; event = Some fault }
 
 -- these bytes are held now
 unfoldable pub after_byte : Kept → (bytes : List ℕ) → Step Kept Fault
 after_byte s bytes =
     when is_whole bytes then after_record s.registry s.kept bytes (judge_record s.registry bytes)
-    else record { kept = reading s.registry s.kept bytes; event = none }
+    else record { kept = reading s.registry s.kept bytes; event = None }
 
 abbrev pub journal : Reader Kept Fault
 journal = record { byte = λ s b. after_byte s (s.held ++ (b ∷ [])); ended = λ s. is_some s.fault }

@@ -1,7 +1,6 @@
 -- The journal's records (document 02, "Surviving a power cut"; docs/LAYOUT.md): tag, length of the value, value, and the CRC over
 -- these.
-use Rattle.std.specs.Prelude.{ℕ, ◌+◌, Bool, ◌&&◌, List, [], ◌∷◌, ◌++◌, length, take, drop, get_or, leb, ltb, eqb}
-use Rattle.std.proofs.Math.Option.{Option, none, some}
+use Rattle.std.specs.Prelude.{ℕ, ◌+◌, Bool, ◌&&◌, List, [], ◌∷◌, ◌++◌, length, take, drop, get_or, leb, ltb, eqb, Option, Some, None}
 use Rattle.wire.specs.Choice.{when◌then◌else◌}
 use Rattle.wire.specs.Lists.{every}
 use Rattle.wire.specs.Numbers.{little_endian_of, field}
@@ -89,7 +88,7 @@ record_most = 3 + value_most + 4
 -- what a record says, if it has the layout; no value is longer than that of the longest import
 unfoldable pub act_in : Record → Option Act
 act_in r =
-    when ltb value_most (length r.value) then none
-    else when eqb r.tag 2 then (when every (import_tests r.value) then some (importing (line_in r.value) (key_in r.value)) else none)
-    else when eqb r.tag 3 then (when leb 1 (length r.value) then some (destroying (line_in r.value) (drop 1 r.value)) else none)
-    else none
+    when ltb value_most (length r.value) then None
+    else when eqb r.tag 2 then (when every (import_tests r.value) then Some (importing (line_in r.value) (key_in r.value)) else None)
+    else when eqb r.tag 3 then (when leb 1 (length r.value) then Some (destroying (line_in r.value) (drop 1 r.value)) else None)
+    else None

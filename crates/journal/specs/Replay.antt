@@ -1,7 +1,6 @@
 -- A whole record judged on the registry so far (document 02, "Surviving a power cut"): wrong CRC, then a layout not ours, then what Import
 -- or Destroy would refuse.
-use Rattle.std.specs.Prelude.{ℕ, Bool, ◌&&◌, not, List, [], take, get_or, ltb, eqb}
-use Rattle.std.proofs.Math.Option.{Option, none, some}
+use Rattle.std.specs.Prelude.{ℕ, Bool, ◌&&◌, not, List, [], take, get_or, ltb, eqb, Option, Some, None}
 use Rattle.wire.specs.Choice.{when◌then◌else◌}
 use Rattle.wire.specs.Numbers.{field}
 use Rattle.keys.specs.Key.{legal_bits}
@@ -22,7 +21,7 @@ in_use registry line = ltb line.0 line_count && is_used (get_or (names_in regist
 -- as Import or Destroy does it; none where they refuse
 unfoldable pub carried_out : (registry : List ℕ) → Line → Result → Option (List ℕ)
 carried_out registry line r =
-    when in_use registry line && eqb (status_number r.status) 0 then some (changed registry line r.change) else none
+    when in_use registry line && eqb (status_number r.status) 0 then Some (changed registry line r.change) else None
 
 -- the list of keys that we ship is left aside, and bits are by 01's rule: records from before "No more odd key lengths" are read
 unfoldable pub replay : (registry : List ℕ) → Act → Option (List ℕ)
@@ -40,10 +39,10 @@ pub data Judged : Type 0 where
   bad : Fault → Judged
 
 unfoldable pub judge_act : (registry : List ℕ) → Option Act → Judged
-judge_act registry none = bad WrongLayout
-judge_act registry (some act) = elim (replay registry act) [
-  | none ↦ bad NotAllowed
-  | some after ↦ good after
+judge_act registry None = bad WrongLayout
+judge_act registry (Some act) = elim (replay registry act) [
+  | None ↦ bad NotAllowed
+  | Some after ↦ good after
 ]
 
 unfoldable pub judge_record : (registry bytes : List ℕ) → Judged

@@ -5,11 +5,11 @@ ghost use Rattle.reading.specs.Reader.{read};
 ghost use Rattle.crc.specs.Crc.{table_entries};
 ghost use Rattle.journal.specs.Compact.{front_most, file_most, front_then, with_byte, judge_begun, compact_record, compact_step, has_ended, compact_journal};
 ghost use Rattle.journal.specs.Memory.{said_of, read_outcome};
-ghost use Rattle.journal.specs.code.Done.{left_by, compact_with};
+ghost use Rattle.journal.specs.code.Done.{fault_code, left_by, compact_with};
 
 use crate::replay::{VALUE_MOST, replay};
 use crate::state::{
-    ALL_ONES, FILE_MOST, FRONT_AT, FRONT_MOST, is_well_formed, is_whole, load, store,
+    FILE_MOST, FRONT_AT, FRONT_MOST, between, is_well_formed, is_whole, load, store,
 };
 use crate::{Fault, Progress};
 use crc::{table, take_byte};
@@ -20,11 +20,8 @@ use wire::number::read_u16;
 // The register after a record that ends with its CRC.
 const RESIDUE: u32 = 0xDEBB20E3;
 
-const WRONG_CRC: u8 = 1;
-
-const WRONG_LAYOUT: u8 = 2;
-
-// What a call says. A border is where a record ends and no other is begun.
+// What a call says. A border is where a record ends and no other is begun. Kept: five answers, two of them refusals of the
+// call and one of the file.
 #[derive(Clone, Copy)]
 pub enum Said {
     RegistryIllFormed,
@@ -48,17 +45,17 @@ struct Reached {
     taken: usize,
 }
 
-// Judges a whole record by its register and its front, and carries it out. The number of its fault, and 0 for none.
-fn judge(front: &[u8], registry: &mut [u8], register: u32) -> u8
+// Judges a whole record by its register and its front, and carries it out.
+fn judge(front: &[u8], registry: &mut [u8], register: u32) -> Result<(), Fault>
     requires { (length front.now ≡ front_most) × (length registry.old ≡ registry_size) }
-    ensures { record { fault = result; registry = registry.new } ≡ left_by registry.old (judge_begun registry.old register front.now) }
+    ensures { record { judged = result; registry = registry.new } ≡ left_by registry.old (judge_begun registry.old register front.now) }
 {
     if register != RESIDUE {
-        return WRONG_CRC;
+        return Err(Fault::WrongCrc);
     }
-    let n = read_u16(front, 1) as usize;
+    let n = usize::from(read_u16(front, 1));
     if VALUE_MOST < n {
-        return WRONG_LAYOUT;
+        return Err(Fault::WrongLayout);
     }
     let e = 3 + n;
     replay(registry, front[0], &front[3..e])
@@ -69,21 +66,11 @@ fn end_record(front: &mut [u8], registry: &mut [u8], p: Progress) -> Progress
     requires { (length front.old ≡ front_most) × (length registry.old ≡ registry_size) × (p.kept + p.count ≤ file_most) }
     ensures { compact_with registry.new result front.new ≡ (compact_record (compact_with registry.old p front.old) (judge_begun registry.old p.register front.old)).kept }
 {
-    let fault = judge(front, registry, p.register);
+    let judged = judge(front, registry, p.register);
     clear(front);
-    if fault != 0 {
-        return Progress {
-            fault,
-            kept: p.kept,
-            count: 0,
-            register: ALL_ONES,
-        };
-    }
-    Progress {
-        fault: 0,
-        kept: p.kept + p.count,
-        count: 0,
-        register: ALL_ONES,
+    match judged {
+        Ok(()) => between(None, p.kept + p.count),
+        Err(fault) => between(Some(fault), p.kept),
     }
 }
 
@@ -127,12 +114,9 @@ fn take_on(
 // Whether no byte is taken any more.
 fn has_ended(p: Progress) -> bool
     requires { p.kept + p.count ≤ file_most }
-    ensures { result ≡ has_ended p.fault p.kept p.count }
+    ensures { result ≡ has_ended (fault_code p.fault) p.kept p.count }
 {
-    if p.fault != 0 {
-        return true;
-    }
-    FILE_MOST <= p.kept + p.count
+    p.fault.is_some() || FILE_MOST <= p.kept + p.count
 }
 
 // Takes the bytes of a chunk, one by one, up to its end or the reader's.
@@ -141,41 +125,28 @@ fn read_on(front: &mut [u8], registry: &mut [u8], start: Progress, chunk: &[u8])
     ensures { (compact_with registry.new result.progress front.new ≡ (read compact_journal (compact_with registry.old start front.old) chunk.now).kept) × (result.taken ≡ (read compact_journal (compact_with registry.old start front.old) chunk.now).taken) }
 {
     let entries = table();
-    let mut p = start;
-    let mut i = 0;
-    while i < chunk.len() {
-        if has_ended(p) {
-            return Reached {
-                progress: p,
-                taken: i,
-            };
+    let mut progress = start;
+    for (i, byte) in chunk.iter().enumerate() {
+        if has_ended(progress) {
+            return Reached { progress, taken: i };
         }
-        p = take_on(front, registry, &entries, p, chunk[i]);
-        i += 1;
+        progress = take_on(front, registry, &entries, progress, *byte);
     }
     Reached {
-        progress: p,
-        taken: i,
+        progress,
+        taken: chunk.len(),
     }
 }
 
 // What is said of what was read.
 fn say(p: Progress) -> Said
-    ensures { result ≡ said_of p.fault p.count }
+    ensures { result ≡ said_of (fault_code p.fault) p.count }
 {
-    if p.fault == 0 {
-        if p.count == 0 {
-            return Said::AtBorder;
-        }
-        return Said::Waiting;
+    match p.fault {
+        Some(fault) => Said::Refused(fault),
+        None if p.count == 0 => Said::AtBorder,
+        None => Said::Waiting,
     }
-    if p.fault == 1 {
-        return Said::Refused(Fault::WrongCrc);
-    }
-    if p.fault == 2 {
-        return Said::Refused(Fault::WrongLayout);
-    }
-    Said::Refused(Fault::NotAllowed)
 }
 
 // A call that is refused.

@@ -14,7 +14,6 @@ use crate::write::{write_destroy, write_import};
 use judgement::Edit;
 use registry::lines::slot_at;
 use registry::{Line, Slot};
-use wire::number::wide;
 
 // The name in a slot, where it lies; a free slot has the empty name.
 fn name_there(registry: &[u8], line: Line, slot: Slot) -> &[u8]
@@ -23,7 +22,7 @@ fn name_there(registry: &[u8], line: Line, slot: Slot) -> &[u8]
 {
     let a = slot_at(line, slot);
     let b = a + 1;
-    let e = b + wide(registry[a]);
+    let e = b + usize::from(registry[a]);
     &registry[b..e]
 }
 
@@ -35,17 +34,11 @@ pub fn write_record(out: &mut [u8], registry: &[u8], line: Line, body: &[u8], ed
     match edit {
         Edit::Stays => 0,
         Edit::Fills(_, key) => {
-            let name = key.name;
-            let bytes = key.bytes;
-            let a = name.start;
-            let b = a + name.len;
-            let e = bytes.start;
-            let f = e + bytes.len;
             write_import(
                 out,
                 line,
-                &body[a..b],
-                &body[e..f],
+                key.name.of(body),
+                key.bytes.of(body),
                 key.bits as u16,
                 key.exported,
                 key.verified,

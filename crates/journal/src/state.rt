@@ -1,13 +1,13 @@
 // The reader's state in memory that the caller lends (docs/LAYOUT.md).
 ghost use Rattle.std.specs.Prelude.{◌≡◌, [], ◌≤◌, length, drop};
 ghost use Rattle.journal.specs.Compact.{is_begun_whole};
-ghost use Rattle.journal.specs.Memory.{front_at, state_size, state_head, state_bytes, well_formed_state, begin_state};
-ghost use Rattle.journal.specs.code.Done.{progress_in, compact_with};
+ghost use Rattle.journal.specs.Memory.{front_at, state_size, state_bytes, well_formed_state, begin_state};
+ghost use Rattle.journal.specs.code.Done.{fault_code, fault_of_code, progress_in, progress_between, compact_with};
 
-use crate::Progress;
 use crate::replay::VALUE_MOST;
-use wire::bytes::{all_zero, clear, copy_into};
-use wire::number::{bytes_of_u64, read_u16, read_u32, read_u64};
+use crate::{Fault, Progress};
+use wire::bytes::{all_zero, clear};
+use wire::number::{bytes_of_u32, bytes_of_u64, read_u16, read_u32, read_u64};
 
 pub const FRONT_MOST: usize = 3 + VALUE_MOST;
 
@@ -27,15 +27,54 @@ pub const FRONT_AT: usize = REGISTER_AT + 4;
 
 pub const STATE_SIZE: usize = FRONT_AT + FRONT_MOST;
 
+// Why memory is no beginning of a reader's state.
+#[derive(Clone, Copy)]
+pub enum BeginRefusal {
+    WrongSize,
+}
+
+// A fault as a state's first byte has it: its number, or 0 for none.
+#[tactic(auto, unfolding(crate::specs::code::Done::fault_code))]
+fn fault_code(fault: Option<Fault>) -> u8
+    ensures { result ≡ fault_code fault }
+{
+    match fault {
+        None => 0,
+        Some(fault) => u8::from(fault),
+    }
+}
+
+// The fault of a state's first byte. A well-formed state has none above 3.
+#[tactic(auto, unfolding(crate::specs::code::Done::fault_of_code, crate::specs::Memory::fault_of))]
+fn fault_of_code(code: u8) -> Option<Fault>
+    ensures { result ≡ fault_of_code code }
+{
+    match code {
+        0 => None,
+        1 => Some(Fault::WrongCrc),
+        2 => Some(Fault::WrongLayout),
+        _ => Some(Fault::NotAllowed),
+    }
+}
+
+// No record is begun.
+pub(crate) fn between(fault: Option<Fault>, kept: u64) -> Progress
+    ensures { result ≡ progress_between fault kept }
+{
+    Progress {
+        fault,
+        kept,
+        count: 0,
+        register: ALL_ONES,
+    }
+}
+
 // Whether so many bytes, which begin with `front`, are a whole record.
 pub fn is_whole(count: u64, front: &[u8]) -> bool
     requires { 3 ≤ length front.now }
     ensures { result ≡ is_begun_whole count front.now }
 {
-    if count < 3 {
-        return false;
-    }
-    3 + read_u16(front, 1) as u64 + 4 <= count
+    3 <= count && 3 + u64::from(read_u16(front, 1)) + 4 <= count
 }
 
 // Whether a slice of any length is a well-formed state.
@@ -67,50 +106,17 @@ pub fn is_well_formed(state: &[u8]) -> bool
 }
 
 // What a state holds beside the record's front.
+#[tactic(auto, unfolding(crate::specs::code::Done::progress_in))]
 pub fn load(state: &[u8]) -> Progress
     requires { length state.now ≡ state_size }
     ensures { result ≡ progress_in state.now }
 {
     Progress {
-        fault: state[0],
+        fault: fault_of_code(state[0]),
         kept: read_u64(state, KEPT_AT),
         count: read_u64(state, COUNT_AT),
         register: read_u32(state, REGISTER_AT),
     }
-}
-
-fn head_of(p: Progress) -> [u8; 21]
-    ensures { result ≡ state_head p.fault p.kept p.count p.register }
-{
-    let k = bytes_of_u64(p.kept);
-    let c = bytes_of_u64(p.count);
-    let n = p.register;
-    let n1 = n / 256;
-    let n2 = n1 / 256;
-    let n3 = n2 / 256;
-    [
-        p.fault,
-        k[0],
-        k[1],
-        k[2],
-        k[3],
-        k[4],
-        k[5],
-        k[6],
-        k[7],
-        c[0],
-        c[1],
-        c[2],
-        c[3],
-        c[4],
-        c[5],
-        c[6],
-        c[7],
-        (n % 256) as u8,
-        (n1 % 256) as u8,
-        (n2 % 256) as u8,
-        n3 as u8,
-    ]
 }
 
 // Writes all of a state but the record's front, which stays.
@@ -118,26 +124,20 @@ pub fn store(state: &mut [u8], p: Progress)
     requires { length state.old ≡ state_size }
     ensures { state.new ≡ state_bytes (compact_with [] p (drop front_at state.old)) }
 {
-    let head = head_of(p);
-    copy_into(state, &head);
+    state[0] = fault_code(p.fault);
+    state[KEPT_AT..COUNT_AT].copy_from_slice(&bytes_of_u64(p.kept));
+    state[COUNT_AT..REGISTER_AT].copy_from_slice(&bytes_of_u64(p.count));
+    state[REGISTER_AT..FRONT_AT].copy_from_slice(&bytes_of_u32(p.register));
 }
 
 // Makes memory of the exact size a fresh state; any other memory stays as it came.
-pub fn begin_journal(state: &mut [u8]) -> bool
-    ensures { record { begun = result; state = state.new } ≡ begin_state state.old }
+pub fn begin_journal(state: &mut [u8]) -> Result<(), BeginRefusal>
+    ensures { record { answer = result; state = state.new } ≡ begin_state state.old }
 {
     if state.len() != STATE_SIZE {
-        return false;
+        return Err(BeginRefusal::WrongSize);
     }
     clear(state);
-    store(
-        state,
-        Progress {
-            fault: 0,
-            kept: 0,
-            count: 0,
-            register: ALL_ONES,
-        },
-    );
-    true
+    store(state, between(None, 0));
+    Ok(())
 }

@@ -5,7 +5,6 @@ ghost use Rattle.wire.specs.Numbers.{little_endian_of};
 ghost use Rattle.wire.specs.code.Wrote.{Wrote};
 ghost use Rattle.keys.specs.Key.{data_most};
 ghost use Rattle.keys.specs.Names.{key_name_most};
-ghost use Rattle.registry.specs.Slots.{flag};
 ghost use Rattle.registry.specs.Registry.{line_count};
 ghost use Rattle.registry.specs.code.Check.{key_from};
 ghost use Rattle.crc.specs.Crc.{crc32};
@@ -40,15 +39,6 @@ fn seal(out: &mut [u8], n: usize) -> usize
     e
 }
 
-fn flag_byte(t: bool) -> u8
-    ensures { result ≡ flag t }
-{
-    if t {
-        return 1;
-    }
-    0
-}
-
 // All of an import's record that stands before the name.
 fn import_head(
     line: Line,
@@ -71,8 +61,8 @@ fn import_head(
         at as u8,
         b[0],
         b[1],
-        flag_byte(exported),
-        flag_byte(verified),
+        u8::from(exported),
+        u8::from(verified),
         name_length as u8,
     ]
 }

@@ -1,9 +1,9 @@
 -- Who asks, and what the result of a request depends on: the request, the list of keys that we ship, and the slots of the
 -- application that asks; with auth type 0 the request alone.
+use Rattle.std.proofs.Common.{Option, Some, None}
 use mathlib.Core.Path.{◌≡◌, refl, sym, ap, ap₂, ◌∙◌}
 use Prim.Native.Nat.{ℕ, ◌≤◌}
 use mathlib.Core.Bool.{Bool, true, false, true≢false, ◌&&◌}
-use mathlib.Core.Option.{Option, none, some}
 use mathlib.Core.List.{List}
 use native.Mathlib.Omega.{arith}
 use borrow.Author.Tests.{ltb-false, eqb-false, eq-eqb, not-false}
@@ -29,7 +29,7 @@ use Rattle.judgement.specs.declared.Status.TheVariants.{Success}
 -- ---- who asks
 
 -- with auth type 0 nobody
-pub asks_nobody : (r : List ℕ) (q : Request) → q.auth_type ≡ 0 → application_of r q ≡ none
+pub asks_nobody : (r : List ℕ) (q : Request) → q.auth_type ≡ 0 → application_of r q ≡ None
 unfolding application_of
 asks_nobody r q e = rw e
 
@@ -39,13 +39,13 @@ unfolding application_of
 asks_by_name r q e = rw e
 
 -- who asks was named, and not with auth type 0
-pub asks_named : (r : List ℕ) (q : Request) (line : Line) → application_of r q ≡ some line
-    → (q.auth_type ≡ 0 → ⊥) × (application_named r q.auth ≡ some line)
+pub asks_named : (r : List ℕ) (q : Request) (line : Line) → application_of r q ≡ Some line
+    → (q.auth_type ≡ 0 → ⊥) × (application_named r q.auth ≡ Some line)
 unfolding application_of
 asks_named r q line e = go (eqb q.auth_type 0) refl e
   where
-    go : (t : Bool) → eqb q.auth_type 0 ≡ t → (let a : Option Line = when t then none else application_named r q.auth in a) ≡ some line
-        → (q.auth_type ≡ 0 → ⊥) × (application_named r q.auth ≡ some line)
+    go : (t : Bool) → eqb q.auth_type 0 ≡ t → (let a : Option Line = when t then None else application_named r q.auth in a) ≡ Some line
+        → (q.auth_type ≡ 0 → ⊥) × (application_named r q.auth ≡ Some line)
     go true n w = absurd (some≢none line (sym w))
     go false n w = (eqb-false _ _ n, w)
 
@@ -58,13 +58,13 @@ pub all_refusing : (r : List ℕ) (q : Request) → AllHave Refusing (refusals r
 unfolding refusals status_number
 all_refusing r q = (refl, (refl, (refl, (refl, (refl, (refl, (refl, (refl, (refl, (refl, tt))))))))))
 
-pub served_passes : (list r : List ℕ) (q : Request) → status_number (result_of list r q).status ≡ 0 → first_of (refusals r q) ≡ none
+pub served_passes : (list r : List ℕ) (q : Request) → status_number (result_of list r q).status ≡ 0 → first_of (refusals r q) ≡ None
 unfolding result_of refuse
 served_passes list r q e = go (first_of (refusals r q)) refl
   where
-    go : (o : Option Status) → first_of (refusals r q) ≡ o → o ≡ none
-    go none n = refl
-    go (some status) n =
+    go : (o : Option Status) → first_of (refusals r q) ≡ o → o ≡ None
+    go None n = refl
+    go (Some status) n =
         let same : (result_of list r q).status ≡ status = rw (n, result_of) in
         absurd (eqb-false _ _ (first_has Refusing (refusals r q) (all_refusing r q) status n) (sym (ap status_number same) ∙ e))
 
@@ -77,8 +77,8 @@ served_type list r q e = ltb-false _ _ (none_at (refusals r q) 6 Success (served
 
 abbrev result_with : List (Bool × Status) → List Entry → List ListedKey → Request → Result
 result_with tests slots keys q = elim (first_of tests) [
-  | some status ↦ refuse status
-  | none ↦ operated (format_of (format_for q.content_type)) q.opcode q.body slots keys
+  | Some status ↦ refuse status
+  | None ↦ operated (format_of (format_for q.content_type)) q.opcode q.body slots keys
 ]
 
 same_for : (list r r' : List ℕ) (q : Request) (o : Option Line) → application_of r q ≡ o → application_of r' q ≡ o
@@ -92,10 +92,10 @@ same_for list r r' q o e e' slots =
     tests = unfold refusals in rw (e, e')
 
 -- of the registry on the line of the application that asks, and on the slots of that line
-pub same_result : (list r r' : List ℕ) (q : Request) (line : Line) → application_of r q ≡ some line → application_of r' q ≡ some line
+pub same_result : (list r r' : List ℕ) (q : Request) (line : Line) → application_of r q ≡ Some line → application_of r' q ≡ Some line
     → slots_of r line ≡ slots_of r' line → result_of list r q ≡ result_of list r' q
 unfolding askers_slots
-same_result list r r' q line e e' slots = same_for list r r' q (some line) e e' slots
+same_result list r r' q line e e' slots = same_for list r r' q (Some line) e e' slots
 
 -- ---- with auth type 0: on the request alone
 
@@ -138,7 +138,7 @@ core_alone format opcode body slots slots' keys keys' e = go (asked format opcod
     go (asks (verify_signature name hash signature)) q c = absurd c
 
 -- what is not refused is asked of the core
-open_core : (r : List ℕ) (q : Request) → q.auth_type ≡ 0 → first_of (refusals r q) ≡ none → one_of core_opcodes q.opcode ≡ true
+open_core : (r : List ℕ) (q : Request) → q.auth_type ≡ 0 → first_of (refusals r q) ≡ None → one_of core_opcodes q.opcode ≡ true
 unfolding refusals opcodes_of
 open_core r q e n =
     let tests = refusals r q in
@@ -156,8 +156,8 @@ open_core r q e n =
 pub open_result : (list list' r r' : List ℕ) (q : Request) → q.auth_type ≡ 0 → result_of list r q ≡ result_of list' r' q
 unfolding result_of askers_slots
 open_result list list' r r' q e =
-    same_for list r r' q none (asks_nobody r q e) (asks_nobody r' q e) refl ∙ go (first_of (refusals r' q)) refl
+    same_for list r r' q None (asks_nobody r q e) (asks_nobody r' q e) refl ∙ go (first_of (refusals r' q)) refl
   where
     go : (o : Option Status) → first_of (refusals r' q) ≡ o → result_of list r' q ≡ result_of list' r' q
-    go (some status) n = rw (n, result_of)
-    go none n = rw (n, result_of) (core_alone (format_of (format_for q.content_type)) q.opcode q.body _ _ (keys_in list) (keys_in list') (open_core r' q e n))
+    go (Some status) n = rw (n, result_of)
+    go None n = rw (n, result_of) (core_alone (format_of (format_for q.content_type)) q.opcode q.body _ _ (keys_in list) (keys_in list') (open_core r' q e n))

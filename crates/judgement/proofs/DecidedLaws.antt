@@ -1,7 +1,7 @@
 -- Laws of decisions: for each way an operation can end, what the rules make of it, from the facts that the code has there.
+use Rattle.std.proofs.Common.{Some, None}
 use mathlib.Core.Path.{◌≡◌, refl, sym, ap, ◌∙◌, subst}
 use mathlib.Core.Bool.{Bool, true, false}
-use mathlib.Core.Option.{none, some}
 use mathlib.Core.List.{List}
 use Prim.Native.Nat.{ℕ, ◌≤◌, ◌<◌}
 use native.Mathlib.Omega.{arith}
@@ -20,7 +20,7 @@ use Rattle.keys.proofs.NameLaws.{legal_short}
 use Rattle.keys.proofs.KeyLaws.{legal_data_lem, legal_bits_lem}
 use Rattle.registry.proofs.SlotLaws.{Legal}
 use Rattle.shipped.specs.Shipped.{ListedKey, keys_in}
-use Rattle.shipped.specs.declared.Span.{Span}
+use Rattle.wire.specs.declared.span.Span.{Span}
 use Rattle.lookup.specs.Lookup.{Source, own, listed, key_of as keyFound, own_in, key_named}
 use Rattle.lookup.specs.code.Places.{Within as PlaceWithin, listed_at, key_at, source_at, KeyAt}
 use Rattle.lookup.specs.declared.Place.{Place}
@@ -91,11 +91,11 @@ module _ (slots : List Entry) (list body : List ℕ) {x : Result} (d : Decision)
       go false e = rw (e, counted, counted_at) (record { result = refl; output = done.output; edit = done.edit })
 
   pub counted_there : (registry : List ℕ) (line : Line) (name : List ℕ) (place : Place) (source : Source)
-      → source_at registry list line name place ≡ some source → PlaceWithin list place → Counted source place
+      → source_at registry list line name place ≡ Some source → PlaceWithin list place → Counted source place
   unfolding source_at own_in counted counted_at PlaceWithin
   counted_there registry line name (Own slot) source e w = go (get_or (slots_of registry line) slot.0 free) e
     where
-      go : (entry : Entry) → own_in slot entry ≡ some source → Counted source (Own slot)
+      go : (entry : Entry) → own_in slot entry ≡ Some source → Counted source (Own slot)
       go free q = absurd (some≢none source (sym q))
       go (held key) q = let o : own slot key ≡ source = cc in subst (λ (s : Source). Counted s (Own slot)) o (counted_own slot key w)
   counted_there registry line name (Listed span) source e w =
@@ -158,7 +158,7 @@ module _ (slots : List Entry) (keys : List ListedKey) (name : List ℕ) where
     bad_verified hash signature = rw t
 
   module _ (t : legal_name key_name_most name ≡ true) where
-    module _ (e : key_named name slots keys ≡ none) where
+    module _ (e : key_named name slots keys ≡ None) where
       pub none_destroyed : perform_destroy name slots keys ≡ refuse PsaErrorDoesNotExist
       unfolding perform_destroy
       none_destroyed = rw (t, e)
@@ -171,7 +171,7 @@ module _ (slots : List Entry) (keys : List ListedKey) (name : List ℕ) where
       unfolding perform_verify
       none_verified hash signature = rw (t, e)
 
-    module _ (source : Source) (e : key_named name slots keys ≡ some source) where
+    module _ (source : Source) (e : key_named name slots keys ≡ Some source) where
       pub destroys : perform_destroy name slots keys ≡ destroy_of source
       unfolding perform_destroy
       destroys = rw (t, e)

@@ -1,7 +1,7 @@
 -- Laws of Import, whatever its rule of bits is: how it ends, and what it knows of a key that it takes.
+use Rattle.std.proofs.Common.{Option, Some, None}
 use mathlib.Core.Path.{◌≡◌, refl}
 use mathlib.Core.Bool.{Bool, true, false, and-true}
-use mathlib.Core.Option.{Option, none, some}
 use mathlib.Core.List.{List, [], ◌∷◌}
 use Prim.Native.Nat.{ℕ}
 use lib.Dec.{eqb}
@@ -12,8 +12,6 @@ use Rattle.messages.specs.Operations.{nothing}
 use Rattle.registry.specs.Slots.{Entry}
 use Rattle.registry.specs.Registry.{slot_named, fill}
 use Rattle.registry.specs.declared.Slot.{Slot}
-use Rattle.registry.specs.declared.Found.{Found}
-use Rattle.registry.specs.declared.Found.TheVariants.{At, Nothing}
 use Rattle.registry.proofs.SlotLaws.{Legal}
 use Rattle.shipped.specs.Shipped.{ListedKey}
 use Rattle.lookup.specs.Lookup.{Source, key_named}
@@ -63,34 +61,34 @@ module _ (takes : ℕ → Bool) (slots : List Entry) (keys : List ListedKey) (ke
   other_bits e b = rw (e, b)
 
   module _ (t : Taken takes key) where
-    pub name_taken : (source : Source) → key_named key.name slots keys ≡ some source → import_by takes key slots keys ≡ refuse PsaErrorAlreadyExists
+    pub name_taken : (source : Source) → key_named key.name slots keys ≡ Some source → import_by takes key slots keys ≡ refuse PsaErrorAlreadyExists
     unfolding import_by place_key
     name_taken source e = rw (t.bounds, t.bits, import_by, e, place_key)
 
-    module _ (new : key_named key.name slots keys ≡ none) where
-      pub no_slot : slot_named [] slots ≡ Nothing → import_by takes key slots keys ≡ refuse PsaErrorInsufficientStorage
+    module _ (new : key_named key.name slots keys ≡ None) where
+      pub no_slot : slot_named [] slots ≡ None → import_by takes key slots keys ≡ refuse PsaErrorInsufficientStorage
       unfolding import_by place_key
       no_slot e = rw (t.bounds, t.bits, import_by, new, e, place_key)
 
-      pub imported : (slot : Slot) → slot_named [] slots ≡ At slot → import_by takes key slots keys ≡ success nothing (fill slot key)
+      pub imported : (slot : Slot) → slot_named [] slots ≡ Some slot → import_by takes key slots keys ≡ success nothing (fill slot key)
       unfolding import_by place_key
       imported slot e = rw (t.bounds, t.bits, import_by, new, e, place_key)
 
   -- it is refused with a status that has no output, or the key is new and fills a free slot
   pub import_ends : (P : Result → Type 0)
       → ((status : Status) → eqb (status_number status) 0 ≡ false → eqb (status_number status) 7 ≡ false → P (refuse status))
-      → ((slot : Slot) → Taken takes key → key_named key.name slots keys ≡ none → slot_named [] slots ≡ At slot → P (success nothing (fill slot key)))
+      → ((slot : Slot) → Taken takes key → key_named key.name slots keys ≡ None → slot_named [] slots ≡ Some slot → P (success nothing (fill slot key)))
       → P (import_by takes key slots keys)
   unfolding import_by place_key status_number
   import_ends P refused filled = first (within_bounds key) refl
     where
-      fourth : Taken takes key → key_named key.name slots keys ≡ none → (f : Found) → slot_named [] slots ≡ f → P (import_by takes key slots keys)
-      fourth t n Nothing e = rw (t.bounds, t.bits, import_by, n, e, place_key) (refused PsaErrorInsufficientStorage refl refl)
-      fourth t n (At slot) e = rw (t.bounds, t.bits, import_by, n, e, place_key) (filled slot t n e)
+      fourth : Taken takes key → key_named key.name slots keys ≡ None → (f : Option Slot) → slot_named [] slots ≡ f → P (import_by takes key slots keys)
+      fourth t n None e = rw (t.bounds, t.bits, import_by, n, e, place_key) (refused PsaErrorInsufficientStorage refl refl)
+      fourth t n (Some slot) e = rw (t.bounds, t.bits, import_by, n, e, place_key) (filled slot t n e)
 
       third : Taken takes key → (o : Option Source) → key_named key.name slots keys ≡ o → P (import_by takes key slots keys)
-      third t (some source) e = rw (t.bounds, t.bits, import_by, e, place_key) (refused PsaErrorAlreadyExists refl refl)
-      third t none e = fourth t e (slot_named [] slots) refl
+      third t (Some source) e = rw (t.bounds, t.bits, import_by, e, place_key) (refused PsaErrorAlreadyExists refl refl)
+      third t None e = fourth t e (slot_named [] slots) refl
 
       second : within_bounds key ≡ true → (t : Bool) → takes key.bits ≡ t → P (import_by takes key slots keys)
       second e false b = rw (e, b, import_by) (refused PsaErrorNotSupported refl refl)
@@ -101,5 +99,5 @@ module _ (takes : ℕ → Bool) (slots : List Entry) (keys : List ListedKey) (ke
       first true e = second e (takes key.bits) refl
 
   -- no own key has its name
-  pub new_there : Taken takes key → key_named key.name slots keys ≡ none → slot_named key.name slots ≡ Nothing
+  pub new_there : Taken takes key → key_named key.name slots keys ≡ None → slot_named key.name slots ≡ None
   new_there t n = none_there key.name slots keys (bounded_name key t.bounds) n

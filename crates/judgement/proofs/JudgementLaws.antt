@@ -1,8 +1,8 @@
 -- What the judgement keeps: a well-formed registry stays well formed and keeps the applications' names, and a status other than
 -- 0 leaves it alone.
+use Rattle.std.proofs.Common.{Option, Some, None}
 use mathlib.Core.Path.{◌≡◌, refl, sym, ap}
 use mathlib.Core.Bool.{Bool, true, false}
-use mathlib.Core.Option.{Option, none, some}
 use mathlib.Core.List.{List}
 use Prim.Native.Nat.{ℕ}
 use lib.Dec.{eqb}
@@ -33,11 +33,11 @@ use Rattle.judgement.proofs.Results.{served_status, by_result}
 
 -- ---- the application that asks
 
-pub asks : (r : List ℕ) (q : Request) (line : Line) → application_of r q ≡ some line → Used r line
+pub asks : (r : List ℕ) (q : Request) (line : Line) → application_of r q ≡ Some line → Used r line
 unfolding application_of
 asks r q line e = go (eqb q.auth_type 0) e
   where
-    go : (t : Bool) → (let a : Option Line = when t then none else application_named r q.auth in a) ≡ some line → Used r line
+    go : (t : Bool) → (let a : Option Line = when t then None else application_named r q.auth in a) ≡ Some line → Used r line
     go true w = absurd (some≢none line (sym w))
     go false w = named_used r q.auth line w
 
@@ -46,7 +46,7 @@ asks r q line e = go (eqb q.auth_type 0) e
 pub taken_legal : (key : Key) → Taken import_bits key → Legal key
 taken_legal key t = bounded_legal key t.bounds (import_legal _ t.bits)
 
-use_allowed : (slots : List Entry) (keys : List ListedKey) (name : List ℕ) (source : Source) → key_named name slots keys ≡ some source
+use_allowed : (slots : List Entry) (keys : List ListedKey) (name : List ℕ) (source : Source) → key_named name slots keys ≡ Some source
     → (output : Output) → Allowed slots (counted source (success output unchanged)).change
 unfolding counted success status_number
 use_allowed slots keys name (own slot key) e output = uses name key (own_there name slots keys slot key e) (own_held name slots keys slot key e)
@@ -74,8 +74,8 @@ request_kept list r q w = go (application_of r q) refl (result_allowed list r q)
   where
     go : (o : Option Line) → application_of r q ≡ o → Allowed (askers_slots r o) (result_of list r q).change
         → Kept r (changed_by r o (result_of list r q))
-    go none e ok = (w, refl)
-    go (some line) e ok = change_kept r w line (asks r q line e) (result_of list r q).change ok
+    go None e ok = (w, refl)
+    go (Some line) e ok = change_kept r w line (asks r q line e) (result_of list r q).change ok
 
 module _ (list r : List ℕ) (c : Counts) (request : List ℕ) (w : well_formed_registry r ≡ true) where
   judge_kept : Kept r (judge (judgement list) r c request).registry
@@ -115,8 +115,8 @@ refused_keeps list r c request h = go (application_of r (request_of request))
     x = result_of list r (request_of request)
 
     go : (o : Option Line) → changed_by r o x ≡ r
-    go none = refl
-    go (some line) = ap (changed r line) (result_kept list r (request_of request) h)
+    go None = refl
+    go (Some line) = ap (changed r line) (result_kept list r (request_of request) h)
 
 -- and one that is answered before
 pub early_keeps : (list r : List ℕ) (c : Counts) (header : List ℕ)

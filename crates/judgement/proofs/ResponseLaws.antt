@@ -1,7 +1,7 @@
 -- Every response has at most 629 bytes, where the registry is well formed.
+use Rattle.std.proofs.Common.{Option, Some, None}
 use mathlib.Core.Path.{◌≡◌, refl, ap}
 use mathlib.Core.Bool.{true}
-use mathlib.Core.Option.{Option, none, some}
 use mathlib.Core.List.{List, [], ◌∷◌, ◌++◌}
 use Prim.Native.Nat.{ℕ, ◌+◌, ◌≤◌, ◌<◌}
 use native.Mathlib.Omega.{arith}
@@ -51,8 +51,8 @@ unfolding askers_slots
 slots_of_asker r w q i = go (application_of r q) refl
   where
     go : (o : Option Line) → application_of r q ≡ o → ShortEntry (get_or (askers_slots r o) i free)
-    go none e = tt
-    go (some line) e = slots_short r w line (asks r q line e).there i
+    go None e = tt
+    go (Some line) e = slots_short r w line (asks r q line e).there i
 
 output_short : (f : BodyFormat) (list r : List ℕ) → well_formed_registry r ≡ true → (q : Request) → length (output_bytes (format_of f) (result_of list r q).output) ≤ body_most
 unfolding refuse refuse_at success

@@ -1,7 +1,7 @@
 -- What is true of every way in which a request can end is true of its result.
+use Rattle.std.proofs.Common.{Option, Some, None}
 use mathlib.Core.Path.{◌≡◌, refl}
 use mathlib.Core.Bool.{Bool, true, false}
-use mathlib.Core.Option.{Option, none, some}
 use mathlib.Core.List.{List, []}
 use Prim.Native.Nat.{ℕ, ◌≤◌}
 use lib.ListN.{length}
@@ -13,7 +13,6 @@ use Rattle.keys.specs.Key.{Key, import_bits}
 use Rattle.registry.specs.Slots.{Entry}
 use Rattle.registry.specs.Registry.{slot_named, unchanged, fill, clear}
 use Rattle.registry.specs.declared.Slot.{Slot}
-use Rattle.registry.specs.declared.Found.TheVariants.{At, Nothing}
 use Rattle.shipped.specs.Shipped.{ListedKey, keys_in}
 use Rattle.lookup.specs.Lookup.{Source, own, listed as shipped, key_of, key_named}
 use Rattle.rsa.specs.Signature.{verification}
@@ -39,12 +38,12 @@ pub record Ends (slots : List Entry) (keys : List ListedKey) (P : Result → Typ
   pub refused : (status : Status) → P (refuse status)
   pub broken : (at : ℕ) → P (refuse_at at)
   pub served : (output : Output) → ((f : BodyFormat) → length (message.output_bytes (format_of f) output) ≤ short_most) → P (success output unchanged)
-  pub imported : (slot : Slot) (key : Key) → Taken import_bits key → slot_named key.name slots ≡ Nothing → slot_named [] slots ≡ At slot
+  pub imported : (slot : Slot) (key : Key) → Taken import_bits key → slot_named key.name slots ≡ None → slot_named [] slots ≡ Some slot
       → P (success nothing (fill slot key))
-  pub destroyed : (slot : Slot) (name : List ℕ) → slot_named name slots ≡ At slot → P (success nothing (clear slot))
-  pub exported : (source : Source) (name : List ℕ) → key_named name slots keys ≡ some source
+  pub destroyed : (slot : Slot) (name : List ℕ) → slot_named name slots ≡ Some slot → P (success nothing (clear slot))
+  pub exported : (source : Source) (name : List ℕ) → key_named name slots keys ≡ Some source
       → P (counted source (success (exported (key_of source).bytes) unchanged))
-  pub verified : (source : Source) (name : List ℕ) → key_named name slots keys ≡ some source → P (counted source (success nothing unchanged))
+  pub verified : (source : Source) (name : List ℕ) → key_named name slots keys ≡ Some source → P (counted source (success nothing unchanged))
 
 -- ---- what counting a use leaves as it is
 
@@ -69,7 +68,7 @@ module _ (slots : List Entry) (keys : List ListedKey) (P : Result → Type 0) (e
   by_import key = import_ends import_bits slots keys key P (λ status z _. ends.refused status)
       (λ slot t n e. ends.imported slot key t (new_there import_bits slots keys key t n) e)
 
-  by_destroying : (name : List ℕ) (source : Source) → key_named name slots keys ≡ some source → P (destroy_of source)
+  by_destroying : (name : List ℕ) (source : Source) → key_named name slots keys ≡ Some source → P (destroy_of source)
   unfolding destroy_of
   by_destroying name (own slot key) e = ends.destroyed slot name (own_there name slots keys slot key e)
   by_destroying name (shipped key) e = ends.refused _
@@ -79,8 +78,8 @@ module _ (slots : List Entry) (keys : List ListedKey) (P : Result → Type 0) (e
   by_destroy name = go (legal_name key_name_most name) refl
     where
       second : legal_name key_name_most name ≡ true → (o : Option Source) → key_named name slots keys ≡ o → P (perform_destroy name slots keys)
-      second v none e = rw (v, e, perform_destroy) (ends.refused _)
-      second v (some source) e = rw (v, e, perform_destroy) (by_destroying name source e)
+      second v None e = rw (v, e, perform_destroy) (ends.refused _)
+      second v (Some source) e = rw (v, e, perform_destroy) (by_destroying name source e)
 
       go : (t : Bool) → legal_name key_name_most name ≡ t → P (perform_destroy name slots keys)
       go false e = rw (e, perform_destroy) (ends.refused _)
@@ -90,7 +89,7 @@ module _ (slots : List Entry) (keys : List ListedKey) (P : Result → Type 0) (e
   by_refusal : (source : Source) (status : Status) → eqb (status_number status) 0 ≡ false → P (counted source (refuse status))
   by_refusal source status e = rw (refused_uncounted source status e) (ends.refused status)
 
-  by_exporting : (name : List ℕ) (source : Source) → key_named name slots keys ≡ some source → P (counted source (export_of (key_of source)))
+  by_exporting : (name : List ℕ) (source : Source) → key_named name slots keys ≡ Some source → P (counted source (export_of (key_of source)))
   unfolding export_of status_number
   by_exporting name source q = go (key_of source).export_allowed refl
     where
@@ -103,20 +102,20 @@ module _ (slots : List Entry) (keys : List ListedKey) (P : Result → Type 0) (e
   by_export name = go (legal_name key_name_most name) refl
     where
       second : legal_name key_name_most name ≡ true → (o : Option Source) → key_named name slots keys ≡ o → P (perform_export name slots keys)
-      second v none e = rw (v, e, perform_export) (ends.refused _)
-      second v (some source) e = rw (v, e, perform_export) (by_exporting name source e)
+      second v None e = rw (v, e, perform_export) (ends.refused _)
+      second v (Some source) e = rw (v, e, perform_export) (by_exporting name source e)
 
       go : (t : Bool) → legal_name key_name_most name ≡ t → P (perform_export name slots keys)
       go false e = rw (e, perform_export) (ends.refused _)
       go true e = second e (key_named name slots keys) refl
 
-  by_outcome : (name : List ℕ) (source : Source) → key_named name slots keys ≡ some source → (outcome : Outcome) → P (counted source (checked outcome))
+  by_outcome : (name : List ℕ) (source : Source) → key_named name slots keys ≡ Some source → (outcome : Outcome) → P (counted source (checked outcome))
   unfolding checked status_number
   by_outcome name source q ValidSignature = ends.verified source name q
   by_outcome name source q InvalidKey = by_refusal source _ refl
   by_outcome name source q InvalidSignature = by_refusal source _ refl
 
-  by_verifying : (name hash signature : List ℕ) (source : Source) → key_named name slots keys ≡ some source
+  by_verifying : (name hash signature : List ℕ) (source : Source) → key_named name slots keys ≡ Some source
       → P (counted source (verify_with hash signature (key_of source)))
   unfolding verify_with status_number
   by_verifying name hash signature source q = go key.verify_allowed refl (eqb (length hash) hash_size) refl (import_bits key.bits) refl
@@ -136,8 +135,8 @@ module _ (slots : List Entry) (keys : List ListedKey) (P : Result → Type 0) (e
   by_verify name hash signature = go (legal_name key_name_most name) refl
     where
       second : legal_name key_name_most name ≡ true → (o : Option Source) → key_named name slots keys ≡ o → P (perform_verify name hash signature slots keys)
-      second v none e = rw (v, e, perform_verify) (ends.refused _)
-      second v (some source) e = rw (v, e, perform_verify) (by_verifying name hash signature source e)
+      second v None e = rw (v, e, perform_verify) (ends.refused _)
+      second v (Some source) e = rw (v, e, perform_verify) (by_verifying name hash signature source e)
 
       go : (t : Bool) → legal_name key_name_most name ≡ t → P (perform_verify name hash signature slots keys)
       go false e = rw (e, perform_verify) (ends.refused _)
@@ -178,5 +177,5 @@ module _ (list r : List ℕ) (q : Request) (P : Result → Type 0) (ends : Ends 
   by_result = go (first_of (refusals r q)) refl
     where
       go : (o : Option Status) → first_of (refusals r q) ≡ o → P (result_of list r q)
-      go (some status) e = rw (e, result_of) (ends.refused status)
-      go none e = rw (e, result_of) by_operate
+      go (Some status) e = rw (e, result_of) (ends.refused status)
+      go None e = rw (e, result_of) by_operate

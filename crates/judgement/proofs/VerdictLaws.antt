@@ -1,9 +1,9 @@
 -- What a verdict does to the line of one application: nothing, unless the request was served for it; and then what the line's own
 -- slots and counts and the request's result say.
+use Rattle.std.proofs.Common.{Option, Some, None}
 use mathlib.Core.Path.{◌≡◌, refl, sym, ap, ◌∙◌, subst}
 use Prim.Native.Nat.{ℕ, ◌<◌}
 use mathlib.Core.Bool.{true, false}
-use mathlib.Core.Option.{Option, none, some}
 use mathlib.Core.List.{List}
 use native.Mathlib.Decide.{ℕ_discrete}
 use borrow.Author.Tests.{ne_eqb}
@@ -85,7 +85,7 @@ pub record Moved (line : Line) (x : Result) (r : List ℕ) (c : Counts) (r' : Li
 pub record ServedFor (list r : List ℕ) (line : Line) (request : List ℕ) : Type 0 where
   pub legal : legal_start request ≡ true
   pub small : oversized request ≡ false
-  pub asker : application_of r (request_of request) ≡ some line
+  pub asker : application_of r (request_of request) ≡ Some line
   pub status : status_number (result_of list r (request_of request)).status ≡ 0
 
 module _ (list r : List ℕ) (w : well_formed_registry r ≡ true) (c : Counts) (line : Line) (hl : line.0 < line_count) (request : List ℕ) where
@@ -108,8 +108,8 @@ module _ (list r : List ℕ) (w : well_formed_registry r ≡ true) (c : Counts) 
     where
       asked : legal_start request ≡ true → oversized request ≡ false → (o : Option Line) → application_of r q ≡ o → Allowed (askers_slots r o) x.change
           → Untouched line r c (changed_by r o x) (count c o x.status)
-      asked a b none e ok = record { slots = refl; uses = refl; served = ap (λ (l : List ℕ). get_or l line.0 0) (count_nobody c x.status) }
-      asked a b (some l) e ok = elim (ℕ_discrete l.0 line.0) [
+      asked a b None e ok = record { slots = refl; uses = refl; served = ap (λ (l : List ℕ). get_or l line.0 0) (count_nobody c x.status) }
+      asked a b (Some l) e ok = elim (ℕ_discrete l.0 line.0) [
         | no other ↦
             let there = (asks r q l e).there in
             record {
@@ -118,24 +118,24 @@ module _ (list r : List ℕ) (w : well_formed_registry r ≡ true) (c : Counts) 
               served = count_others c l line x.status other;
             }
         | yes same ↦
-            let mine : application_of r q ≡ some line = e ∙ ap some (λ i. record { 0 = same i }) in
+            let mine : application_of r q ≡ Some line = e ∙ ap Some (λ i. record { 0 = same i }) in
             let refused : status_number x.status ≡ 0 → ⊥ = λ z. unserved (record { legal = a; small = b; asker = mine; status = z }) in
             let stays : changed r l x.change ≡ r = ap (λ (o : Option Line). changed_by r o x) (sym e) ∙ refused_keeps list r c request refused in
             record {
               slots = ap (λ (s : List ℕ). slots_of s line) stays;
               uses = ap (λ (s : List ℕ). uses_of s line) stays;
-              served = ap (λ (l : List ℕ). get_or l line.0 0) (count_refused_lem c (some l) x.status (ne_eqb (status_number x.status) 0 refused));
+              served = ap (λ (l : List ℕ). get_or l line.0 0) (count_refused_lem c (Some l) x.status (ne_eqb (status_number x.status) 0 refused));
             }
       ]
 
   -- one that the application asks moves it by its result
-  module _ (legal : legal_start request ≡ true) (small : oversized request ≡ false) (asker : application_of r q ≡ some line) where
+  module _ (legal : legal_start request ≡ true) (small : oversized request ≡ false) (asker : application_of r q ≡ Some line) where
     pub asked_registry : after.registry ≡ changed r line x.change
     unfolding verdict_of changed_by
     asked_registry =
         ap (λ (v : Verdict (List ℕ) Counts (List ℕ)). v.registry) (late_verdict list r c request legal small) ∙ ap (λ (o : Option Line). changed_by r o x) asker
 
-    asked_counts : after.counts ≡ count c (some line) x.status
+    asked_counts : after.counts ≡ count c (Some line) x.status
     unfolding verdict_of
     asked_counts =
         ap (λ (v : Verdict (List ℕ) Counts (List ℕ)). v.counts) (late_verdict list r c request legal small)

@@ -1,6 +1,5 @@
 -- Document 01's tally: what an answered request counts ("A whole stream under the rules").
-use Rattle.std.specs.Prelude.{ℕ, suc, ◌+◌, List, [], ◌∷◌, get_or, set, replicate, eqb}
-use Rattle.std.proofs.Math.Option.{Option, none, some}
+use Rattle.std.specs.Prelude.{ℕ, suc, ◌+◌, List, [], ◌∷◌, get_or, set, replicate, eqb, Option, Some, None}
 use Rattle.wire.specs.Choice.{when◌then◌else◌}
 use Rattle.registry.specs.Registry.{line_count}
 use Rattle.registry.specs.declared.Line.{Line}
@@ -41,8 +40,8 @@ count_refused c status = record {
 
 -- for the roster line of the auth name, or with auth type 0
 unfoldable pub count_served : Counts → Option Line → Counts
-count_served c none = record { served = c.served; unauthenticated = suc c.unauthenticated; refused = c.refused }
-count_served c (some line) = record { served = increment c.served line.0; unauthenticated = c.unauthenticated; refused = c.refused }
+count_served c None = record { served = c.served; unauthenticated = suc c.unauthenticated; refused = c.refused }
+count_served c (Some line) = record { served = increment c.served line.0; unauthenticated = c.unauthenticated; refused = c.refused }
 
 -- status 0 is one more served, any other one more refused with that status
 unfoldable pub count : Counts → Option Line → Status → Counts

@@ -1,7 +1,6 @@
 -- "Order of judgement on one request".
-use Rattle.std.specs.Prelude.{ℕ, Bool, ◌&&◌, not, List, [], ◌∷◌, ◌++◌, length, ltb, eqb}
-use Rattle.std.proofs.Math.Option.{Option, none, some}
-use Rattle.wire.specs.Choice.{when◌then◌else◌, first_of, is_some}
+use Rattle.std.specs.Prelude.{ℕ, Bool, ◌&&◌, not, List, [], ◌∷◌, ◌++◌, length, ltb, eqb, Option, Some, None, is_some}
+use Rattle.wire.specs.Choice.{when◌then◌else◌, first_of}
 use Rattle.wire.specs.Lists.{one_of}
 use Rattle.wire.specs.Request.{content_length, Request, request_of}
 use Rattle.wire.specs.Response.{response_bytes}
@@ -39,7 +38,7 @@ oversized_status header = when ltb content_most (content_length header) then Bod
 
 -- the application that the auth bytes name; with auth type 0 there is none
 unfoldable pub application_of : (registry : List ℕ) → Request → Option Line
-application_of registry q = when eqb q.auth_type 0 then none else application_named registry q.auth
+application_of registry q = when eqb q.auth_type 0 then None else application_named registry q.auth
 
 unfoldable pub refusals : (registry : List ℕ) → Request → List (Bool × Status)
 refusals registry q =
@@ -57,21 +56,21 @@ refusals registry q =
 
 -- the slots of the application that asks, if there is one
 unfoldable pub askers_slots : (registry : List ℕ) → Option Line → List Entry
-askers_slots registry none = []
-askers_slots registry (some line) = slots_of registry line
+askers_slots registry None = []
+askers_slots registry (Some line) = slots_of registry line
 
 -- the content type says how the body is read
 unfoldable pub result_of : (list registry : List ℕ) → Request → Result
 result_of list registry q = elim (first_of (refusals registry q)) [
-  | some status ↦ refuse status
-  | none ↦ operated (format_of (format_for q.content_type)) q.opcode q.body (askers_slots registry (application_of registry q)) (keys_in list)
+  | Some status ↦ refuse status
+  | None ↦ operated (format_of (format_for q.content_type)) q.opcode q.body (askers_slots registry (application_of registry q)) (keys_in list)
 ]
 
 -- ---- the judgement: a response, the registry and the counts after a request; the list of keys that we ship is a fixed input
 
 unfoldable pub changed_by : (registry : List ℕ) → Option Line → Result → List ℕ
-changed_by registry none r = registry
-changed_by registry (some line) r = changed registry line r.change
+changed_by registry None r = registry
+changed_by registry (Some line) r = changed registry line r.change
 
 -- the accept type says how the response's body is written
 abbrev pub answer_bytes : Request → Result → List ℕ

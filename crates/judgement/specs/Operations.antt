@@ -1,7 +1,6 @@
 -- "Operations and their fields"; document 02, "Checking signatures", "Keys we ship", "Use per key", "No more odd key lengths": what
 -- each operation does with the slots of the application that asks and with the keys that we ship, and what it answers.
-use Rattle.std.specs.Prelude.{ℕ, Bool, not, List, [], ◌∷◌, length, ltb, eqb}
-use Rattle.std.proofs.Math.Option.{none, some}
+use Rattle.std.specs.Prelude.{ℕ, Bool, not, List, [], ◌∷◌, length, ltb, eqb, Some, None}
 use Rattle.wire.specs.Choice.{when◌then◌else◌}
 use Rattle.wire.specs.Lists.{every}
 use Rattle.keys.specs.Names.{key_name_most, legal_name}
@@ -12,7 +11,6 @@ use Rattle.messages.specs.Operations.{Operation, ping, list_providers, list_opco
 pub use Rattle.messages.specs.Operations.{hash_size}
 use Rattle.registry.specs.Slots.{Entry}
 use Rattle.registry.specs.Registry.{slot_named, Change, unchanged, fill, clear, add_use}
-use Rattle.registry.specs.declared.Found.TheVariants.{At, Nothing}
 use Rattle.shipped.specs.Shipped.{ListedKey}
 use Rattle.lookup.specs.Lookup.{Source, own, listed, key_of, key_named}
 use Rattle.rsa.specs.Signature.{verification}
@@ -50,10 +48,10 @@ within_bounds key = every (legal_name key_name_most key.name ∷ legal_data key.
 -- a name that is held or listed 1139, all slots in use 1142; the lowest-numbered free slot, which has the empty name, is filled
 unfoldable pub place_key : Key → (slots : List Entry) (keys : List ListedKey) → Result
 place_key key slots keys = elim (key_named key.name slots keys) [
-  | some source ↦ refuse PsaErrorAlreadyExists
-  | none ↦ elim (slot_named [] slots) [
-    | Nothing ↦ refuse PsaErrorInsufficientStorage
-    | At slot ↦ success nothing (fill slot key)
+  | Some source ↦ refuse PsaErrorAlreadyExists
+  | None ↦ elim (slot_named [] slots) [
+    | None ↦ refuse PsaErrorInsufficientStorage
+    | Some slot ↦ success nothing (fill slot key)
   ]
 ]
 
@@ -77,8 +75,8 @@ unfoldable pub perform_destroy : (name : List ℕ) (slots : List Entry) (keys : 
 perform_destroy name slots keys =
     when not (legal_name key_name_most name) then refuse PsaErrorInvalidArgument
     else elim (key_named name slots keys) [
-      | none ↦ refuse PsaErrorDoesNotExist
-      | some source ↦ destroy_of source
+      | None ↦ refuse PsaErrorDoesNotExist
+      | Some source ↦ destroy_of source
     ]
 
 -- a request that is served is a use of its key, and counts on the slot of an own one; those that we ship have no count
@@ -95,8 +93,8 @@ unfoldable pub perform_export : (name : List ℕ) (slots : List Entry) (keys : L
 perform_export name slots keys =
     when not (legal_name key_name_most name) then refuse PsaErrorInvalidArgument
     else elim (key_named name slots keys) [
-      | none ↦ refuse PsaErrorDoesNotExist
-      | some source ↦ counted source (export_of (key_of source))
+      | None ↦ refuse PsaErrorDoesNotExist
+      | Some source ↦ counted source (export_of (key_of source))
     ]
 
 -- a good signature is answered with no output; a key that can't be used 1134, a signature that isn't the key's 1149
@@ -119,8 +117,8 @@ unfoldable pub perform_verify : (name hash signature : List ℕ) (slots : List E
 perform_verify name hash signature slots keys =
     when not (legal_name key_name_most name) then refuse PsaErrorInvalidArgument
     else elim (key_named name slots keys) [
-      | none ↦ refuse PsaErrorDoesNotExist
-      | some source ↦ counted source (verify_with hash signature (key_of source))
+      | None ↦ refuse PsaErrorDoesNotExist
+      | Some source ↦ counted source (verify_with hash signature (key_of source))
     ]
 
 unfoldable pub perform : Operation → (slots : List Entry) (keys : List ListedKey) → Result

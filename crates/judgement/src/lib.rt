@@ -4,7 +4,7 @@
 
 use lookup::Place;
 use messages::ask::KeyPlaces;
-use registry::{Line, Slot};
+use registry::Slot;
 
 pub mod operations;
 pub mod order;
@@ -12,55 +12,35 @@ pub mod signature;
 pub mod statuses;
 
 // A response's status: document 01's table, ascending by number.
-#[derive(Clone, Copy)]
+#[derive(Clone, Copy, PartialEq, Eq)]
 pub enum Status {
-    Success,
-    WrongProviderId,
-    ContentTypeNotSupported,
-    AcceptTypeNotSupported,
-    WireProtocolVersionNotSupported,
-    ProviderDoesNotExist,
-    DeserializingBodyFailed,
-    OpcodeDoesNotExist,
-    AuthenticationError,
-    AuthenticatorDoesNotExist,
-    InvalidHeader,
-    NotAuthenticated,
-    BodySizeExceedsLimit,
-    PsaErrorNotPermitted,
-    PsaErrorNotSupported,
-    PsaErrorInvalidArgument,
-    PsaErrorAlreadyExists,
-    PsaErrorDoesNotExist,
-    PsaErrorInsufficientStorage,
-    PsaErrorInvalidSignature,
+    Success = 0,
+    WrongProviderId = 1,
+    ContentTypeNotSupported = 2,
+    AcceptTypeNotSupported = 3,
+    WireProtocolVersionNotSupported = 4,
+    ProviderDoesNotExist = 6,
+    DeserializingBodyFailed = 7,
+    OpcodeDoesNotExist = 9,
+    AuthenticationError = 11,
+    AuthenticatorDoesNotExist = 12,
+    InvalidHeader = 17,
+    NotAuthenticated = 19,
+    BodySizeExceedsLimit = 20,
+    PsaErrorNotPermitted = 1133,
+    PsaErrorNotSupported = 1134,
+    PsaErrorInvalidArgument = 1135,
+    PsaErrorAlreadyExists = 1139,
+    PsaErrorDoesNotExist = 1140,
+    PsaErrorInsufficientStorage = 1142,
+    PsaErrorInvalidSignature = 1149,
 }
 
 // All statuses but Success; each has a counter of the requests refused with it.
 pub const REFUSED_STATUSES: usize = 19;
 
-// What the tests of a header find.
-#[derive(Clone, Copy)]
-pub enum Checked {
-    Passed,
-    Refused(Status),
-}
-
-// Who sent a request: nobody that is named (auth type 0), or an application.
-#[derive(Clone, Copy)]
-pub enum Asker {
-    Nobody,
-    Named(Line),
-}
-
-// What the tests of the auth bytes find.
-#[derive(Clone, Copy)]
-pub enum Auth {
-    Refused,
-    Accepted(Asker),
-}
-
-// What a response's body is.
+// What a response's body is. Kept: Nothing and, of Edit, Stays, and no Option around them, since the definitions' own Output and
+// Change have these cases, and every match goes over all of them.
 #[derive(Clone, Copy)]
 pub enum Output {
     Nothing,
@@ -81,7 +61,7 @@ pub enum Edit {
     Uses(Slot),
 }
 
-// What an operation comes to.
+// What an operation comes to. Kept: no Result, since a refusal with status 7 has an output too.
 #[derive(Clone, Copy)]
 pub struct Decision {
     pub status: Status,

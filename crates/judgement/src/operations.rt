@@ -1,15 +1,15 @@
 // The operations ("Operations and their fields"): what each comes to. Nothing is changed or written here.
+// Kept: registry, list and line are three parameters, as the public functions of lookup take them.
 ghost use Rattle.std.specs.Prelude.{true, List, ◌≡◌, ℕ, ◌^◌, ◌<◌, length};
 ghost use Rattle.messages.specs.Formats.{format_of};
-ghost use Rattle.messages.specs.Placed.{key_in};
+ghost use Rattle.messages.specs.Placed.{key_in, operation_at, OperationWithin};
 ghost use Rattle.registry.specs.Registry.{line_count, registry_size, slots_of};
 ghost use Rattle.registry.specs.WellFormed.{well_formed_registry};
 ghost use Rattle.shipped.specs.Shipped.{keys_in, well_formed_list};
-ghost use Rattle.judgement.specs.Operations.{operated, perform_list_opcodes, perform_import, perform_destroy, perform_export, within_bounds};
+ghost use Rattle.judgement.specs.Operations.{operated, perform, perform_list_opcodes, perform_import, perform_destroy, perform_export, within_bounds};
 ghost use Rattle.judgement.specs.code.Decided.{refused_with, broken_at, counted_at, KeyWithin, Decided, DecidedAnywhere};
 
 use crate::signature::verify;
-use crate::statuses::status_number;
 use crate::{Decision, Edit, Output, Status};
 use keys::KEY_NAME_MOST;
 use keys::bits::are_import_bits;
@@ -20,8 +20,8 @@ use lookup::find::find_key;
 use lookup::key::is_exportable;
 use messages::ask::{Asked, KeyPlaces, read_operation};
 use messages::format::BodyFormat;
+use registry::Line;
 use registry::find::find_slot;
-use registry::{Found, Line};
 
 // A request that is refused: no output, and nothing changes.
 pub fn refused(status: Status) -> Decision
@@ -61,19 +61,15 @@ pub fn served(output: Output) -> Decision
 pub fn counted(place: Place, d: Decision) -> Decision
     ensures { result ≡ counted_at place d }
 {
-    let status = d.status;
-    if status_number(status) != 0 {
+    if d.status != Status::Success {
         return d;
     }
-    let output = d.output;
     match place {
         Place::Own(slot) => Decision {
-            status,
-            output,
             edit: Edit::Uses(slot),
+            ..d
         },
-        Place::Listed(_) => d,
-        Place::Nothing => d,
+        Place::Listed(_) | Place::Nothing => d,
     }
 }
 
@@ -91,14 +87,7 @@ fn is_within_bounds(body: &[u8], key: KeyPlaces) -> bool
     requires { KeyWithin (length body.now) key }
     ensures { result ≡ within_bounds (key_in body.now key) }
 {
-    let name = key.name;
-    let bytes = key.bytes;
-    let start = name.start;
-    let end = start + name.len;
-    if !is_legal(&body[start..end], KEY_NAME_MOST) {
-        return false;
-    }
-    is_legal_data(bytes.len)
+    is_legal(key.name.of(body), KEY_NAME_MOST) && is_legal_data(key.bytes.len)
 }
 
 // Import, of a key in its body.
@@ -112,16 +101,11 @@ fn import(registry: &[u8], list: &[u8], line: Line, body: &[u8], key: KeyPlaces)
     if !are_import_bits(key.bits as usize) {
         return refused(Status::PsaErrorNotSupported);
     }
-    let name = key.name;
-    let start = name.start;
-    let end = start + name.len;
-    let same = find_key(registry, list, line, &body[start..end]);
-    let Place::Nothing = same else {
+    let Place::Nothing = find_key(registry, list, line, key.name.of(body)) else {
         return refused(Status::PsaErrorAlreadyExists);
     };
     // The empty name: a free slot.
-    let empty = find_slot(registry, line, &body[..0]);
-    let Found::At(slot) = empty else {
+    let Some(slot) = find_slot(registry, line, &[]) else {
         return refused(Status::PsaErrorInsufficientStorage);
     };
     Decision {
@@ -169,7 +153,36 @@ fn export(registry: &[u8], list: &[u8], line: Line, name: &[u8]) -> Decision
     counted(place, served(Output::Data(place)))
 }
 
-// The operation that an opcode and its body ask for, for the application of a line; no core operation looks at the line.
+// What an operation that was read from the body comes to, for the application of a line; no core operation looks at the line.
+fn perform<'a>(
+    asked: Asked,
+    body: &[u8],
+    registry: &'a [u8],
+    list: &'a [u8],
+    line: Line,
+) -> Decision
+    requires { (well_formed_registry registry.now ≡ true) × (line.0 < line_count) × (well_formed_list list.now ≡ true) × OperationWithin (length body.now) asked }
+    ensures { Decided (slots_of registry.now line) list.now body.now (perform (operation_at body.now asked) (slots_of registry.now line) (keys_in list.now)) result }
+{
+    match asked {
+        Asked::Ping => served(Output::Version),
+        Asked::ListProviders => served(Output::Providers),
+        Asked::ListOpcodes(provider) => list_opcodes(provider),
+        Asked::ImportKey(key) => import(registry, list, line, body, key),
+        Asked::DestroyKey(name) => destroy(registry, list, line, name.of(body)),
+        Asked::ExportPublicKey(name) => export(registry, list, line, name.of(body)),
+        Asked::VerifySignature(name, hash, signature) => verify(
+            registry,
+            list,
+            line,
+            name.of(body),
+            hash.of(body),
+            signature.of(body),
+        ),
+    }
+}
+
+// The operation that an opcode and its body ask for.
 pub fn perform_operation<'a>(
     format: BodyFormat,
     opcode: u16,
@@ -182,29 +195,7 @@ pub fn perform_operation<'a>(
     ensures { Decided (slots_of registry.now line) list.now body.now (operated (format_of format) opcode body.now (slots_of registry.now line) (keys_in list.now)) result }
 {
     match read_operation(format, opcode, body) {
-        Asked::Ping => served(Output::Version),
-        Asked::ListProviders => served(Output::Providers),
-        Asked::ListOpcodes(provider) => list_opcodes(provider),
-        Asked::ImportKey(key) => import(registry, list, line, body, key),
-        Asked::DestroyKey(name) => {
-            let start = name.start;
-            let end = start + name.len;
-            destroy(registry, list, line, &body[start..end])
-        }
-        Asked::ExportPublicKey(name) => {
-            let start = name.start;
-            let end = start + name.len;
-            export(registry, list, line, &body[start..end])
-        }
-        Asked::VerifySignature(name, hash, signature) => {
-            let a = name.start;
-            let b = a + name.len;
-            let c = hash.start;
-            let d = c + hash.len;
-            let e = signature.start;
-            let f = e + signature.len;
-            verify(registry, list, line, &body[a..b], &body[c..d], &body[e..f])
-        }
-        Asked::Unreadable(at) => broken(at as u32),
+        Ok(asked) => perform(asked, body, registry, list, line),
+        Err(at) => broken(at as u32),
     }
 }

@@ -49,9 +49,7 @@ pub fn verify_with(
     if !are_import_bits(bits) {
         return refused(Status::PsaErrorNotSupported);
     }
-    let verification = rsa::verify::verify(key, bits, hash, signature);
-    let outcome = verification.outcome;
-    judge_outcome(outcome)
+    judge_outcome(rsa::verify::verify(key, bits, hash, signature).outcome)
 }
 
 // Verify, of a name, a hash and a signature in its body.
@@ -76,6 +74,5 @@ pub fn verify<'a>(
     let allowed = is_verifiable(registry, list, line, place);
     let bits = key_bits(registry, list, line, place);
     let key = key_bytes(registry, list, line, place);
-    let d = verify_with(allowed, key, bits, hash, signature);
-    counted(place, d)
+    counted(place, verify_with(allowed, key, bits, hash, signature))
 }

@@ -1,11 +1,12 @@
 -- Laws of legal names.
-use mathlib.Core.Path.{◌≡◌}
-use mathlib.Core.Bool.{Bool, true}
+use mathlib.Core.Path.{◌≡◌, sym, ◌∙◌}
+use mathlib.Core.Bool.{Bool, true, ◌&&◌, and-true, and_assoc}
 use mathlib.Core.List.{List, [], ◌∷◌}
 use Prim.Native.Nat.{ℕ, ◌≤◌}
 use borrow.Author.Tests.{leb-true}
 use lib.ListN.{length}
 use lib.Dec.{leb}
+use Rattle.std.specs.List.{fold}
 use Rattle.wire.specs.Lists.{all}
 use Rattle.wire.proofs.TestLaws.{every_at}
 use Rattle.keys.specs.Names.{is_name_byte, legal_name}
@@ -21,3 +22,8 @@ module _ (most : ℕ) (name : List ℕ) (legal : legal_name most name ≡ true) 
   pub legal_short : length name ≤ most
   unfolding legal_name tests
   legal_short = leb-true _ _ (every_at tests 1 legal)
+
+-- a test joined over all bytes
+pub and_all : (p : ℕ → Bool) (t : Bool) (l : List ℕ) → fold (λ (t : Bool) (b : ℕ). t && p b) t l ≡ t && all p l
+and_all p t [] = sym (and-true t)
+and_all p t (b ∷ l) = and_all p (t && p b) l ∙ and_assoc t (p b) (all p l)

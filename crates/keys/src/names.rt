@@ -1,43 +1,20 @@
 // Which names are legal.
-ghost use Rattle.std.specs.Prelude.{◌≡◌, eqb};
+ghost use Rattle.std.specs.Prelude.{◌≡◌};
 ghost use Rattle.wire.specs.Lists.{all};
 ghost use Rattle.keys.specs.Names.{is_name_byte, legal_name};
 
-// 0 for a byte that may stand in a name, and 1 for any other.
-fn name_byte_fault(b: u8) -> u8
-    ensures { eqb result 0 ≡ is_name_byte b }
-{
-    if b < 0x21 {
-        return 1;
-    }
-    if 0x7E < b {
-        return 1;
-    }
-    0
-}
-
-// Whether all bytes may stand in a name. The loop is not left early, so that it runs on vectors.
+// Whether all bytes may stand in a name. The fold is not left early, as `all` would be, so that it runs on vectors.
 fn are_name_bytes(s: &[u8]) -> bool
     ensures { result ≡ all is_name_byte s.now }
 {
-    let mut joined: u8 = 0;
-    let mut i = 0;
-    while i < s.len() {
-        joined = joined | name_byte_fault(s[i]);
-        i += 1;
-    }
-    joined == 0
+    s.iter()
+        .fold(true, |legal, byte| legal & byte.is_ascii_graphic())
 }
 
 // Whether the bytes are a name of at most `most`.
+#[tactic(auto, unfolding(crate::specs::Names::legal_name))]
 pub fn is_legal(s: &[u8], most: usize) -> bool
     ensures { result ≡ legal_name most s.now }
 {
-    if s.len() == 0 {
-        return false;
-    }
-    if most < s.len() {
-        return false;
-    }
-    are_name_bytes(s)
+    (1..=most).contains(&s.len()) && are_name_bytes(s)
 }

@@ -1,11 +1,9 @@
 -- Which key a name stands for: the application's own, else one that we ship (document 02, "Keys we ship").
-use Rattle.std.specs.Prelude.{ℕ, true, List, get_or}
-use Rattle.std.proofs.Math.Option.{Option, none, some}
+use Rattle.std.specs.Prelude.{ℕ, true, List, get_or, Option, Some, None}
 use Rattle.keys.specs.Key.{Key}
 use Rattle.registry.specs.Slots.{Entry, free, held}
 use Rattle.registry.specs.Registry.{slot_named}
 use Rattle.registry.specs.declared.Slot.{Slot}
-use Rattle.registry.specs.declared.Found.TheVariants.{At, Nothing}
 use Rattle.rsa_key.specs.Key.{modulus_bits}
 use Rattle.shipped.specs.Shipped.{ListedKey, listed_named}
 
@@ -30,16 +28,16 @@ key_of (listed key) = key
 
 -- a slot found by a legal name is held; the empty name finds a free one, which holds no key
 unfoldable pub own_in : Slot → Entry → Option Source
-own_in slot free = none
-own_in slot (held key) = some (own slot key)
+own_in slot free = None
+own_in slot (held key) = Some (own slot key)
 
 unfoldable pub listed_in : Option ListedKey → Option Source
-listed_in none = none
-listed_in (some key) = some (listed (shipped_key key))
+listed_in None = None
+listed_in (Some key) = Some (listed (shipped_key key))
 
 -- among the application's own first, then in the list
 unfoldable pub key_named : (name : List ℕ) (slots : List Entry) (keys : List ListedKey) → Option Source
 key_named name slots keys = elim (slot_named name slots) [
-  | At slot ↦ own_in slot (get_or slots slot.0 free)
-  | Nothing ↦ listed_in (listed_named name keys)
+  | Some slot ↦ own_in slot (get_or slots slot.0 free)
+  | None ↦ listed_in (listed_named name keys)
 ]

@@ -5,9 +5,8 @@ ghost use Rattle.shipped.specs.Shipped.{well_formed_list};
 ghost use Rattle.lookup.specs.code.Places.{KeyAt};
 
 use crate::Place;
+use registry::Line;
 use registry::find::find_slot;
-use registry::{Found, Line};
-use shipped::Listed;
 use shipped::find::find_listed;
 
 // Where the key with the name lies. An own key is found whatever it allows; the empty name is that of a free slot.
@@ -15,13 +14,11 @@ pub fn find_key(registry: &[u8], list: &[u8], line: Line, name: &[u8]) -> Place
     requires { (length registry.now ≡ registry_size) × (line.0 < line_count) × (well_formed_list list.now ≡ true) }
     ensures { KeyAt registry.now list.now line name.now result }
 {
-    let found = find_slot(registry, line, name);
-    if let Found::At(slot) = found {
+    if let Some(slot) = find_slot(registry, line, name) {
         return Place::Own(slot);
     }
-    let listed = find_listed(list, name);
-    if let Listed::At(span) = listed {
-        return Place::Listed(span);
+    match find_listed(list, name) {
+        Some(span) => Place::Listed(span),
+        None => Place::Nothing,
     }
-    Place::Nothing
 }

@@ -1,25 +1,15 @@
 // What is said of a key, read where it lies ("Keys we ship").
-ghost use Rattle.std.specs.Prelude.{◌≡◌, true, ◌+◌, ◌≤◌, ◌<◌, length};
+#![tactic(auto, using(crate::proofs::LookupLaws::of_entries), unfolding(crate::specs::Lookup::shipped_key, crate::specs::code::Places::Within, crate::specs::code::Places::key_held, crate::specs::code::Places::key_at))]
+
+ghost use Rattle.std.specs.Prelude.{◌≡◌, true, ◌<◌};
 ghost use Rattle.registry.specs.Registry.{line_count};
 ghost use Rattle.registry.specs.WellFormed.{well_formed_registry};
-ghost use Rattle.shipped.specs.code.Pairs.{part_at};
 ghost use Rattle.lookup.specs.code.Places.{Within, key_at};
 
 use crate::Place;
 use registry::Line;
 use registry::key::key_data;
 use rsa_key::key::modulus_bits;
-use shipped::Span;
-
-// The bytes of the list at a place.
-fn listed_bytes(list: &[u8], span: Span) -> &[u8]
-    requires { span.start + span.len ≤ length list.now }
-    ensures { result.now ≡ part_at list.now span }
-{
-    let a = span.start;
-    let e = a + span.len;
-    &list[a..e]
-}
 
 // A key's data as it lies in whichever of the two holds it.
 pub fn key_bytes<'a>(registry: &'a [u8], list: &'a [u8], line: Line, place: Place) -> &'a [u8]
@@ -28,8 +18,8 @@ pub fn key_bytes<'a>(registry: &'a [u8], list: &'a [u8], line: Line, place: Plac
 {
     match place {
         Place::Own(slot) => key_data(registry, line, slot),
-        Place::Listed(span) => listed_bytes(list, span),
-        Place::Nothing => &list[0..0],
+        Place::Listed(span) => span.of(list),
+        Place::Nothing => &list[..0],
     }
 }
 
@@ -40,7 +30,7 @@ pub fn key_bits(registry: &[u8], list: &[u8], line: Line, place: Place) -> usize
 {
     match place {
         Place::Own(slot) => registry::key::key_bits(registry, line, slot),
-        Place::Listed(span) => modulus_bits(listed_bytes(list, span)),
+        Place::Listed(span) => modulus_bits(span.of(list)),
         Place::Nothing => 0,
     }
 }

@@ -2,12 +2,13 @@
 #![tactic(auto)]
 
 use registry::Slot;
-use shipped::Span;
+use wire::span::Span;
 
 pub mod find;
 pub mod key;
 
-// Where a key lies: in one of the application's slots, or in the list.
+// Where a key lies: in one of the application's slots, or in the list. Kept with Nothing among the places: what `key` says of none
+// (no bytes, 0 bits, no use allowed) is promised too, so each of its functions would take an Option of a place.
 #[derive(Clone, Copy)]
 pub enum Place {
     Own(Slot),

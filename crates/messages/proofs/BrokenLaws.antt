@@ -1,10 +1,10 @@
 -- Where a body broke: reading comes to that place by the body's own fields, and the body cut there reads well.
+use Rattle.std.proofs.Common.{Option, Some, None, option_and_then}
 use Prim.Native.Nat.{ℕ, zero, suc, ◌+◌, ◌-◌, ◌≤◌, ◌<◌}
 use native.Mathlib.Omega.{arith}
 use native.Mathlib.Decide.{dec_lt}
 use mathlib.Core.Path.{◌≡◌, refl, sym, ap, subst, ◌∙◌}
 use mathlib.Core.Bool.{Bool, true, false, true≢false}
-use mathlib.Core.Option.{Option, none, some, bind}
 use mathlib.Core.List.{List, ◌++◌, map}
 use lib.ListN.{length, take, drop, set, take-append-drop, length-drop}
 use lib.Seq.{length-take-le, drop-append-le}
@@ -21,9 +21,7 @@ use Rattle.records.proofs.RecordLaws.{whole_fit, room_front, size_append, record
 use Rattle.protobuf.specs.Field as proto
 use Rattle.protobuf.specs.Group.{depth_most, group_at}
 use Rattle.protobuf.specs.declared.field.Field.{Field as ProtoField}
-use Rattle.protobuf.specs.declared.field.Field.TheVariants.{Number, Span, Fixed, GroupStart, GroupEnd, Unreadable}
-use Rattle.protobuf.specs.declared.group.Group.{Group}
-use Rattle.protobuf.specs.declared.group.Group.TheVariants.{Skipped, Unreadable as noGroup}
+use Rattle.protobuf.specs.declared.field.Field.TheVariants.{Number, Span, Fixed, GroupStart, GroupEnd}
 use Rattle.protobuf.proofs.FieldLaws as protoLaws
 use Rattle.protobuf.proofs.GroupLaws.{GroupAhead, group_ahead}
 use Rattle.protobuf.proofs.CutLaws as cutLaws
@@ -204,12 +202,12 @@ EndsAt next (skipped p) = p ≡ next
 EndsAt next unreadable = Unit {0}
 
 with_ends : (n next : ℕ) (o : Option Value) → EndsAt next (field_with n next o)
-with_ends n next none = tt
-with_ends n next (some value) = refl
+with_ends n next None = tt
+with_ends n next (Some value) = refl
 
 listed_ends : (schema : Schema) (n : ℕ) (valueAs : Kind → Option Value) (next : ℕ) → EndsAt next (listed schema n valueAs next)
 unfolding listed
-listed_ends schema n valueAs next = with_ends n next (bind (kind_at schema n) valueAs)
+listed_ends schema n valueAs next = with_ends n next (option_and_then valueAs (kind_at schema n))
 
 same_field : (k next : ℕ) (f c : Field) → EndsAt next f → (next ≤ k → c ≡ f) → FieldKept k f c
 same_field k next (field n value p) c e h = λ l. h (rw e at l)
@@ -227,24 +225,24 @@ module _ (schema : Schema) (body : List ℕ) (k at : ℕ) (short : k ≤ length 
   choice_ends n valueAs next true = listed_ends schema n valueAs next
   choice_ends n valueAs next false = refl
 
-  by_group : (n next : ℕ) (g : Group) → GroupAhead (length body) next g → cutLaws.GroupKept k g (group_at depth_most cut n next)
-      → (next ≤ k → proto.field_at cut at ≡ GroupStart n next) → FieldKept k (of_group g) (field_of schema cut (proto.field_at cut at))
-  by_group n next (Skipped p) a h e = λ l. ap (field_of schema cut) (e (omega (arith, a.behind))) ∙ ap of_group (h l)
-  by_group n next noGroup a h e = tt
+  by_group : (n next : ℕ) (g : Option ℕ) → GroupAhead (length body) next g → cutLaws.GroupKept k g (group_at depth_most cut n next)
+      → (next ≤ k → proto.field_at cut at ≡ Some (GroupStart n next)) → FieldKept k (of_group g) (field_of schema cut (proto.field_at cut at))
+  by_group n next (Some p) a h e = λ l. ap (field_of schema cut) (e (omega (arith, a.behind))) ∙ ap of_group (h l)
+  by_group n next None a h e = tt
 
-  by_field : (f : ProtoField) → cutLaws.FieldKept k f (proto.field_at cut at) → FieldKept k (field_of schema body f) (field_of schema cut (proto.field_at cut at))
-  by_field (Number n v next) h =
+  by_field : (f : Option ProtoField) → cutLaws.FieldKept k f (proto.field_at cut at) → FieldKept k (field_of schema body f) (field_of schema cut (proto.field_at cut at))
+  by_field (Some (Number n v next)) h =
       same_field k next _ _ (choice_ends n (of_varint v) next (is_of_wire 0 (kind_at schema n))) (λ l. ap (field_of schema cut) (h l))
-  by_field (Span n start len next) h =
+  by_field (Some (Span n start len next)) h =
       same_field k next _ _ (choice_ends n (of_span (take len (drop start body))) next (is_of_wire 2 (kind_at schema n)))
       (λ l.
       let inside : start + len ≤ length cut = (subst (protoLaws.FieldAhead (length cut) at) (h l) (protoLaws.field_ahead cut at)).1 in
       let part : take len (drop start cut) ≡ take len (drop start body) = part_of_part len start k body (omega (arith, length-take-le k body short)) in
       ap (field_of schema cut) (h l) ∙ ap (λ (x : List ℕ). when is_of_wire 2 (kind_at schema n) then listed schema n (of_span x) next else skipped next) part)
-  by_field (Fixed n next) h = λ l. ap (field_of schema cut) (h l)
-  by_field (GroupStart n next) h = by_group n next (group_at depth_most body n next) (group_ahead body depth_most n next) (cutLaws.group_kept body k short depth_most n next) h
-  by_field (GroupEnd n next) h = tt
-  by_field Unreadable h = tt
+  by_field (Some (Fixed n next)) h = λ l. ap (field_of schema cut) (h l)
+  by_field (Some (GroupStart n next)) h = by_group n next (group_at depth_most body n next) (group_ahead body depth_most n next) (cutLaws.group_kept body k short depth_most n next) h
+  by_field (Some (GroupEnd n next)) h = tt
+  by_field None h = tt
 
 protobuf_cuttable : Cuttable protobuf
 protobuf_cuttable schema body k at short = by_field schema body k at short (proto.field_at body at) (cutLaws.field_kept body k short at)

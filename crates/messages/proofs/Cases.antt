@@ -2,7 +2,6 @@
 use Prim.Native.Nat.{ℕ}
 use mathlib.Core.Path.{◌≡◌, refl}
 use mathlib.Core.Bool.{true, false}
-use mathlib.Core.Option.{bind}
 use mathlib.Core.List.{List, [], ◌∷◌, ◌++◌, flat_map}
 use lib.ListN.{replicate}
 use Rattle.wire.specs.Numbers.{little_endian, little_endian_of, field}
@@ -35,7 +34,7 @@ pub cases :
     × (read_message protobuf (uint32s ∷ []) (0x0A ∷ 0x00 ∷ 0x0A ∷ 0x01 ∷ 0x80 ∷ 0x0A ∷ 0x02 ∷ 0x00 ∷ 0x01 ∷ []) ≡ broken 2)
     × (read_message protobuf (uint32s ∷ []) (0x08 ∷ 0x01 ∷ []) ≡ read (numbers [] ∷ []))
     × (first_entries (0x05 ∷ 0x80 ∷ []) ≡ 5 ∷ [])  -- so that this is no empty list's place
-unfolding operation_body output_bytes message_bytes read_message listed bind packed_of first_entries scan_from scan_at varint_of number_at fixed_at span_at content_at field_at varint_within varint number_field bytes_field packed_field flat_map
+unfolding operation_body output_bytes message_bytes read_message listed packed_of first_entries scan_from scan_at varint_of number_at fixed_at span_at content_at field_at varint_within varint number_field bytes_field packed_field flat_map
 cases = (refl, refl, refl, refl, refl, refl, refl, refl, refl, refl)
 
 -- ---- fields that are skipped, in a body with bytes as its one field
@@ -50,7 +49,7 @@ named name = read (octets name ∷ [])
 abbrev groups : (depth : ℕ) → List ℕ
 groups depth = replicate depth 0x0B ++ replicate depth 0x0C
 
-pub skipping-cases :
+pub skipping_cases :
     (name_read (0x10 ∷ 0x05 ∷ 0x0A ∷ 0x01 ∷ 0x61 ∷ 0x1D ∷ 0x00 ∷ 0x00 ∷ 0x00 ∷ 0x00 ∷ []) ≡ named (0x61 ∷ []))  -- unlisted numbers
     × (name_read (0x0A ∷ 0x01 ∷ 0x61 ∷ 0x08 ∷ 0x07 ∷ []) ≡ named (0x61 ∷ []))  -- another wire type: the good field stands
     × (name_read (0x0A ∷ 0x01 ∷ 0x61 ∷ 0x0B ∷ 0x0A ∷ 0x01 ∷ 0x62 ∷ 0x0C ∷ []) ≡ named (0x61 ∷ []))  -- a listed number in a group
@@ -62,12 +61,12 @@ pub skipping-cases :
     × (name_read (0x16 ∷ []) ≡ broken 0)  -- wire type 6
     × (name_read (0x0B ∷ 0x17 ∷ 0x0C ∷ []) ≡ broken 0)  -- wire type 7
     × (name_read (0x0B ∷ 0x10 ∷ 0x05 ∷ []) ≡ broken 0)  -- a group that is cut
-unfolding read_message listed bind scan_from scan_at varint_of number_at fixed_at span_at content_at field_at group_at
-skipping-cases = (refl, refl, refl, refl, refl, refl, refl, refl, refl, refl, refl)
+unfolding read_message listed scan_from scan_at varint_of number_at fixed_at span_at content_at field_at group_at
+skipping_cases = (refl, refl, refl, refl, refl, refl, refl, refl, refl, refl, refl)
 
 -- ---- format 2
 
-pub tagged-cases :
+pub tagged_cases :
     (operation_body tagged (import_key key_a)
     ≡ 0x01 ∷ 0x01 ∷ 0x00 ∷ 0x61 ∷ 0x02 ∷ 0x02 ∷ 0x00 ∷ 0xAA ∷ 0xBB ∷ 0x03 ∷ 0x04 ∷ 0x00 ∷ 0x00 ∷ 0x08 ∷ 0x00 ∷ 0x00 ∷ 0x04 ∷ 0x01 ∷ 0x00 ∷ 0x01 ∷ [])
     × (output_bytes tagged (version 1 0) ≡ 0x01 ∷ 0x04 ∷ 0x00 ∷ 0x01 ∷ 0x00 ∷ 0x00 ∷ 0x00 ∷ [])
@@ -83,5 +82,5 @@ pub tagged-cases :
     × (read_message tagged (bool ∷ []) (0x01 ∷ 0x01 ∷ 0x00 ∷ 0x02 ∷ []) ≡ broken 0)  -- a bool of 2
     × (read_message tagged (uint32s ∷ []) (0x01 ∷ 0x05 ∷ 0x00 ∷ 0x01 ∷ 0x00 ∷ 0x00 ∷ 0x00 ∷ 0x02 ∷ []) ≡ broken 0)  -- a list not of fours
     × (read_message tagged (bytes ∷ []) (0x01 ∷ 0x02 ∷ 0x00 ∷ 0x61 ∷ []) ≡ broken 0)  -- cut
-unfolding operation_body output_bytes message_bytes read_message listed bind scan_from scan_at tagged_field tagged_at is_whole field little_endian little_endian_of flat_map
-tagged-cases = (refl, refl, refl, refl, refl, refl, refl, refl, refl, refl, refl, refl, refl, refl)
+unfolding operation_body output_bytes message_bytes read_message listed scan_from scan_at tagged_field tagged_at is_whole field little_endian little_endian_of flat_map
+tagged_cases = (refl, refl, refl, refl, refl, refl, refl, refl, refl, refl, refl, refl, refl, refl)

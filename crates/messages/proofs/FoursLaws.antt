@@ -1,12 +1,16 @@
 -- Laws of format 2's lists, four bytes an entry: a body with one is read as a body with bytes, and a list is taken apart.
-use Prim.Native.Nat.{ℕ, zero, suc, ◌+◌, ◌-◌, ◌*◌, ◌/◌, ◌%◌, ◌≤◌, ◌<◌}
+use Rattle.std.proofs.Common.{Option, Some, None, Result, Ok, Err, min}
+use Rattle.std.specs.Result.{result_ok}
+use Rattle.fields.specs.declared.Values.{Values as Places}
+use Rattle.messages.specs.code.Places.{seen}
+use Rattle.wire.proofs.ListLaws.{length_part}
+use Prim.Native.Nat.{ℕ, zero, suc, ◌+◌, ◌*◌, ◌/◌, ◌%◌, ◌≤◌, ◌<◌}
 use native.Mathlib.Omega.{arith}
 use native.Mathlib.Numerals.{add-one}
 use mathlib.Core.Path.{◌≡◌, refl, sym, ap, ap₂, ◌∙◌}
 use mathlib.Core.Bool.{Bool, true, false, ◌&&◌}
-use mathlib.Core.Option.{Option, none, some, bind}
 use mathlib.Core.List.{List, [], ◌∷◌, ◌++◌, map}
-use lib.ListN.{length, take, drop, set, length-append, length-drop}
+use lib.ListN.{length, take, drop, set, length-append}
 use lib.Seq.{append_snoc, take_all, drop-cons, drop-drop, set-append_seam}
 use lib.Dec.{ltb, leb, eqb}
 use borrow.Author.Tests.{eq-eqb, ne_eqb, eqb-true, ltb-true, ltb-false}
@@ -50,7 +54,7 @@ module _ (body : List ℕ) where
     from at so = scan_at (turn_at tagged schema body) end (length body) at so
 
     one_field : (at : ℕ) → tagged_at schema body at ≡ (when stands at then field_with 1 (behind at) (of_value (value at) k) else unreadable)
-    unfolding tagged_at listed bind
+    unfolding tagged_at listed
     one_field at = go (is_whole (drop at body)) refl (eqb (record_in (drop at body)).tag 1) refl
       where
         go : (w : Bool) → is_whole (drop at body) ≡ w → (t : Bool) → eqb (record_in (drop at body)).tag 1 ≡ t
@@ -68,10 +72,10 @@ module _ (body : List ℕ) where
       unread : stands at ≡ false → from at so ≡ broken at
       unread e = turned unreadable (one_field at ∙ rw e)
 
-      no_value : stands at ≡ true → of_value (value at) k ≡ none → from at so ≡ broken at
+      no_value : stands at ≡ true → of_value (value at) k ≡ None → from at so ≡ broken at
       no_value e n = turned unreadable (one_field at ∙ rw e (ap (field_with 1 (behind at)) n))
 
-      a_value : (v : Value) → stands at ≡ true → of_value (value at) k ≡ some v
+      a_value : (v : Value) → stands at ≡ true → of_value (value at) k ≡ Some v
           → from at so ≡ (when ltb so.0 1 then from (behind at) (1, set so.1 0 v) else broken at)
       a_value v e n = turned (field 1 v (behind at)) (one_field at ∙ rw e (ap (field_with 1 (behind at)) n)) ∙ go (ltb so.0 1)
         where
@@ -86,8 +90,8 @@ module _ (body : List ℕ) where
       where
         go : (t : Bool) → stands at ≡ t → (o : Option Value) → of_value (value at) k ≡ o → from at (1, m) ≡ broken at
         go false e o q = unread at (1, m) h e
-        go true e none q = no_value at (1, m) h e q
-        go true e (some v) q = a_value at (1, m) h v e q
+        go true e None q = no_value at (1, m) h e q
+        go true e (Some v) q = a_value at (1, m) h v e q
 
     after : (at : ℕ) (m : Message) → from at (1, m) ≡ (when ltb at (length body) then broken at else read m)
     after at m = go (ltb at (length body)) refl
@@ -99,31 +103,31 @@ module _ (body : List ℕ) where
 -- ---- a list's body, read as one with bytes
 
 -- the entries of the bytes that were read
-abbrev pub as_fours : Reading → Option (List ℕ)
-as_fours (read m) = when eqb (length (octets_of (value_at m 1)) % 4) 0 then some (fours (octets_of (value_at m 1))) else none
-as_fours (broken at) = none
+abbrev as_fours : Reading → Option (List ℕ)
+as_fours (read m) = when eqb (length (octets_of (value_at m 1)) % 4) 0 then Some (fours (octets_of (value_at m 1))) else None
+as_fours (broken at) = None
 
 module _ (s : List ℕ) where
-  pub are_fours : length s % 4 ≡ 0 → as_fours (read (octets s ∷ [])) ≡ some (fours s)
+  are_fours : length s % 4 ≡ 0 → as_fours (read (octets s ∷ [])) ≡ Some (fours s)
   are_fours e = rw (eq-eqb (length s % 4) 0 e)
 
-  pub no_fours : (length s % 4 ≡ 0 → ⊥) → as_fours (read (octets s ∷ [])) ≡ none
+  no_fours : (length s % 4 ≡ 0 → ⊥) → as_fours (read (octets s ∷ [])) ≡ None
   no_fours e = rw (ne_eqb (length s % 4) 0 e)
 
-module _ (body : List ℕ) where
-  abbrev list : Message → List ℕ
-  list m = numbers_of (value_at m 1)
+abbrev list_of : Message → List ℕ
+list_of m = numbers_of (value_at m 1)
 
+module _ (body : List ℕ) where
   abbrev as_bytes : Reading
   as_bytes = from body bytes 0 (0, octets [] ∷ [])
 
   abbrev as_list : Reading
   as_list = from body uint32s 0 (0, numbers [] ∷ [])
 
-  agree : (b l : Reading) → as_bytes ≡ b → as_list ≡ l → when_read list l ≡ as_fours b → when_read list as_list ≡ as_fours as_bytes
-  agree b l e q a = ap (when_read list) q ∙ a ∙ sym (ap as_fours e)
+  agree : (b l : Reading) → as_bytes ≡ b → as_list ≡ l → when_read list_of l ≡ as_fours b → when_read list_of as_list ≡ as_fours as_bytes
+  agree b l e q a = ap (when_read list_of) q ∙ a ∙ sym (ap as_fours e)
 
-  one_record : 0 < length body → stands body 0 ≡ true → when_read list as_list ≡ as_fours as_bytes
+  one_record : 0 < length body → stands body 0 ≡ true → when_read list_of as_list ≡ as_fours as_bytes
   one_record h e = go (leb 1 (length v)) refl (eqb (length v % 4) 0) refl
     where
       v : List ℕ
@@ -132,13 +136,13 @@ module _ (body : List ℕ) where
       next : ℕ
       next = behind body 0
 
-      go : (a : Bool) → leb 1 (length v) ≡ a → (b : Bool) → eqb (length v % 4) 0 ≡ b → when_read list as_list ≡ as_fours as_bytes
+      go : (a : Bool) → leb 1 (length v) ≡ a → (b : Bool) → eqb (length v % 4) 0 ≡ b → when_read list_of as_list ≡ as_fours as_bytes
       go false p b q = agree (broken 0) (broken 0) (no_value body bytes 0 _ h e (rw p)) (no_value body uint32s 0 _ h e (rw p)) refl
       go true p false q =
           agree _ (broken 0) (a_value body bytes 0 _ h (octets v) e (rw p) ∙ after body bytes next (octets v ∷ [])) (no_value body uint32s 0 _ h e (rw (p, q)))
           (ends (ltb next (length body)))
         where
-          ends : (t : Bool) → none ≡ as_fours (when t then broken next else read (octets v ∷ []))
+          ends : (t : Bool) → None ≡ as_fours (when t then broken next else read (octets v ∷ []))
           ends true = refl
           ends false = rw q
       go true p true q =
@@ -146,14 +150,14 @@ module _ (body : List ℕ) where
           (a_value body uint32s 0 _ h (numbers (fours v)) e (rw (p, q)) ∙ after body uint32s next (numbers (fours v) ∷ []))
           (ends (ltb next (length body)))
         where
-          ends : (t : Bool) → when_read list (when t then broken next else read (numbers (fours v) ∷ [])) ≡ as_fours (when t then broken next else read (octets v ∷ []))
+          ends : (t : Bool) → when_read list_of (when t then broken next else read (numbers (fours v) ∷ [])) ≡ as_fours (when t then broken next else read (octets v ∷ []))
           ends true = refl
           ends false = rw q
 
-  same_list : when_read list as_list ≡ as_fours as_bytes
+  same_list : when_read list_of as_list ≡ as_fours as_bytes
   same_list = go (ltb 0 (length body)) refl
     where
-      go : (t : Bool) → ltb 0 (length body) ≡ t → when_read list as_list ≡ as_fours as_bytes
+      go : (t : Bool) → ltb 0 (length body) ≡ t → when_read list_of as_list ≡ as_fours as_bytes
       go false e =
           let h : length body ≤ 0 = ltb-false _ _ e in
           agree (read (octets [] ∷ [])) (read (numbers [] ∷ []))
@@ -165,13 +169,41 @@ module _ (body : List ℕ) where
           h : 0 < length body
           h = ltb-true _ _ e
 
-          first : (t : Bool) → stands body 0 ≡ t → when_read list as_list ≡ as_fours as_bytes
+          first : (t : Bool) → stands body 0 ≡ t → when_read list_of as_list ≡ as_fours as_bytes
           first true q = one_record h q
           first false q = agree (broken 0) (broken 0) (unread body bytes 0 _ h q) (unread body uint32s 0 _ h q) refl
 
-  pub fours_body : (o : Reading) → o ≡ read_message tagged (bytes ∷ []) body → as_fours o ≡ read_body tagged (uint32s ∷ []) body list
+  fours_body : (o : Reading) → o ≡ read_message tagged (bytes ∷ []) body → as_fours o ≡ read_body tagged (uint32s ∷ []) body list_of
   unfolding read_body read_message
   fours_body o e = ap as_fours e ∙ sym same_list
+
+-- ---- the same by the place of the bytes
+
+module _ (body : List ℕ) where
+  abbrev in_bytes : Result Places ℕ → Reading
+  in_bytes r = seen body (bytes ∷ []) r
+
+  abbrev whole : Option (List ℕ)
+  whole = read_body tagged (uint32s ∷ []) body list_of
+
+  pub fours_broken : (r : Result Places ℕ) → in_bytes r ≡ read_message tagged (bytes ∷ []) body → None ≡ result_ok r → None ≡ whole
+  fours_broken (Ok m) same e = cc
+  fours_broken (Err at) same e = fours_body body (broken at) same
+
+  abbrev part : Places → List ℕ
+  part m = take m.f1.len (drop m.f1.start body)
+
+  by_place : (r : Result Places ℕ) → in_bytes r ≡ read_message tagged (bytes ∷ []) body → (m : Places) → Some m ≡ result_ok r → as_fours (read (octets (part m) ∷ [])) ≡ whole
+  by_place (Ok n) same m e = let is : m ≡ n = cc in rw is (fours_body body (read (octets (part n) ∷ [])) same)
+  by_place (Err at) same m e = cc
+
+  module _ (r : Result Places ℕ) (same : in_bytes r ≡ read_message tagged (bytes ∷ []) body) (m : Places) (is : Some m ≡ result_ok r)
+      (within : m.f1.start + m.f1.len ≤ length body) where
+    pub fours_partial : (m.f1.len % 4 ≡ 0 → ⊥) → None ≡ whole
+    fours_partial h = sym (no_fours (part m) (λ z. h (ap (λ (n : ℕ). n % 4) (sym (length_part body m.f1.start m.f1.len within)) ∙ z))) ∙ by_place r same m is
+
+    pub fours_read : m.f1.len % 4 ≡ 0 → Some (fours (part m)) ≡ whole
+    fours_read h = sym (are_fours (part m) (ap (λ (n : ℕ). n % 4) (length_part body m.f1.start m.f1.len within) ∙ h)) ∙ by_place r same m is
 
 -- ---- a list taken apart
 
@@ -196,35 +228,24 @@ take_fours (suc j) zero s h = absurd (omega arith)
 take_fours (suc j) (suc n) s h = ap (λ (l : List ℕ). little_endian (take 4 s) ∷ l) (take_fours j n (drop 4 s) (omega arith))
 
 -- `count` entries stand over the front of the room
-pub record Fours (s room now' : List ℕ) (count at : ℕ) : Type 0 where
-  pub place : at ≡ 4 * count
-  pub left : at ≤ length s
+pub record Fours (s room now' : List ℕ) (count : ℕ) : Type 0 where
   pub few : count ≤ length room
   pub written : now' ≡ over (first_fours count s) room
 
-pub fours_none : (s room : List ℕ) → Fours s room room 0 0
-fours_none s room = record { place = refl; left = omega arith; few = omega arith; written = refl }
+pub fours_none : (s room : List ℕ) → Fours s room room 0
+fours_none s room = record { few = omega arith; written = refl }
 
-module _ {s room now' : List ℕ} {count at : ℕ} (f : Fours s room now' count at) where
-  pub fours_size : length now' ≡ length room
-  fours_size =
-      ap length f.written
-      ∙ (let n : List ℕ = first_fours count s in let a = length-append n (drop (length n) room) in let b = length-drop (length n) room in let m = length_fours count s in let l = f.few in omega arith)
-
-  pub fours_on : (v : ℕ) → count < length room → 4 ≤ length s - at → v ≡ wire.field at 4 s → Fours s room (set now' count v) (count + 1) (at + 4)
+module _ {s room now' : List ℕ} {count : ℕ} (f : Fours s room now' count) where
+  pub fours_on : (v : ℕ) → count < length room → v ≡ wire.field (4 * count) 4 s → Fours s room (set now' count v) (count + 1)
   unfolding wire.field
-  fours_on v fits more is =
+  fours_on v fits is =
       let n : List ℕ = first_fours count s in
       let m : count ≡ length n = sym (length_fours count s) in
-      let p = f.place in
       let one : length (n ++ (v ∷ [])) ≡ length n + 1 = length-append n (v ∷ []) in
       let room' : length n < length room = omega arith in
-      let here : v ≡ little_endian (take 4 (drop (4 * count) s)) = is ∙ ap (λ (j : ℕ). little_endian (take 4 (drop j s))) p in
       let next : first_fours (count + 1) s ≡ n ++ (v ∷ [])
-      = ap (λ (j : ℕ). first_fours j s) (add-one count) ∙ one_more count s ∙ ap (λ (x : ℕ). n ++ (x ∷ [])) (sym here) in
+      = ap (λ (j : ℕ). first_fours j s) (add-one count) ∙ one_more count s ∙ ap (λ (x : ℕ). n ++ (x ∷ [])) (sym is) in
       record {
-        place = omega arith;
-        left = omega arith;
         few = omega arith;
         written =
             ap₂ (λ (a : List ℕ) (j : ℕ). set a j v) (f.written ∙ ap (λ (x : List ℕ). n ++ x) (drop-cons room (length n) 0 room')) m
@@ -241,18 +262,16 @@ module _ {s room now' : List ℕ} {count at : ℕ} (f : Fours s room now' count 
       let same : now' ≡ over (take (length room) (fours s)) room = f.written ∙ ap (λ (l : List ℕ). over l room) (sym e) in
       λ i. record { count = many i; entries = same i }
 
-  -- the room is full
-  pub fours_full : length room ≤ count → record { count = count; entries = now' } ≡ read_list_outcome Tagged s room
-  fours_full h =
-      let p = f.place in
-      let l = f.left in
-      let few = f.few in
-      let m : length room ≡ count = omega arith in
-      outcome (ap (λ (j : ℕ). take j (fours s)) m ∙ take_fours count (length s / 4) s (omega arith))
-
-  pub fours_end : length s - at < 4 → record { count = count; entries = now' } ≡ read_list_outcome Tagged s room
-  fours_end h =
-      let p = f.place in
-      let l = f.left in
-      let m : length s / 4 ≡ count = omega arith in
-      outcome (take_all (length room) (fours s) (let n = length_fours (length s / 4) s in let few = f.few in omega arith) ∙ ap (λ (j : ℕ). first_fours j s) m)
+  -- the room is full, or no whole entry is left
+  pub fours_end : count ≡ min (length room) (length s / 4) → record { count = count; entries = now' } ≡ read_list_outcome Tagged s room
+  fours_end e = outcome (go (ltb (length room) (length s / 4)) refl)
+    where
+      go : (t : Bool) → ltb (length room) (length s / 4) ≡ t → take (length room) (fours s) ≡ first_fours count s
+      go true q =
+          let h = ltb-true _ _ q in
+          let m : length room ≡ count = omega arith in
+          take_fours (length room) (length s / 4) s (omega arith) ∙ ap (λ (j : ℕ). first_fours j s) m
+      go false q =
+          let h = ltb-false _ _ q in
+          let m : length s / 4 ≡ count = omega arith in
+          take_all (length room) (fours s) (omega (arith, length_fours (length s / 4) s)) ∙ ap (λ (j : ℕ). first_fours j s) m

@@ -1,10 +1,10 @@
 -- A body that is read where it lies, as `body_of` has it, holds the message that format 1 reads: values as places, and the same.
+use Rattle.std.proofs.Common.{Option, Some, None, option_and_then, option_map, Result, Ok}
 use Prim.Native.Nat.{ℕ, zero, suc, ◌-◌, ◌%◌, ◌^◌, ◌≤◌, ◌<◌}
 use native.Mathlib.Omega.{arith}
 use mathlib.Core.Path.{◌≡◌, refl, sym, ap, ◌∙◌}
 use mathlib.Core.Bool.{Bool, true, false, not}
 use mathlib.Core.Logic.{◌⊎◌, inl, inr, ⊎_elim}
-use mathlib.Core.Option.{Option, none, some, bind, none-ne-some, some-injective}
 use mathlib.Core.List.{List, [], ◌∷◌, map}
 use lib.ListN.{length, take, drop, set, replicate}
 use lib.Dec.{ltb, eqb}
@@ -18,14 +18,10 @@ use Rattle.fields.specs.code.Fields as fields
 use Rattle.protobuf.specs.code.Message as proto
 use Rattle.protobuf.specs.code.Body as proto-body
 use Rattle.protobuf.specs.declared.field.Field.{Field as ProtoField}
-use Rattle.protobuf.specs.declared.field.Field.TheVariants.{Number, Span, Fixed, GroupStart, GroupEnd, Unreadable as no_field}
-use Rattle.protobuf.specs.declared.group.Group.{Group}
-use Rattle.protobuf.specs.declared.group.Group.TheVariants.{Skipped, Unreadable as noGroup}
+use Rattle.protobuf.specs.declared.field.Field.TheVariants.{Number, Span, Fixed, GroupStart, GroupEnd}
 use Rattle.fields.specs.declared.Kind.{Kind as ProtoKind}
 use Rattle.fields.specs.declared.Value.{Value as Place}
 use Rattle.fields.specs.declared.Values.{Values as Places}
-use Rattle.fields.specs.declared.Body.{Body}
-use Rattle.fields.specs.declared.Body.TheVariants.{Message as Readable}
 use Rattle.messages.specs.Message.{Kind, uint32, bool, bytes, uint32s, number, flag, octets, numbers, Schema, Message, kind_at, absent}
 use Rattle.messages.specs.Format.{skipped, field_with, listed, Reading, read, SoFar, turn_of, turn_at, read_message}
 use Rattle.messages.specs.code.Places.{kind_placed, schema_placed, NoLists, value_of, values_of, five, seen}
@@ -71,20 +67,20 @@ pub record Within (n most : ℕ) : Type 0 where
   pub low : 1 ≤ n
   pub high : n ≤ most
 
-pub kind_within : (schema : Schema) (n : ℕ) (kind : Kind) → kind_at schema n ≡ some kind → Within n (length schema)
-kind_within [] n kind e = absurd (none-ne-some kind e)
+pub kind_within : (schema : Schema) (n : ℕ) (kind : Kind) → kind_at schema n ≡ Some kind → Within n (length schema)
+kind_within [] n kind e = cc
 kind_within (k ∷ schema) n kind e = go (λ e'. kind_within schema (n - 1) kind e') (eqb n 1) refl e
   where
-    go : (kind_at schema (n - 1) ≡ some kind → Within (n - 1) (length schema)) → (t : Bool) → eqb n 1 ≡ t → (when t then some k else kind_at schema (n - 1)) ≡ some kind → Within n (suc (length schema))
+    go : (kind_at schema (n - 1) ≡ Some kind → Within (n - 1) (length schema)) → (t : Bool) → eqb n 1 ≡ t → (when t then Some k else kind_at schema (n - 1)) ≡ Some kind → Within n (suc (length schema))
     go ih true q e' = let one = eqb-true n 1 q in record { low = omega arith; high = omega arith }
     go ih false q e' = let w = ih e' in record { low = omega arith; high = omega arith }
 
-unlisted : (schema : Schema) (n : ℕ) → length schema ≤ 5 → (n ≡ 0) ⊎ (5 < n) → kind_at schema n ≡ none
+unlisted : (schema : Schema) (n : ℕ) → length schema ≤ 5 → (n ≡ 0) ⊎ (5 < n) → kind_at schema n ≡ None
 unlisted schema n few h = go (kind_at schema n) refl
   where
-    go : (o : Option Kind) → kind_at schema n ≡ o → o ≡ none
-    go none e = refl
-    go (some kind) e = let w = kind_within schema n kind e in ⊎_elim (λ z. absurd (omega (arith, w.low))) (λ z. absurd (omega (arith, w.high))) h
+    go : (o : Option Kind) → kind_at schema n ≡ o → o ≡ None
+    go None e = refl
+    go (Some kind) e = let w = kind_within schema n kind e in ⊎_elim (λ z. absurd (omega (arith, w.low))) (λ z. absurd (omega (arith, w.high))) h
 
 module _ (schema : Schema) (few : length schema ≤ 5) where
   abbrev Named : ℕ → ProtoKind → Type 0
@@ -121,14 +117,14 @@ module _ (schema : Schema) (few : length schema ≤ 5) where
       (λ e. absurd (omega (arith, eqb-false n 1 a, eqb-false n 2 b, eqb-false n 3 c, eqb-false n 4 d, eqb-false n 5 e)))))))
 
 module _ (body : List ℕ) where
-  values_put : (schema : Schema) (vs : List Place) (n : ℕ) (kind : Kind) (v : Place) → kind_at schema n ≡ some kind → n ≤ length vs → values_of body schema (set vs (n - 1) v) ≡ set (values_of body schema vs) (n - 1) (value_of body kind v)
-  values_put [] vs n kind v e h = absurd (none-ne-some kind e)
+  values_put : (schema : Schema) (vs : List Place) (n : ℕ) (kind : Kind) (v : Place) → kind_at schema n ≡ Some kind → n ≤ length vs → values_of body schema (set vs (n - 1) v) ≡ set (values_of body schema vs) (n - 1) (value_of body kind v)
+  values_put [] vs n kind v e h = cc
   values_put (k ∷ schema) [] n kind v e h = let w = kind_within (k ∷ schema) n kind e in absurd (omega (arith, w.low))
   values_put (k ∷ schema) (u ∷ vs) zero kind v e h = let w = kind_within (k ∷ schema) 0 kind e in absurd (omega (arith, w.low))
-  values_put (k ∷ schema) (u ∷ vs) (suc zero) kind v e h = ap (λ (x : Kind). value_of body x v ∷ values_of body schema vs) (some-injective k kind e)
+  values_put (k ∷ schema) (u ∷ vs) (suc zero) kind v e h = ap (λ (x : Kind). value_of body x v ∷ values_of body schema vs) (cc)
   values_put (k ∷ schema) (u ∷ vs) (suc (suc n)) kind v e h =
       let no : suc (suc n) ≡ 1 → ⊥ = λ z. omega arith in
-      let e' : kind_at schema (suc (suc n) - 1) ≡ some kind = rw (ne_eqb _ _ no) at e in
+      let e' : kind_at schema (suc (suc n) - 1) ≡ Some kind = rw (ne_eqb _ _ no) at e in
       let ih = values_put schema vs (suc (suc n) - 1) kind v e' (omega arith) in
       let one : suc (suc n) - 1 ≡ suc n = omega arith in
       let two : suc (suc n) - 1 - 1 ≡ n = omega arith in
@@ -143,14 +139,14 @@ module _ (body : List ℕ) where
   none_read (bytes ∷ schema) (suc count) = ap (λ (r : Message). octets [] ∷ r) (none_read schema count)
   none_read (uint32s ∷ schema) (suc count) = ap (λ (r : Message). numbers [] ∷ r) (none_read schema count)
 
-pub no_list_at : (schema : Schema) (n : ℕ) → NoLists schema → kind_at schema n ≡ some uint32s → ⊥
-no_list_at [] n h e = none-ne-some uint32s e
+pub no_list_at : (schema : Schema) (n : ℕ) → NoLists schema → kind_at schema n ≡ Some uint32s → ⊥
+no_list_at [] n h e = cc
 no_list_at (kind ∷ schema) n h e = go kind h (λ h' e'. no_list_at schema (n - 1) h' e') (eqb n 1) e
   where
-    go : (k : Kind) → NoLists (k ∷ schema) → (NoLists schema → kind_at schema (n - 1) ≡ some uint32s → ⊥) → (t : Bool) → (when t then some k else kind_at schema (n - 1)) ≡ some uint32s → ⊥
-    go uint32 h ih true e = let z : ◌≡◌ {A = ℕ} 0 1 = cc in omega arith
-    go bool h ih true e = let z : ◌≡◌ {A = ℕ} 0 1 = cc in omega arith
-    go bytes h ih true e = let z : ◌≡◌ {A = ℕ} 0 1 = cc in omega arith
+    go : (k : Kind) → NoLists (k ∷ schema) → (NoLists schema → kind_at schema (n - 1) ≡ Some uint32s → ⊥) → (t : Bool) → (when t then Some k else kind_at schema (n - 1)) ≡ Some uint32s → ⊥
+    go uint32 h ih true e = cc
+    go bool h ih true e = cc
+    go bytes h ih true e = cc
     go uint32 h ih false e = ih h e
     go bool h ih false e = ih h e
     go bytes h ih false e = ih h e
@@ -166,12 +162,12 @@ module _ (schema : Schema) (body : List ℕ) (few : length schema ≤ 5) (no-lis
   abbrev Same : SoFar → Places → Type 0
   Same so m = so.1 ≡ values_of body schema (five m)
 
-  abbrev Turns : Turn SoFar Reading → Turn Places Body → Type 0
+  abbrev Turns : Turn SoFar Reading → Turn Places (Result Places ℕ) → Type 0
   Turns t t' = TurnSame Same (seen body schema) t t'
 
   pub put_same :
       (n : ℕ) (kind : Kind) (so : SoFar) (m : Places) (v : Place) →
-      kind_at schema n ≡ some kind →
+      kind_at schema n ≡ Some kind →
       Same so m →
       set so.1 (n - 1) (value_of body kind v) ≡ values_of body schema (five (fields.with_value m n v))
   put_same n kind so m v e h =
@@ -182,39 +178,37 @@ module _ (schema : Schema) (body : List ℕ) (few : length schema ≤ 5) (no-lis
 
   number_same :
       (at n v next : ℕ) (so : SoFar) (m : Places) → Same so m → (o : Option Kind) → kind_at schema n ≡ o
-      → Turns (turn_of protobuf at so (when is_of_wire 0 o then field_with n next (bind o (of_varint v)) else skipped next)) (proto-body.turn_of at (proto.step_of m (proto.of_number (kind_placed o) n v next)))
-  unfolding bind
-  number_same at n v next so m h none e = (refl, h)
-  number_same at n v next so m h (some uint32) e = (refl, put_same n uint32 so m (record { start = 0; len = 0; number = v % 2 ^ 32 }) e h)
-  number_same at n v next so m h (some bool) e =
+      → Turns (turn_of protobuf at so (when is_of_wire 0 o then field_with n next (option_and_then (of_varint v) o) else skipped next)) (proto-body.turn_of at (Some (proto.step_of m (proto.of_number (kind_placed o) n v next))))
+  number_same at n v next so m h None e = (refl, h)
+  number_same at n v next so m h (Some uint32) e = (refl, put_same n uint32 so m (record { start = 0; len = 0; number = v % 2 ^ 32 }) e h)
+  number_same at n v next so m h (Some bool) e =
       (refl, rw (bool_same (eqb v 0)) (put_same n bool so m (record { start = 0; len = 0; number = when eqb v 0 then 0 else 1 }) e h))
-  number_same at n v next so m h (some bytes) e = (refl, h)
-  number_same at n v next so m h (some uint32s) e = (refl, h)
+  number_same at n v next so m h (Some bytes) e = (refl, h)
+  number_same at n v next so m h (Some uint32s) e = (refl, h)
 
   span_same :
       (at n start len next : ℕ) (so : SoFar) (m : Places) → Same so m → (o : Option Kind) → kind_at schema n ≡ o
-      → Turns (turn_of protobuf at so (when is_of_wire 2 o then field_with n next (bind o (of_span (take len (drop start body)))) else skipped next)) (proto-body.turn_of at (proto.step_of m (proto.of_span (kind_placed o) n start len next)))
-  unfolding bind
-  span_same at n start len next so m h none e = (refl, h)
-  span_same at n start len next so m h (some uint32) e = (refl, h)
-  span_same at n start len next so m h (some bool) e = (refl, h)
-  span_same at n start len next so m h (some bytes) e = (refl, put_same n bytes so m (record { start = start; len = len; number = 0 }) e h)
-  span_same at n start len next so m h (some uint32s) e = absurd (no_list_at schema n no-lists e)
+      → Turns (turn_of protobuf at so (when is_of_wire 2 o then field_with n next (option_and_then (of_span (take len (drop start body))) o) else skipped next)) (proto-body.turn_of at (Some (proto.step_of m (proto.of_span (kind_placed o) n start len next))))
+  span_same at n start len next so m h None e = (refl, h)
+  span_same at n start len next so m h (Some uint32) e = (refl, h)
+  span_same at n start len next so m h (Some bool) e = (refl, h)
+  span_same at n start len next so m h (Some bytes) e = (refl, put_same n bytes so m (record { start = start; len = len; number = 0 }) e h)
+  span_same at n start len next so m h (Some uint32s) e = absurd (no_list_at schema n no-lists e)
 
-  group_same : (at : ℕ) (so : SoFar) (m : Places) → Same so m → (g : Group) → Turns (turn_of protobuf at so (of_group g)) (proto-body.turn_of at (proto.step_of m (proto.of_group g)))
-  group_same at so m h (Skipped next) = (refl, h)
-  group_same at so m h noGroup = refl
+  group_same : (at : ℕ) (so : SoFar) (m : Places) → Same so m → (g : Option ℕ) → Turns (turn_of protobuf at so (of_group g)) (proto-body.turn_of at (option_map (proto.step_of m) (proto.of_group g)))
+  group_same at so m h (Some next) = (refl, h)
+  group_same at so m h None = refl
 
   field-same :
-      (at : ℕ) (so : SoFar) (m : Places) → Same so m → (f : ProtoField)
-      → Turns (turn_of protobuf at so (field_of schema body f)) (proto-body.turn_of at (proto.step_of m (proto.item_of (schema_placed schema) body f)))
+      (at : ℕ) (so : SoFar) (m : Places) → Same so m → (f : Option ProtoField)
+      → Turns (turn_of protobuf at so (field_of schema body f)) (proto-body.turn_of at (option_map (proto.step_of m) (option_and_then (proto.item_of (schema_placed schema) body) f)))
   unfolding listed proto.item_of
-  field-same at so m h (Number n v next) = rw (kind_same schema few n) (number_same at n v next so m h (kind_at schema n) refl)
-  field-same at so m h (Span n start len next) = rw (kind_same schema few n) (span_same at n start len next so m h (kind_at schema n) refl)
-  field-same at so m h (Fixed n next) = (refl, h)
-  field-same at so m h (GroupStart n next) = group_same at so m h (group_at depth_most body n next)
-  field-same at so m h (GroupEnd n next) = refl
-  field-same at so m h no_field = refl
+  field-same at so m h (Some (Number n v next)) = rw (kind_same schema few n) (number_same at n v next so m h (kind_at schema n) refl)
+  field-same at so m h (Some (Span n start len next)) = rw (kind_same schema few n) (span_same at n start len next so m h (kind_at schema n) refl)
+  field-same at so m h (Some (Fixed n next)) = (refl, h)
+  field-same at so m h (Some (GroupStart n next)) = group_same at so m h (group_at depth_most body n next)
+  field-same at so m h (Some (GroupEnd n next)) = refl
+  field-same at so m h None = refl
 
   turn_same : (at : ℕ) (so : SoFar) (m : Places) → Same so m → Turns (turn_at protobuf schema body at so) (proto-body.turn_at (schema_placed schema) body at m)
   unfolding proto.step_at
@@ -223,5 +217,5 @@ module _ (schema : Schema) (body : List ℕ) (few : length schema ≤ 5) (no-lis
   pub placed : read_message protobuf schema body ≡ seen body schema (proto-body.body_of (schema_placed schema) body)
   unfolding read_message
   placed =
-      scan_same Same (seen body schema) (turn_at protobuf schema body) (proto-body.turn_at (schema_placed schema) body) (λ so. read so.1) Readable (length body)
+      scan_same Same (seen body schema) (turn_at protobuf schema body) (proto-body.turn_at (schema_placed schema) body) (λ so. read so.1) Ok (length body)
       (λ so m h. ap read h) turn_same 0 (0, map absent schema) fields.all_absent (none_read body schema 5)

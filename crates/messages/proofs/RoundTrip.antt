@@ -1,9 +1,9 @@
 -- A message written is read as itself, in every format that writes a field so that it reads it.
+use Rattle.std.proofs.Common.{Option, Some, None, option_and_then}
 use Prim.Native.Nat.{ℕ, zero, suc, ◌+◌, ◌-◌, ◌≤◌, ◌<◌}
 use native.Mathlib.Omega.{arith}
 use mathlib.Core.Path.{◌≡◌, refl, sym, ap, ◌∙◌}
 use mathlib.Core.Bool.{true, false}
-use mathlib.Core.Option.{Option, none, some, bind}
 use mathlib.Core.Logic.{◌⊎◌, inl, inr, ⊎_elim}
 use mathlib.Core.List.{List, [], ◌∷◌, ◌++◌, map}
 use lib.ListN.{length, drop, length-append, length-drop}
@@ -37,7 +37,7 @@ pub record Lawful (format : Format) : Type 0 where
       (schema : Schema) (s : List ℕ) (at n : ℕ) (value : Value) (rest : List ℕ) →
       1 ≤ n →
       n < 256 →
-      kind_at schema n ≡ some (kind_of value) →
+      kind_at schema n ≡ Some (kind_of value) →
       Present value →
       Fits format value →
       drop at s ≡ format.bytes_of n value ++ rest →
@@ -49,19 +49,19 @@ pub record Lawful (format : Format) : Type 0 where
 
 pub listed-value :
     (schema : Schema) (n : ℕ) (valueAs : Kind → Option Value) (next : ℕ) (value : Value) →
-    kind_at schema n ≡ some (kind_of value) →
-    valueAs (kind_of value) ≡ some value →
+    kind_at schema n ≡ Some (kind_of value) →
+    valueAs (kind_of value) ≡ Some value →
     listed schema n valueAs next ≡ field n value next
-unfolding listed bind
-listed-value schema n valueAs next value k v = ap (λ (o : Option Kind). field_with n next (bind o valueAs)) k ∙ ap (field_with n next) v
+unfolding listed
+listed-value schema n valueAs next value k v = ap (λ (o : Option Kind). field_with n next (option_and_then valueAs o)) k ∙ ap (field_with n next) v
 
 with_ahead : (at n next : ℕ) (o : Option Value) → at < next → FieldAhead at (field_with n next o)
-with_ahead at n next none h = tt
-with_ahead at n next (some value) h = h
+with_ahead at n next None h = tt
+with_ahead at n next (Some value) h = h
 
 pub listed_ahead : (schema : Schema) (at n : ℕ) (valueAs : Kind → Option Value) (next : ℕ) → at < next → FieldAhead at (listed schema n valueAs next)
 unfolding listed
-listed_ahead schema at n valueAs next h = with_ahead at n next (bind (kind_at schema n) valueAs) h
+listed_ahead schema at n valueAs next h = with_ahead at n next (option_and_then valueAs (kind_at schema n)) h
 
 -- ---- messages
 
@@ -78,7 +78,7 @@ presence (octets (b ∷ s)) = inr (omega arith)
 presence (numbers []) = inl refl
 presence (numbers (n ∷ ns)) = inr (omega arith)
 
-kind_there : (done : Message) (value : Value) (m : Message) → kind_at (map kind_of (done ++ value ∷ m)) (length done + 1) ≡ some (kind_of value)
+kind_there : (done : Message) (value : Value) (m : Message) → kind_at (map kind_of (done ++ value ∷ m)) (length done + 1) ≡ Some (kind_of value)
 kind_there [] value m = refl
 kind_there (d ∷ done) value m =
     let no : suc (length done) + 1 ≡ 1 → ⊥ = λ e. omega arith in
@@ -107,7 +107,7 @@ module _ (format : Format) (law : Lawful format) (schema : Schema) (s : List ℕ
   -- a field that is present, on top of what is done
   one_field :
       (done : Message) (value : Value) (zeros : Message) (last at : ℕ) (rest : List ℕ) →
-      kind_at schema (length done + 1) ≡ some (kind_of value) →
+      kind_at schema (length done + 1) ≡ Some (kind_of value) →
       last ≤ length done →
       length done + 1 < 256 →
       Present value →
@@ -142,7 +142,7 @@ module _ (format : Format) (law : Lawful format) (schema : Schema) (s : List ℕ
       let done' : Message = done ++ (value ∷ []) in
       let long : length done' ≡ length done + 1 = length-append done (value ∷ []) in
       let k' : schema ≡ map kind_of (done' ++ m) = rw append_snoc k in
-      let there : kind_at schema n ≡ some (kind_of value) = rw k (kind_there done value m) in
+      let there : kind_at schema n ≡ Some (kind_of value) = rw k (kind_there done value m) in
       let next : (last' at' : ℕ) → last' ≤ length done' → drop at' s ≡ rest → scan at' (last', done ++ value ∷ map blank m) ≡ read (done ++ value ∷ m)
       = λ last' at' l' e'.
       rw (append_snoc, append_snoc) at (reads-from done' m last' at' k' l' (omega arith) fits.1 (rw long e')) in

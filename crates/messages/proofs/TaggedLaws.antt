@@ -1,9 +1,9 @@
 -- Format 2 is lawful.
+use Rattle.std.proofs.Common.{Some}
 use Prim.Native.Nat.{ℕ, ◌+◌, ◌*◌, ◌/◌, ◌%◌, ◌≤◌}
 use native.Mathlib.Omega.{arith}
 use mathlib.Core.Path.{◌≡◌, refl, ap, ◌∙◌}
 use mathlib.Core.Bool.{true, false, false≢true}
-use mathlib.Core.Option.{some}
 use mathlib.Core.List.{List, [], ◌∷◌, ◌++◌, map, flat_map}
 use lib.ListN.{length, drop, length-append}
 use lib.Seq.{take-length, take_at, drop_at}
@@ -34,7 +34,7 @@ list_back (n ∷ ns) =
     let rest : List ℕ = flat_map (little_endian_of 4) ns in
     rw (take_at (little_endian_of 4 n) rest 4 (length_number 4 n), drop_at (little_endian_of 4 n) rest 4 (length_number 4 n), number_back 3 n, list_back ns)
 
-value_back : (value : Value) → Present value → of_value (value_bytes value) (kind_of value) ≡ some value
+value_back : (value : Value) → Present value → of_value (value_bytes value) (kind_of value) ≡ Some value
 value_back (number n) p =
     let no : n ≡ 0 → ⊥ = λ e. omega arith in
     rw (ne_eqb n 0 no, length_number 4 n, number_back 3 n, ne_eqb n 0 no)
@@ -100,7 +100,7 @@ tagged_none n (b ∷ s) h = absurd (omega arith)
 
 reads :
     (schema : Schema) (s : List ℕ) (at n : ℕ) (value : Value) (rest : List ℕ) →
-    kind_at schema n ≡ some (kind_of value) →
+    kind_at schema n ≡ Some (kind_of value) →
     Present value →
     drop at s ≡ tagged_field n (value_bytes value) ++ rest →
     tagged_at schema s at ≡ field n value (at + length (tagged_field n (value_bytes value)))

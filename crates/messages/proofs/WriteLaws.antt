@@ -77,7 +77,7 @@ module _ (format : Format) where
   unfolding output_bytes message_bytes
   version_body major minor = ap (λ (l : List ℕ). format.bytes_of 1 (number major) ++ l) (append-nil (format.bytes_of 2 (number minor)))
 
--- a numberumber below 128 is its own varint
+-- a number below 128 is its own varint
 own_varints : (list : List ℕ) → all (λ n. ltb n 128) list ≡ true → flat_map varint list ≡ list
 unfolding flat_map varint
 own_varints [] h = refl

@@ -1,7 +1,6 @@
 -- What is claimed of bodies in a format: written and read, and where one broke. proofs/FormatsLaws.antt and proofs/BrokenLaws.antt
 -- prove it of both formats.
-use Rattle.std.specs.Prelude.{ℕ, ◌<◌, ◌≡◌, true, List, ◌++◌, map, length, take}
-use Rattle.std.proofs.Math.Option.{some}
+use Rattle.std.specs.Prelude.{ℕ, ◌<◌, ◌≡◌, true, List, ◌++◌, map, length, take, Some}
 use Rattle.wire.specs.Lists.{one_of}
 use Rattle.wire.specs.Scan.{on, out}
 use Rattle.messages.specs.Message.{kind_of, Schema, Message, absent}
@@ -15,10 +14,10 @@ pub record ReadsBack (format : Format) : Type 0 where
   pub message : (m : Message) → length m < 256 → AllFit format m → read_message format (map kind_of m) (message_bytes format m) ≡ read m
   -- what is asked is read as what was asked
   pub operation : (operation : Operation) → AllFit format (input_of operation)
-      → operation_of format (opcode_of operation) (operation_body format operation) ≡ some operation
+      → operation_of format (opcode_of operation) (operation_body format operation) ≡ Some operation
   -- what a response carries is read as what it carries, whatever its status
   pub answer : (opcode status : ℕ) (output : Output) → Carries opcode status output → AllFit format (message_of output)
-      → answer_of format opcode status (output_bytes format output) ≡ some output
+      → answer_of format opcode status (output_bytes format output) ≡ Some output
 
 -- ---- document 02, "Where the body broke"
 

@@ -1,7 +1,6 @@
 -- "Operations and their fields"; document 02, "Checking signatures": what each operation asks and answers, and the fields of its
 -- bodies.
-use Rattle.std.specs.Prelude.{ℕ, ◌≡◌, List, [], ◌∷◌, length, eqb}
-use Rattle.std.proofs.Math.Option.{Option, none, some}
+use Rattle.std.specs.Prelude.{ℕ, ◌≡◌, List, [], ◌∷◌, length, eqb, Option, Some, None}
 use Rattle.wire.specs.Choice.{when◌then◌else◌}
 use Rattle.keys.specs.Key.{Key}
 use Rattle.messages.specs.Message.{uint32, bool, bytes, uint32s, number, flag, octets, numbers, Schema, Message, number_of, flag_of, octets_of, numbers_of, value_at}
@@ -66,8 +65,8 @@ key_of m = record {
 }
 
 abbrev pub when_read : {A : Type 0} → (Message → A) → Reading → Option A
-when_read f (read message) = some (f message)
-when_read f (broken at) = none
+when_read f (read message) = Some (f message)
+when_read f (broken at) = None
 
 -- what `f` makes of a readable body
 unfoldable pub read_body : {A : Type 0} → Format → Schema → (body : List ℕ) → (Message → A) → Option A
@@ -107,8 +106,8 @@ unfoldable pub asked : Format → (opcode : ℕ) (body : List ℕ) → Asking
 asked format opcode body = asking_by opcode (read_message format (input_fields opcode) body)
 
 abbrev pub operation_in : Asking → Option Operation
-operation_in (asks operation) = some operation
-operation_in (garbled at) = none
+operation_in (asks operation) = Some operation
+operation_in (garbled at) = None
 
 -- the operation that a listed opcode and a readable body ask for
 unfoldable pub operation_of : Format → (opcode : ℕ) (body : List ℕ) → Option Operation
@@ -164,7 +163,7 @@ output_of format opcode body =
     else when eqb opcode 3 then read_body format [] body (λ m. nothing)
     else when eqb opcode 7 then read_body format (bytes ∷ []) body (λ m. exported (octets_of (value_at m 1)))
     else when eqb opcode 5 then read_body format [] body (λ m. nothing)
-    else none
+    else None
 
 -- with status 7
 unfoldable pub offset_of : Format → (body : List ℕ) → Option Output
@@ -175,5 +174,5 @@ unfoldable pub answer_of : Format → (opcode status : ℕ) (body : List ℕ) �
 answer_of format opcode status body =
     when eqb status 0 then output_of format opcode body
     else when eqb status 7 then offset_of format body
-    else when eqb (length body) 0 then some nothing
-    else none
+    else when eqb (length body) 0 then Some nothing
+    else None

@@ -1,30 +1,25 @@
 -- An operation or an output told by its places in the bytes that it was read from, and a list taken apart.
-use Rattle.std.specs.Prelude.{ℕ, ◌+◌, ◌%◌, ◌^◌, ◌≤◌, List, [], ◌∷◌, ◌++◌, length, take, drop}
-use Rattle.std.proofs.Math.Option.{Option, none, some}
+use Rattle.std.specs.Prelude.{ℕ, ◌+◌, ◌%◌, ◌^◌, ◌≤◌, List, [], ◌∷◌, ◌++◌, length, take, drop, Option, Some, None, Result, Ok, Err}
 use Rattle.wire.specs.Scan.{Turn, on, out, scan_at}
 use Rattle.wire.specs.Lists.{over}
 use Rattle.protobuf.specs.Varint.{varint_at}
-use Rattle.protobuf.specs.declared.varint.Varint.{Varint}
-use Rattle.protobuf.specs.declared.varint.Varint.TheVariants.{Read as readVarint, Unreadable as noVarint}
-use Rattle.messages.specs.Operations.{ping, list_providers, list_opcodes, import_key, destroy_key, export_public_key, verify_signature, Asking, asks, garbled, Output, nothing, version, providers, opcodes, exported, offset}
+use Rattle.messages.specs.Operations.{Operation, ping, list_providers, list_opcodes, import_key, destroy_key, export_public_key, verify_signature, Asking, asks, garbled, Output, nothing, version, providers, opcodes, exported, offset}
 use Rattle.keys.specs.Key.{Key}
 use Rattle.messages.specs.Tagged.{fours}
 use Rattle.messages.specs.declared.format.BodyFormat.{BodyFormat}
 use Rattle.messages.specs.declared.format.BodyFormat.TheVariants.{Protobuf, Tagged}
-use Rattle.messages.specs.declared.read.Span.{Span}
+use Rattle.wire.specs.declared.span.Span.{Span}
 use Rattle.messages.specs.declared.ask.KeyPlaces.{KeyPlaces}
 use Rattle.messages.specs.declared.ask.Asked.{Asked}
-use Rattle.messages.specs.declared.ask.Asked.TheVariants.{Ping, ListProviders, ListOpcodes, ImportKey, DestroyKey, ExportPublicKey, VerifySignature, Unreadable as notAsked}
+use Rattle.messages.specs.declared.ask.Asked.TheVariants.{Ping, ListProviders, ListOpcodes, ImportKey, DestroyKey, ExportPublicKey, VerifySignature}
 use Rattle.messages.specs.declared.read.Output.{Output as OutputPlaces}
 use Rattle.messages.specs.declared.read.Output.TheVariants.{Nothing, Version, Providers, Opcodes, Data, Offset}
-use Rattle.messages.specs.declared.read.OutputRead.{OutputRead}
-use Rattle.messages.specs.declared.read.OutputRead.TheVariants.{Read, Unreadable}
 
 -- ---- a list taken apart, as far as it can be read
 
-abbrev pub entry_turn : List ℕ → Varint → Turn (List ℕ) (List ℕ)
-entry_turn ns (readVarint v next) = on (ns ++ (v % 2 ^ 32 ∷ [])) next
-entry_turn ns noVarint = out ns
+abbrev pub entry_turn : List ℕ → Option (ℕ × ℕ) → Turn (List ℕ) (List ℕ)
+entry_turn ns (Some (v, next)) = on (ns ++ (v % 2 ^ 32 ∷ [])) next
+entry_turn ns None = out ns
 
 -- of a packed one the entries up to the first that is no varint
 unfoldable pub first_entries : (packed : List ℕ) → List ℕ
@@ -58,15 +53,18 @@ key_in bytes key = record {
   verify_allowed = key.verified;
 }
 
-abbrev pub asking_in : (bytes : List ℕ) → Asked → Asking
-asking_in bytes Ping = asks ping
-asking_in bytes ListProviders = asks list_providers
-asking_in bytes (ListOpcodes provider) = asks (list_opcodes provider)
-asking_in bytes (ImportKey key) = asks (import_key (key_in bytes key))
-asking_in bytes (DestroyKey name) = asks (destroy_key (span_in bytes name))
-asking_in bytes (ExportPublicKey name) = asks (export_public_key (span_in bytes name))
-asking_in bytes (VerifySignature name hash signature) = asks (verify_signature (span_in bytes name) (span_in bytes hash) (span_in bytes signature))
-asking_in bytes (notAsked at) = garbled at
+abbrev pub operation_at : (bytes : List ℕ) → Asked → Operation
+operation_at bytes Ping = ping
+operation_at bytes ListProviders = list_providers
+operation_at bytes (ListOpcodes provider) = list_opcodes provider
+operation_at bytes (ImportKey key) = import_key (key_in bytes key)
+operation_at bytes (DestroyKey name) = destroy_key (span_in bytes name)
+operation_at bytes (ExportPublicKey name) = export_public_key (span_in bytes name)
+operation_at bytes (VerifySignature name hash signature) = verify_signature (span_in bytes name) (span_in bytes hash) (span_in bytes signature)
+
+abbrev pub asking_in : (bytes : List ℕ) → Result Asked ℕ → Asking
+asking_in bytes (Ok asked) = asks (operation_at bytes asked)
+asking_in bytes (Err at) = garbled at
 
 -- the entries of the list that lies there, as `read_list` takes it apart
 abbrev pub list_in : BodyFormat → (bytes : List ℕ) → Span → List ℕ
@@ -80,24 +78,27 @@ output_in format bytes (Opcodes span) = opcodes (list_in format bytes span)
 output_in format bytes (Data span) = exported (span_in bytes span)
 output_in format bytes (Offset at) = offset at
 
-abbrev pub read_in : BodyFormat → (bytes : List ℕ) → OutputRead → Option Output
-read_in format bytes (Read output) = some (output_in format bytes output)
-read_in format bytes Unreadable = none
+abbrev pub read_in : BodyFormat → (bytes : List ℕ) → Option OutputPlaces → Option Output
+read_in format bytes (Some output) = Some (output_in format bytes output)
+read_in format bytes None = None
 
 -- ---- they lie within so many bytes
 
 abbrev pub SpanWithin : (most : ℕ) → Span → Type 0
 SpanWithin most span = span.start + span.len ≤ most
 
-abbrev pub AskedWithin : (most : ℕ) → Asked → Type 0
-AskedWithin most Ping = Unit {0}
-AskedWithin most ListProviders = Unit {0}
-AskedWithin most (ListOpcodes provider) = Unit {0}
-AskedWithin most (ImportKey key) = SpanWithin most key.name × SpanWithin most key.bytes
-AskedWithin most (DestroyKey name) = SpanWithin most name
-AskedWithin most (ExportPublicKey name) = SpanWithin most name
-AskedWithin most (VerifySignature name hash signature) = SpanWithin most name × SpanWithin most hash × SpanWithin most signature
-AskedWithin most (notAsked at) = at ≤ most
+abbrev pub OperationWithin : (most : ℕ) → Asked → Type 0
+OperationWithin most Ping = Unit {0}
+OperationWithin most ListProviders = Unit {0}
+OperationWithin most (ListOpcodes provider) = Unit {0}
+OperationWithin most (ImportKey key) = SpanWithin most key.name × SpanWithin most key.bytes
+OperationWithin most (DestroyKey name) = SpanWithin most name
+OperationWithin most (ExportPublicKey name) = SpanWithin most name
+OperationWithin most (VerifySignature name hash signature) = SpanWithin most name × SpanWithin most hash × SpanWithin most signature
+
+abbrev pub AskedWithin : (most : ℕ) → Result Asked ℕ → Type 0
+AskedWithin most (Ok asked) = OperationWithin most asked
+AskedWithin most (Err at) = at ≤ most
 
 abbrev pub OutputWithin : (most : ℕ) → OutputPlaces → Type 0
 OutputWithin most Nothing = Unit {0}
@@ -107,6 +108,6 @@ OutputWithin most (Opcodes span) = SpanWithin most span
 OutputWithin most (Data span) = SpanWithin most span
 OutputWithin most (Offset at) = Unit {0}
 
-abbrev pub ReadWithin : (most : ℕ) → OutputRead → Type 0
-ReadWithin most (Read output) = OutputWithin most output
-ReadWithin most Unreadable = Unit {0}
+abbrev pub ReadWithin : (most : ℕ) → Option OutputPlaces → Type 0
+ReadWithin most (Some output) = OutputWithin most output
+ReadWithin most None = Unit {0}

@@ -1,7 +1,6 @@
 -- Format 2 (document 02, "A second body format"): a record for each field, its tag the field's number; fields strictly ascending,
 -- zero values left out, anything else unreadable.
-use Rattle.std.specs.Prelude.{ℕ, ◌+◌, ◌-◌, ◌/◌, ◌%◌, ◌^◌, Bool, true, not, ◌&&◌, length, drop, ltb, leb, eqb}
-use Rattle.std.proofs.Math.Option.{Option, none, some}
+use Rattle.std.specs.Prelude.{ℕ, ◌+◌, ◌-◌, ◌/◌, ◌%◌, ◌^◌, Bool, true, not, ◌&&◌, length, drop, ltb, leb, eqb, Option, Some, None}
 use mathlib.Core.List.{List, [], ◌∷◌, ◌++◌, map, flat_map}
 use Rattle.wire.specs.Choice.{when◌then◌else◌}
 use Rattle.wire.specs.Lists.{same, blocks}
@@ -30,7 +29,7 @@ abbrev pub fours : List ℕ → List ℕ
 fours s = map little_endian (blocks (length s / 4) 4 s)
 
 abbrev pub given : Bool → Value → Option Value
-given test value = when test then some value else none
+given test value = when test then Some value else None
 
 -- a present zero, false or empty value is not read
 abbrev pub of_value : List ℕ → Kind → Option Value

@@ -3,6 +3,7 @@ ghost use Rattle.std.specs.Prelude.{◌≡◌, ◌++◌};
 ghost use Rattle.wire.specs.Lists.{one_of};
 ghost use Rattle.messages.specs.Opcodes.{core_opcodes, keystore_opcodes, opcodes_of};
 
+// Kept as numbers: a header's opcode may be none of these, and what takes one answers for each number.
 pub const PING: u16 = 1;
 
 pub const LIST_PROVIDERS: u16 = 8;
@@ -27,48 +28,38 @@ pub const KEYSTORE: [u8; 4] = [
     PSA_EXPORT_PUBLIC_KEY as u8,
 ];
 
+#[tactic(auto, unfolding(wire::specs::Lists::one_of))]
 pub fn is_core(opcode: u16) -> bool
     ensures { result ≡ one_of core_opcodes opcode }
 {
-    if opcode == PING {
-        return true;
-    }
-    if opcode == LIST_PROVIDERS {
-        return true;
-    }
-    opcode == LIST_OPCODES
+    matches!(opcode, PING | LIST_PROVIDERS | LIST_OPCODES)
 }
 
+#[tactic(auto, unfolding(wire::specs::Lists::one_of))]
 fn is_keystore(opcode: u16) -> bool
     ensures { result ≡ one_of keystore_opcodes opcode }
 {
-    if opcode == PSA_DESTROY_KEY {
-        return true;
-    }
-    if opcode == PSA_ASYMMETRIC_VERIFY {
-        return true;
-    }
-    if opcode == PSA_IMPORT_KEY {
-        return true;
-    }
-    opcode == PSA_EXPORT_PUBLIC_KEY
+    matches!(
+        opcode,
+        PSA_DESTROY_KEY | PSA_ASYMMETRIC_VERIFY | PSA_IMPORT_KEY | PSA_EXPORT_PUBLIC_KEY
+    )
 }
 
+#[tactic(auto, unfolding(wire::specs::Lists::one_of))]
 pub fn is_listed(opcode: u16) -> bool
     ensures { result ≡ one_of (core_opcodes ++ keystore_opcodes) opcode }
 {
-    if is_core(opcode) {
-        return true;
-    }
-    is_keystore(opcode)
+    is_core(opcode) || is_keystore(opcode)
 }
 
 // Whether a provider that there is has the operation.
+#[tactic(auto, unfolding(crate::specs::Opcodes::opcodes_of))]
 pub fn is_opcode_of(provider: u8, opcode: u16) -> bool
     ensures { result ≡ one_of (opcodes_of provider) opcode }
 {
     if provider == 0 {
-        return is_core(opcode);
+        is_core(opcode)
+    } else {
+        is_keystore(opcode)
     }
-    is_keystore(opcode)
 }

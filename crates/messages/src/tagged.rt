@@ -1,7 +1,6 @@
 // Format 2: a record for each field, its tag the field's number; read where it lies, and written (document 02, "A second body
 // format").
-ghost use Rattle.std.specs.Prelude.{◌≡◌, ℕ, ◌+◌, ◌*◌, ◌^◌, ◌<◌, ◌≤◌, length, take, drop};
-ghost use Rattle.std.proofs.Math.Option.{bind};
+ghost use Rattle.std.specs.Prelude.{◌≡◌, ℕ, ◌+◌, ◌*◌, ◌^◌, ◌<◌, ◌≤◌, length, take, drop, option_and_then};
 ghost use mathlib.Core.List.{List, ◌∷◌, flat_map};
 ghost use Rattle.wire.specs.Numbers.{little_endian_of};
 ghost use Rattle.wire.specs.code.Wrote.{Wrote};
@@ -12,129 +11,94 @@ ghost use Rattle.messages.specs.Tagged as tagged;
 ghost use Rattle.messages.specs.code.Places.{schema_placed, NoLists, seen};
 ghost use Rattle.messages.specs.code.TaggedPlaces.{kind_in, found_in, FoundWithin, field_placed, field_in, FieldWithin};
 
-use fields::{Body, Kind, Schema, Value, all_absent, kind_of, with_value};
+use fields::{Kind, Schema, Value, Values, all_absent, kind_of, with_value};
 use records::file::{is_whole, record_length};
 use wire::bytes::copy_into;
 use wire::number::{bytes_of_u32, read_u32};
 
-// The value that bytes stand for.
-#[derive(Clone, Copy)]
-enum Found {
-    At(Value),
-    Nothing,
-}
-
-// A field, and the position behind it.
-#[derive(Clone, Copy)]
-enum TaggedField {
-    At(u64, Value, usize),
-    Unreadable,
-}
-
 // The value of a kind in a part of the body: a zero, false or empty one is not read.
-fn value_as(body: &[u8], start: usize, len: usize, kind: Kind) -> Found
+#[tactic(auto, unfolding(wire::specs::Numbers::field))]
+fn value_as(body: &[u8], start: usize, len: usize, kind: Kind) -> Option<Value>
     requires { start + len ≤ length body.now }
-    ensures { (found_in body.now kind result ≡ bind (kind_in kind) (tagged.of_value (take len (drop start body.now)))) × FoundWithin (length body.now) kind result }
+    ensures { (found_in body.now kind result ≡ option_and_then (tagged.of_value (take len (drop start body.now))) (kind_in kind)) × FoundWithin (length body.now) kind result }
 {
     match kind {
-        Kind::Bytes => {
-            if len < 1 {
-                return Found::Nothing;
-            }
-            Found::At(Value {
-                start,
-                len,
-                number: 0,
-            })
-        }
-        Kind::Uint32 => {
-            if len != 4 {
-                return Found::Nothing;
-            }
+        Kind::Bytes if 1 <= len => Some(Value {
+            start,
+            len,
+            ..Value::default()
+        }),
+        Kind::Uint32 if len == 4 => {
             let number = read_u32(body, start);
             if number == 0 {
-                return Found::Nothing;
+                return None;
             }
-            Found::At(Value {
-                start: 0,
-                len: 0,
+            Some(Value {
                 number,
+                ..Value::default()
             })
         }
-        Kind::Boolean => {
-            if len != 1 {
-                return Found::Nothing;
-            }
-            if body[start] != 1 {
-                return Found::Nothing;
-            }
-            Found::At(Value {
-                start: 0,
-                len: 0,
-                number: 1,
-            })
-        }
-        Kind::Unlisted => Found::Nothing,
+        Kind::Boolean if len == 1 && body[start] == 1 => Some(Value {
+            number: 1,
+            ..Value::default()
+        }),
+        _ => None,
     }
 }
 
 // The field at `at`.
-fn read_tagged_field(body: &[u8], at: usize, schema: Schema) -> TaggedField
+fn read_tagged_field(body: &[u8], at: usize, schema: Schema) -> Option<(u64, Value, usize)>
     requires { at < length body.now }
     ensures { (field_in body.now schema result ≡ field_placed schema body.now at) × FieldWithin (length body.now) at schema result }
 {
     let rest = &body[at..];
     if !is_whole(rest) {
-        return TaggedField::Unreadable;
+        return None;
     }
     let size = record_length(rest);
-    let number = rest[0] as u64;
-    let start = at + 3;
-    match value_as(body, start, size - 3, kind_of(schema, number)) {
-        Found::At(value) => TaggedField::At(number, value, at + size),
-        Found::Nothing => TaggedField::Unreadable,
-    }
+    let number = u64::from(rest[0]);
+    let value = value_as(body, at + 3, size - 3, kind_of(schema, number))?;
+    Some((number, value, at + size))
 }
 
 // The body read as a message of the schema: fields ascend.
-pub fn read_tagged(body: &[u8], schema: Schema) -> Body
+pub fn read_tagged(body: &[u8], schema: Schema) -> Result<Values, usize>
     ensures { ((kinds : message.Schema) → schema ≡ schema_placed kinds → length kinds ≤ 5 → NoLists kinds → seen body.now kinds result ≡ read_message tagged.tagged kinds body.now) × BodyIn (length body.now) result }
 {
     let mut m = all_absent();
     let mut last: u64 = 0;
     let mut at = 0;
     while at < body.len() {
-        match read_tagged_field(body, at, schema) {
-            TaggedField::At(number, value, next) => {
-                if number <= last {
-                    return Body::Unreadable(at);
-                }
-                m = with_value(m, number, value);
-                last = number;
-                at = next;
-            }
-            TaggedField::Unreadable => {
-                return Body::Unreadable(at);
-            }
+        let Some((number, value, next)) = read_tagged_field(body, at, schema) else {
+            return Err(at);
+        };
+        if number <= last {
+            return Err(at);
         }
+        m = with_value(m, number, value);
+        last = number;
+        at = next;
     }
-    Body::Message(m)
+    Ok(m)
 }
 
 // The tag and the length of a record.
+#[tactic(auto, unfolding(wire::specs::Numbers::little_endian_of))]
 fn record_head(number: u8, len: u16) -> [u8; 3]
     ensures { result ≡ number ∷ little_endian_of 2 len }
 {
-    [number, (len % 256) as u8, (len / 256) as u8]
+    let [low, high] = len.to_le_bytes();
+    [number, low, high]
 }
 
 // A field of these bytes; none are left out.
+#[tactic(auto, using(crate::proofs::TaggedLaws::tagged_none, wire::proofs::BufferLaws::wrote_none))]
 pub fn write_tagged(out: &mut [u8], number: u8, value: &[u8]) -> usize
     requires { (length value.now < 2 ^ 16) × (length value.now + 3 ≤ length out.old) }
     ensures { Wrote (tagged.tagged_field number value.now) out.old out.new result }
 {
     let len = value.len();
-    if len < 1 {
+    if len == 0 {
         return 0;
     }
     let head = record_head(number, len as u16);
@@ -144,17 +108,16 @@ pub fn write_tagged(out: &mut [u8], number: u8, value: &[u8]) -> usize
 }
 
 // How many bytes a field of `len` bytes takes.
+#[tactic(auto, using(crate::proofs::TaggedLaws::tagged_none, crate::proofs::TaggedWriteLaws::tagged_length))]
 pub fn tagged_size(len: usize) -> usize
     requires { len < 2 ^ 32 }
     ensures { ((number : ℕ) (bytes : List ℕ) → length bytes ≡ len → result ≡ length (tagged.tagged_field number bytes)) × (result ≤ len + 3) }
 {
-    if len < 1 {
-        return 0;
-    }
-    len + 3
+    if len == 0 { 0 } else { len + 3 }
 }
 
 // A number's field; 0 is left out.
+#[tactic(auto, using(crate::proofs::TaggedLaws::tagged_none, wire::proofs::BufferLaws::wrote_none))]
 pub fn write_tagged_number(out: &mut [u8], number: u8, value: u32) -> usize
     requires { 7 ≤ length out.old }
     ensures { Wrote (tagged.tagged_field number (tagged.value_bytes (message.number value))) out.old out.new result }
@@ -162,11 +125,11 @@ pub fn write_tagged_number(out: &mut [u8], number: u8, value: u32) -> usize
     if value == 0 {
         return 0;
     }
-    let bytes = bytes_of_u32(value);
-    write_tagged(out, number, &bytes)
+    write_tagged(out, number, &bytes_of_u32(value))
 }
 
 // A bool's; false is left out.
+#[tactic(auto, using(crate::proofs::TaggedLaws::tagged_none, wire::proofs::BufferLaws::wrote_none))]
 pub fn write_tagged_flag(out: &mut [u8], number: u8, value: bool) -> usize
     requires { 4 ≤ length out.old }
     ensures { Wrote (tagged.tagged_field number (tagged.value_bytes (message.flag value))) out.old out.new result }
@@ -174,8 +137,7 @@ pub fn write_tagged_flag(out: &mut [u8], number: u8, value: bool) -> usize
     if !value {
         return 0;
     }
-    let one = [1u8];
-    write_tagged(out, number, &one)
+    write_tagged(out, number, &[1])
 }
 
 // The entries of a list, four bytes each.
@@ -184,12 +146,8 @@ fn write_entries(out: &mut [u8], list: &[u8]) -> usize
     ensures { Wrote (flat_map (little_endian_of 4) list.now) out.old out.new result }
 {
     let mut at = 0;
-    let mut i = 0;
-    while i < list.len() {
-        let entry = bytes_of_u32(list[i] as u32);
-        let size = copy_into(&mut out[at..], &entry);
-        at += size;
-        i += 1;
+    for entry in list {
+        at += copy_into(&mut out[at..], &bytes_of_u32(u32::from(*entry)));
     }
     at
 }
@@ -200,7 +158,7 @@ pub fn write_tagged_list(out: &mut [u8], number: u8, list: &[u8]) -> usize
     ensures { Wrote (tagged.tagged_field number (tagged.value_bytes (message.numbers list.now))) out.old out.new result }
 {
     let len = list.len();
-    if len < 1 {
+    if len == 0 {
         return 0;
     }
     let head = record_head(number, (4 * len) as u16);

@@ -1,4 +1,6 @@
 // The bodies of requests and of responses, written over the front of a lent buffer ("Operations and their fields").
+// Kept: `length bytes.now < 2 ^ 16` and the room stand in each contract, since a type for short bytes, or for a buffer with room, would
+// ask each caller to make one; and sizes are added up, since a writer with a place in it would hold the same two numbers.
 ghost use Rattle.std.specs.Prelude.{◌≡◌, true, [], ◌∷◌, ◌+◌, ◌*◌, ◌^◌, ◌<◌, ◌≤◌, length, ltb};
 ghost use Rattle.wire.specs.Lists.{all};
 ghost use Rattle.wire.specs.code.Wrote.{Wrote};
@@ -11,6 +13,7 @@ ghost use Rattle.messages.specs.code.Bodies.{field_room, bytes_body_room, key_nu
 use crate::format::{BodyFormat, bytes_size, write_bytes, write_flag, write_list, write_number};
 
 // ListOpcodes' body.
+#[tactic(auto, using(crate::proofs::WriteLaws::provider_body))]
 pub fn write_provider_body(format: BodyFormat, out: &mut [u8], provider: u32) -> usize
     requires { field_room ≤ length out.old }
     ensures { Wrote (operation_body (format_of format) (list_opcodes provider)) out.old out.new result }
@@ -19,6 +22,7 @@ pub fn write_provider_body(format: BodyFormat, out: &mut [u8], provider: u32) ->
 }
 
 // Destroy's and Export's; and Export's output.
+#[tactic(auto, using(crate::proofs::WriteLaws::one_body))]
 pub fn write_bytes_body(format: BodyFormat, out: &mut [u8], bytes: &[u8]) -> usize
     requires { (length bytes.now < 2 ^ 16) × (bytes_body_room bytes.now ≤ length out.old) }
     ensures { Wrote (message_bytes (format_of format) (octets bytes.now ∷ [])) out.old out.new result }
@@ -44,7 +48,7 @@ fn write_key_numbers(
     behind + third
 }
 
-// Import's.
+// Import's. Kept: a key's parts come one by one, as the C function that asks for the import has them.
 pub fn write_key_body(
     format: BodyFormat,
     out: &mut [u8],
@@ -104,6 +108,7 @@ pub fn write_version_body(format: BodyFormat, out: &mut [u8], major: u32, minor:
 }
 
 // ListProviders' and ListOpcodes' output, of numbers below 128.
+#[tactic(auto, using(crate::proofs::WriteLaws::one_body))]
 pub fn write_list_body(format: BodyFormat, out: &mut [u8], list: &[u8]) -> usize
     requires { (all (λ n. ltb n 128) list.now ≡ true) × (4 * length list.now < 2 ^ 16) × (list_body_room list.now ≤ length out.old) }
     ensures { Wrote (message_bytes (format_of format) (numbers list.now ∷ [])) out.old out.new result }
@@ -112,6 +117,7 @@ pub fn write_list_body(format: BodyFormat, out: &mut [u8], list: &[u8]) -> usize
 }
 
 // Where a body broke.
+#[tactic(auto, using(crate::proofs::WriteLaws::offset_body))]
 pub fn write_offset_body(format: BodyFormat, out: &mut [u8], at: u32) -> usize
     requires { field_room ≤ length out.old }
     ensures { Wrote (output_bytes (format_of format) (offset at)) out.old out.new result }

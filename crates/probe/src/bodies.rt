@@ -7,11 +7,11 @@ ghost use Rattle.probe.specs.code.Answers.{number_most, WroteIf};
 ghost use Rattle.probe.specs.code.Numbers.{varint_numbers, body_numbers, schema_of};
 
 use crate::REFUSED;
-use fields::{Body, Schema};
+use fields::Schema;
 use messages::ask::input_schema;
 use messages::opcodes::{LIST_OPCODES, PING, PSA_EXPORT_PUBLIC_KEY, PSA_IMPORT_KEY};
 use protobuf::body::read_body;
-use protobuf::varint::{Varint, read_varint};
+use protobuf::varint::read_varint;
 use protobuf::write::{write_bytes_field, write_number_field, write_varint};
 
 // The largest field number.
@@ -23,10 +23,10 @@ pub extern "C" fn probe_read_varint(s: &[u8], at: usize, out: &mut [u64; 3])
     ensures { out.new ≡ varint_numbers (varint_at s.now at) }
 {
     match read_varint(s, at) {
-        Varint::Read(value, next) => {
+        Some((value, next)) => {
             *out = [1, value, next as u64];
         }
-        Varint::Unreadable => {
+        None => {
             *out = [0, 0, 0];
         }
     }
@@ -36,16 +36,12 @@ pub extern "C" fn probe_read_varint(s: &[u8], at: usize, out: &mut [u64; 3])
 fn schema_of(n: u8) -> Schema
     ensures { result ≡ schema_of n }
 {
-    if n == 1 {
-        return input_schema(LIST_OPCODES);
+    match n {
+        1 => input_schema(LIST_OPCODES),
+        2 => input_schema(PSA_IMPORT_KEY),
+        3 => input_schema(PSA_EXPORT_PUBLIC_KEY),
+        _ => input_schema(PING),
     }
-    if n == 2 {
-        return input_schema(PSA_IMPORT_KEY);
-    }
-    if n == 3 {
-        return input_schema(PSA_EXPORT_PUBLIC_KEY);
-    }
-    input_schema(PING)
 }
 
 // The body `s` read against a schema: 1, then start, count and number of each of the five values; or 0 and where the tag
@@ -55,7 +51,7 @@ pub extern "C" fn probe_read_body(s: &[u8], schema: u8, out: &mut [u64; 16])
     ensures { out.new ≡ body_numbers (body_of (schema_of schema) s.now) }
 {
     match read_body(s, schema_of(schema)) {
-        Body::Message(v) => {
+        Ok(v) => {
             *out = [
                 1,
                 v.f1.start as u64,
@@ -75,7 +71,7 @@ pub extern "C" fn probe_read_body(s: &[u8], schema: u8, out: &mut [u64; 16])
                 v.f5.number as u64,
             ];
         }
-        Body::Unreadable(at) => {
+        Err(at) => {
             *out = [0, at as u64, 0, 0, 0, 0, 0, 0, 0, 0, 0, 0, 0, 0, 0, 0];
         }
     }
@@ -95,10 +91,7 @@ pub extern "C" fn probe_write_varint(out: &mut [u8], n: u64) -> usize
 pub extern "C" fn probe_write_number_field(out: &mut [u8], number: u64, value: u64) -> usize
     ensures { WroteIf (leb number number_most && leb 20 (length out.old)) (number_field number value) out.old out.new result }
 {
-    if NUMBER_MOST < number {
-        return REFUSED;
-    }
-    if out.len() < 20 {
+    if NUMBER_MOST < number || out.len() < 20 {
         return REFUSED;
     }
     write_number_field(out, number, value)
@@ -108,13 +101,7 @@ pub extern "C" fn probe_write_number_field(out: &mut [u8], number: u64, value: u
 pub extern "C" fn probe_write_bytes_field(out: &mut [u8], number: u64, bytes: &[u8]) -> usize
     ensures { WroteIf (leb number number_most && (leb 20 (length out.old) && leb (length bytes.now) (length out.old - 20))) (bytes_field number bytes.now) out.old out.new result }
 {
-    if NUMBER_MOST < number {
-        return REFUSED;
-    }
-    if out.len() < 20 {
-        return REFUSED;
-    }
-    if out.len() - 20 < bytes.len() {
+    if NUMBER_MOST < number || out.len() < 20 || out.len() - 20 < bytes.len() {
         return REFUSED;
     }
     write_bytes_field(out, number, bytes)

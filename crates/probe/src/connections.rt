@@ -3,7 +3,7 @@ ghost use Rattle.std.specs.Prelude.{◌≡◌};
 ghost use Rattle.connection.specs.Connection.{well_formed_connection, open_connection};
 ghost use Rattle.probe.specs.code.Answers.{is_fresh};
 
-use connection::change::{Opened, open_connection};
+use connection::change::open_connection;
 use connection::check::is_well_formed;
 
 #[unsafe(no_mangle)]
@@ -17,8 +17,5 @@ pub extern "C" fn probe_connection_is_well_formed(memory: &[u8]) -> bool
 pub extern "C" fn probe_open_connection(memory: &mut [u8]) -> bool
     ensures { (result ≡ is_fresh (open_connection memory.old).answer) × (memory.new ≡ (open_connection memory.old).memory) }
 {
-    match open_connection(memory) {
-        Opened::Fresh => true,
-        Opened::WrongSize => false,
-    }
+    open_connection(memory).is_ok()
 }

@@ -1,5 +1,5 @@
-// The leaves, exported for tests and benchmarks; no part of the product. An enum comes back as numbers. Input that a leaf's
-// `requires` forbids is answered by `false` or by REFUSED, with nothing written, or by zeros where the answer is an array.
+// The leaves, exported for tests and benchmarks; no part of the product. An enum comes back as numbers, since C reads it so. Input
+// that a leaf's `requires` forbids is answered by `false` or by REFUSED, with nothing written, or by zeros where the answer is an array.
 #![tactic(auto)]
 
 pub mod bodies;

@@ -11,9 +11,8 @@ use registry::change::{clear_slot, fill_slot};
 use registry::check::is_well_formed;
 use registry::find::{find_application, find_slot};
 use registry::key::{is_exportable, key_data};
-use registry::{Application, Found, LINES, Line, REGISTRY_SIZE, SLOTS, Slot};
-use roster::Loaded;
-use roster::load::{fault_number, load_roster};
+use registry::{LINES, Line, REGISTRY_SIZE, SLOTS, Slot};
+use roster::load::load_roster;
 use wire::bytes::copy_into;
 
 #[unsafe(no_mangle)]
@@ -32,8 +31,8 @@ pub extern "C" fn probe_find_application(registry: &[u8], name: &[u8]) -> usize
         return REFUSED;
     }
     match find_application(registry, name) {
-        Application::Named(line) => line.0,
-        Application::Unknown => LINES,
+        Some(line) => line.0,
+        None => LINES,
     }
 }
 
@@ -42,15 +41,12 @@ pub extern "C" fn probe_find_application(registry: &[u8], name: &[u8]) -> usize
 pub extern "C" fn probe_find_slot(registry: &[u8], line: usize, name: &[u8]) -> usize
     ensures { result ≡ slot_found registry.now line name.now }
 {
-    if registry.len() != REGISTRY_SIZE {
-        return REFUSED;
-    }
-    if LINES <= line {
+    if registry.len() != REGISTRY_SIZE || LINES <= line {
         return REFUSED;
     }
     match find_slot(registry, Line(line), name) {
-        Found::At(slot) => slot.0,
-        Found::Nothing => SLOTS,
+        Some(slot) => slot.0,
+        None => SLOTS,
     }
 }
 
@@ -67,19 +63,12 @@ pub extern "C" fn probe_fill_slot(
 ) -> bool
     ensures { ChangedIf (is_fillable registry.old line slot name.now bytes.now) (filled registry.old line slot (key_from name.now bytes.now bits exported verified)) registry.old registry.new result }
 {
-    if registry.len() != REGISTRY_SIZE {
-        return false;
-    }
-    if LINES <= line {
-        return false;
-    }
-    if SLOTS <= slot {
-        return false;
-    }
-    if KEY_NAME_MOST < name.len() {
-        return false;
-    }
-    if DATA_MOST < bytes.len() {
+    if registry.len() != REGISTRY_SIZE
+        || LINES <= line
+        || SLOTS <= slot
+        || KEY_NAME_MOST < name.len()
+        || DATA_MOST < bytes.len()
+    {
         return false;
     }
     fill_slot(
@@ -99,13 +88,7 @@ pub extern "C" fn probe_fill_slot(
 pub extern "C" fn probe_clear_slot(registry: &mut [u8], line: usize, slot: usize) -> bool
     ensures { ChangedIf (is_clearable registry.old line slot) (cleared registry.old line slot) registry.old registry.new result }
 {
-    if registry.len() != REGISTRY_SIZE {
-        return false;
-    }
-    if LINES <= line {
-        return false;
-    }
-    if SLOTS <= slot {
+    if registry.len() != REGISTRY_SIZE || LINES <= line || SLOTS <= slot {
         return false;
     }
     clear_slot(registry, Line(line), Slot(slot));
@@ -117,13 +100,7 @@ pub extern "C" fn probe_clear_slot(registry: &mut [u8], line: usize, slot: usize
 pub extern "C" fn probe_key_data(registry: &[u8], line: usize, slot: usize, out: &mut [u8]) -> usize
     ensures { WroteIf (is_readable registry.now line slot && leb (length (data_at registry.now line slot)) (length out.old)) (data_at registry.now line slot) out.old out.new result }
 {
-    if !is_well_formed(registry) {
-        return REFUSED;
-    }
-    if LINES <= line {
-        return REFUSED;
-    }
-    if SLOTS <= slot {
+    if !is_well_formed(registry) || LINES <= line || SLOTS <= slot {
         return REFUSED;
     }
     let bytes = key_data(registry, Line(line), Slot(slot));
@@ -134,24 +111,15 @@ pub extern "C" fn probe_key_data(registry: &[u8], line: usize, slot: usize, out:
 }
 
 // 1 where the key in a slot may be exported, else 0.
+#[tactic(auto, unfolding(registry::specs::Slots::flag))]
 #[unsafe(no_mangle)]
 pub extern "C" fn probe_is_exportable(registry: &[u8], line: usize, slot: usize) -> usize
     ensures { result ≡ exportable registry.now line slot }
 {
-    if !is_well_formed(registry) {
+    if !is_well_formed(registry) || LINES <= line || SLOTS <= slot {
         return REFUSED;
     }
-    if LINES <= line {
-        return REFUSED;
-    }
-    if SLOTS <= slot {
-        return REFUSED;
-    }
-    if is_exportable(registry, Line(line), Slot(slot)) {
-        1
-    } else {
-        0
-    }
+    usize::from(is_exportable(registry, Line(line), Slot(slot)))
 }
 
 // The number of the fault, R0 to R5, or 6 for a good file.
@@ -160,7 +128,7 @@ pub extern "C" fn probe_load_roster(file: &[u8], registry: &mut [u8]) -> usize
     ensures { (result ≡ loaded_number (load_roster file.now registry.old).answer) × (registry.new ≡ (load_roster file.now registry.old).registry) }
 {
     match load_roster(file, registry) {
-        Loaded::Good => 6,
-        Loaded::Faulty(fault) => fault_number(fault) as usize,
+        Ok(()) => 6,
+        Err(fault) => u32::from(fault) as usize,
     }
 }

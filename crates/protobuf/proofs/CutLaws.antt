@@ -1,4 +1,5 @@
 -- What is read at a position is read there too where the body is cut behind it: varints, fields and groups.
+use Rattle.std.proofs.Common.{Option, Some, None}
 use Prim.Native.Nat.{ℕ, zero, suc, ◌+◌, ◌-◌, ◌/◌, ◌%◌, ◌^◌, ◌≤◌, ◌<◌}
 use native.Mathlib.Omega.{arith}
 use native.Mathlib.Decide.{dec_lt}
@@ -16,64 +17,60 @@ use Rattle.wire.proofs.TestLaws.{either}
 use Rattle.protobuf.specs.Varint.{below, varint_of, varint_at}
 use Rattle.protobuf.specs.Field.{varint_then, number_at, fixed_at, span_at, content_at, field_at}
 use Rattle.protobuf.specs.Group.{behind, in_group, group_at}
-use Rattle.protobuf.specs.declared.varint.Varint.{Varint}
-use Rattle.protobuf.specs.declared.varint.Varint.TheVariants.{Read, Unreadable as noVarint}
 use Rattle.protobuf.specs.declared.field.Field.{Field}
-use Rattle.protobuf.specs.declared.field.Field.TheVariants.{Number, Span, Fixed, GroupStart, GroupEnd, Unreadable}
-use Rattle.protobuf.specs.declared.group.Group.{Group}
-use Rattle.protobuf.specs.declared.group.Group.TheVariants.{Skipped, Unreadable as noGroup}
+use Rattle.protobuf.specs.declared.field.Field.TheVariants.{Number, Span, Fixed, GroupStart, GroupEnd}
 use Rattle.protobuf.proofs.FieldLaws.{VarintAhead, FieldAhead, FieldFrom, below_ahead, varint_ahead, content_from, field_ahead}
 use Rattle.protobuf.proofs.GroupLaws.{GroupAhead, group_ahead, group_deep, group_end, group_on}
 
 -- what ends within k bytes is the same in the cut
-abbrev VarintKept : (k : ℕ) (whole cut : Varint) → Type 0
-VarintKept k (Read v next) cut = next ≤ k → cut ≡ Read v next
-VarintKept k noVarint cut = Unit {0}
+abbrev VarintKept : (k : ℕ) (whole cut : Option (ℕ × ℕ)) → Type 0
+VarintKept k (Some (v, next)) cut = next ≤ k → cut ≡ Some (v, next)
+VarintKept k None cut = Unit {0}
 
-abbrev pub FieldKept : (k : ℕ) (whole cut : Field) → Type 0
-FieldKept k (Number n v next) cut = next ≤ k → cut ≡ Number n v next
-FieldKept k (Span n start len next) cut = next ≤ k → cut ≡ Span n start len next
-FieldKept k (Fixed n next) cut = next ≤ k → cut ≡ Fixed n next
-FieldKept k (GroupStart n next) cut = next ≤ k → cut ≡ GroupStart n next
-FieldKept k (GroupEnd n next) cut = next ≤ k → cut ≡ GroupEnd n next
-FieldKept k Unreadable cut = Unit {0}
+abbrev pub FieldKept : (k : ℕ) (whole cut : Option Field) → Type 0
+FieldKept k (Some (Number n v next)) cut = next ≤ k → cut ≡ Some (Number n v next)
+FieldKept k (Some (Span n start len next)) cut = next ≤ k → cut ≡ Some (Span n start len next)
+FieldKept k (Some (Fixed n next)) cut = next ≤ k → cut ≡ Some (Fixed n next)
+FieldKept k (Some (GroupStart n next)) cut = next ≤ k → cut ≡ Some (GroupStart n next)
+FieldKept k (Some (GroupEnd n next)) cut = next ≤ k → cut ≡ Some (GroupEnd n next)
+FieldKept k None cut = Unit {0}
 
-abbrev pub GroupKept : (k : ℕ) (whole cut : Group) → Type 0
-GroupKept k (Skipped next) cut = next ≤ k → cut ≡ Skipped next
-GroupKept k noGroup cut = Unit {0}
+abbrev pub GroupKept : (k : ℕ) (whole cut : Option ℕ) → Type 0
+GroupKept k (Some next) cut = next ≤ k → cut ≡ Some next
+GroupKept k None cut = Unit {0}
 
 -- ---- a varint
 
-below_kept : (k low : ℕ) (whole cut : Varint) → VarintKept k whole cut → VarintKept k (below low whole) (below low cut)
-below_kept k low (Read v next) cut h = λ l. ap (below low) (h l)
-below_kept k low noVarint cut h = tt
+below_kept : (k low : ℕ) (whole cut : Option (ℕ × ℕ)) → VarintKept k whole cut → VarintKept k (below low whole) (below low cut)
+below_kept k low (Some (v, next)) cut h = λ l. ap (below low) (h l)
+below_kept k low None cut h = tt
 
 -- ---- a field
 
-choose : (k : ℕ) (t : Bool) (a b c d : Field) → FieldKept k a b → FieldKept k c d → FieldKept k (when t then a else c) (when t then b else d)
+choose : (k : ℕ) (t : Bool) (a b c d : Option Field) → FieldKept k a b → FieldKept k c d → FieldKept k (when t then a else c) (when t then b else d)
 choose k true a b c d h g = h
 choose k false a b c d h g = g
 
 -- behind a varint, what is made of its value and the position behind it
 then-kept :
-    (k n : ℕ) (whole cut : Varint) (f g : ℕ → ℕ → Field) →
+    (k n : ℕ) (whole cut : Option (ℕ × ℕ)) (f g : ℕ → ℕ → Option Field) →
     VarintKept k whole cut →
-    ((v next : ℕ) → whole ≡ Read v next → FieldFrom n next (f v next)) →
-    ((v next : ℕ) → whole ≡ Read v next → FieldKept k (f v next) (g v next)) →
+    ((v next : ℕ) → whole ≡ Some (v, next) → FieldFrom n next (f v next)) →
+    ((v next : ℕ) → whole ≡ Some (v, next) → FieldKept k (f v next) (g v next)) →
     FieldKept k (varint_then whole f) (varint_then cut g)
-then-kept k n (Read v next) cut f g h from kept = go (f v next) (from v next refl) (kept v next refl)
+then-kept k n (Some (v, next)) cut f g h from kept = go (f v next) (from v next refl) (kept v next refl)
   where
     there : next ≤ k → varint_then cut g ≡ g v next
-    there l = ap (λ (x : Varint). varint_then x g) (h l)
+    there l = ap (λ (x : Option (ℕ × ℕ)). varint_then x g) (h l)
 
-    go : (w : Field) → FieldFrom n next w → FieldKept k w (g v next) → FieldKept k w (varint_then cut g)
-    go (Number a b c) r e = λ l. there (omega (arith, r.0)) ∙ e l
-    go (Span a b c d) r e = λ l. there (omega (arith, r.0)) ∙ e l
-    go (Fixed a b) r e = λ l. there (omega (arith, r.0)) ∙ e l
-    go (GroupStart a b) r e = λ l. there (omega (arith, r.0)) ∙ e l
-    go (GroupEnd a b) r e = λ l. there (omega (arith, r.0)) ∙ e l
-    go Unreadable r e = tt
-then-kept k n noVarint cut f g h from kept = tt
+    go : (w : Option Field) → FieldFrom n next w → FieldKept k w (g v next) → FieldKept k w (varint_then cut g)
+    go (Some (Number a b c)) r e = λ l. there (omega (arith, r.0)) ∙ e l
+    go (Some (Span a b c d)) r e = λ l. there (omega (arith, r.0)) ∙ e l
+    go (Some (Fixed a b)) r e = λ l. there (omega (arith, r.0)) ∙ e l
+    go (Some (GroupStart a b)) r e = λ l. there (omega (arith, r.0)) ∙ e l
+    go (Some (GroupEnd a b)) r e = λ l. there (omega (arith, r.0)) ∙ e l
+    go None r e = tt
+then-kept k n None cut f g h from kept = tt
 
 module _ (s : List ℕ) (k : ℕ) (short : k ≤ length s) where
   abbrev cut : List ℕ
@@ -85,23 +82,23 @@ module _ (s : List ℕ) (k : ℕ) (short : k ≤ length s) where
   same_byte : (at : ℕ) → at < k → get_or cut at 0 ≡ get_or s at 0
   same_byte at h = get_or-take k s at 0 h
 
-  varint_moved : (at : ℕ) (whole a b : Varint) → VarintAhead (length s) at whole → (at < k → b ≡ a) → VarintKept k whole a → VarintKept k whole b
-  varint_moved at (Read v next) a b r e h = λ l. e (omega (arith, r.behind)) ∙ h l
-  varint_moved at noVarint a b r e h = tt
+  varint_moved : (at : ℕ) (whole a b : Option (ℕ × ℕ)) → VarintAhead (length s) at whole → (at < k → b ≡ a) → VarintKept k whole a → VarintKept k whole b
+  varint_moved at (Some (v, next)) a b r e h = λ l. e (omega (arith, r.behind)) ∙ h l
+  varint_moved at None a b r e h = tt
 
   varint_kept : (more at : ℕ) → VarintKept k (varint_of more s at) (varint_of more cut at)
   unfolding varint_of
   varint_kept zero at =
-      either (λ (x : Varint). VarintKept k x (varint_of zero cut at)) (ltb at (length s))
-      (λ h. either (λ (x : Varint). VarintKept k x (varint_of zero cut at)) (leb (get_or s at 0) 1)
+      either (λ (x : Option (ℕ × ℕ)). VarintKept k x (varint_of zero cut at)) (ltb at (length s))
+      (λ h. either (λ (x : Option (ℕ × ℕ)). VarintKept k x (varint_of zero cut at)) (leb (get_or s at 0) 1)
       (λ e l.
       let here : at < length cut = omega (arith, cut_length) in
       rw (lt-ltb _ _ here, same_byte at (omega arith), e, varint_of))
       (λ _. tt))
       (λ _. tt)
   varint_kept (suc more) at =
-      either (λ (x : Varint). VarintKept k x (varint_of (suc more) cut at)) (ltb at (length s))
-      (λ h. either (λ (x : Varint). VarintKept k x (varint_of (suc more) cut at)) (ltb (get_or s at 0) 128)
+      either (λ (x : Option (ℕ × ℕ)). VarintKept k x (varint_of (suc more) cut at)) (ltb at (length s))
+      (λ h. either (λ (x : Option (ℕ × ℕ)). VarintKept k x (varint_of (suc more) cut at)) (ltb (get_or s at 0) 128)
       (λ e l.
       let here : at < length cut = omega (arith, cut_length) in
       rw (lt-ltb _ _ here, same_byte at (omega arith), e, varint_of))
@@ -117,13 +114,13 @@ module _ (s : List ℕ) (k : ℕ) (short : k ≤ length s) where
     number_kept : (at : ℕ) → FieldKept k (number_at s f at) (number_at cut f at)
     unfolding number_at
     number_kept at =
-        then-kept k (length s) (varint_at s at) (varint_at cut at) (λ v next. Number f v next) (λ v next. Number f v next) (varint_kept 9 at)
+        then-kept k (length s) (varint_at s at) (varint_at cut at) (λ v next. Some (Number f v next)) (λ v next. Some (Number f v next)) (varint_kept 9 at)
         (λ v next e. (omega arith, (rw e at (varint_ahead 9 s at)).within)) (λ v next e l. refl)
 
     fixed_kept : (size at : ℕ) → FieldKept k (fixed_at s f size at) (fixed_at cut f size at)
     unfolding fixed_at
     fixed_kept size at =
-        either (λ (x : Field). FieldKept k x (fixed_at cut f size at)) (leb (at + size) (length s))
+        either (λ (x : Option Field). FieldKept k x (fixed_at cut f size at)) (leb (at + size) (length s))
         (λ e l.
         let fits : at + size ≤ length cut = omega (arith, cut_length) in
         rw (le-leb _ _ fits, fixed_at))
@@ -133,11 +130,11 @@ module _ (s : List ℕ) (k : ℕ) (short : k ≤ length s) where
     unfolding span_at
     span_kept at =
         then-kept k (length s) (varint_at s at) (varint_at cut at)
-        (λ len start. when leb (start + len) (length s) then Span f start len (start + len) else Unreadable)
-        (λ len start. when leb (start + len) (length cut) then Span f start len (start + len) else Unreadable)
+        (λ len start. when leb (start + len) (length s) then Some (Span f start len (start + len)) else None)
+        (λ len start. when leb (start + len) (length cut) then Some (Span f start len (start + len)) else None)
         (varint_kept 9 at)
         (λ len start h. either (FieldFrom (length s) start) (leb (start + len) (length s)) (λ e. omega (arith, leb-true (start + len) (length s) e)) (λ _. tt))
-        (λ len start h. either (λ (x : Field). FieldKept k x (when leb (start + len) (length cut) then Span f start len (start + len) else Unreadable)) (leb (start + len) (length s))
+        (λ len start h. either (λ (x : Option Field). FieldKept k x (when leb (start + len) (length cut) then Some (Span f start len (start + len)) else None)) (leb (start + len) (length s))
         (λ e l.
         let fits : start + len ≤ length cut = omega (arith, cut_length) in
         rw (le-leb _ _ fits))
@@ -157,8 +154,8 @@ module _ (s : List ℕ) (k : ℕ) (short : k ≤ length s) where
   unfolding field_at
   field_kept at =
       then-kept k (length s) (varint_at s at) (varint_at cut at)
-      (λ tag next. when ltb tag (2 ^ 32) then (when eqb (tag / 8) 0 then Unreadable else content_at s (tag / 8) (tag % 8) next) else Unreadable)
-      (λ tag next. when ltb tag (2 ^ 32) then (when eqb (tag / 8) 0 then Unreadable else content_at cut (tag / 8) (tag % 8) next) else Unreadable)
+      (λ tag next. when ltb tag (2 ^ 32) then (when eqb (tag / 8) 0 then None else content_at s (tag / 8) (tag % 8) next) else None)
+      (λ tag next. when ltb tag (2 ^ 32) then (when eqb (tag / 8) 0 then None else content_at cut (tag / 8) (tag % 8) next) else None)
       (varint_kept 9 at)
       (λ tag next h.
       let P = FieldFrom (length s) next in
@@ -168,51 +165,51 @@ module _ (s : List ℕ) (k : ℕ) (short : k ≤ length s) where
 
   -- ---- a group
 
-  group_moved : (at : ℕ) (whole a b : Group) → GroupAhead (length s) at whole → (at < k → b ≡ a) → GroupKept k whole a → GroupKept k whole b
-  group_moved at (Skipped next) a b r e h = λ l. e (omega (arith, r.behind)) ∙ h l
-  group_moved at noGroup a b r e h = tt
+  group_moved : (at : ℕ) (whole a b : Option ℕ) → GroupAhead (length s) at whole → (at < k → b ≡ a) → GroupKept k whole a → GroupKept k whole b
+  group_moved at (Some next) a b r e h = λ l. e (omega (arith, r.behind)) ∙ h l
+  group_moved at None a b r e h = tt
 
   module _ (depth number : ℕ) (deeper : (n p : ℕ) → GroupKept k (group_at depth s n p) (group_at depth cut n p)) where
-    abbrev whole : ℕ → Group
+    abbrev whole : ℕ → Option ℕ
     whole p = group_at (suc depth) s number p
 
-    abbrev short' : ℕ → Group
+    abbrev short' : ℕ → Option ℕ
     short' p = group_at (suc depth) cut number p
 
     -- the field at p is the same in the cut
-    here : (p next : ℕ) (f : Field) → p < next → next ≤ k → field_at cut p ≡ f
+    here : (p next : ℕ) (f : Option Field) → p < next → next ≤ k → field_at cut p ≡ f
         → short' p ≡ follow (in_group number (group_at depth cut) f) (λ q _. short' q)
     here p next f l h e =
         let inside : p < length cut = omega (arith, cut_length) in
         rw (e, sub-one) at (group_on cut (suc depth) number p (omega arith) inside)
 
-    by_group : (p next f : ℕ) (g : Group) → p < next → (next ≤ k → field_at cut p ≡ GroupStart f next)
+    by_group : (p next f : ℕ) (g : Option ℕ) → p < next → (next ≤ k → field_at cut p ≡ Some (GroupStart f next))
         → GroupAhead (length s) next g → GroupKept k g (group_at depth cut f next) → ((q : ℕ) → p < q → GroupKept k (whole q) (short' q))
         → GroupKept k (follow (behind g) (λ q _. whole q)) (short' p)
-    by_group p next f (Skipped e) l k' a h ih =
+    by_group p next f (Some e) l k' a h ih =
         group_moved e (whole e) (short' e) (short' p) (group_ahead s (suc depth) number e)
-        (λ m. here p next (GroupStart f next) l (omega (arith, a.behind)) (k' (omega (arith, a.behind))) ∙ ap (λ (x : Group). follow (behind x) (λ q _. short' q)) (h (omega arith)))
+        (λ m. here p next (Some (GroupStart f next)) l (omega (arith, a.behind)) (k' (omega (arith, a.behind))) ∙ ap (λ (x : Option ℕ). follow (behind x) (λ q _. short' q)) (h (omega arith)))
         (ih e (omega (arith, a.behind)))
-    by_group p next f noGroup l k' a h ih = tt
+    by_group p next f None l k' a h ih = tt
 
-    by_field : (p : ℕ) (f : Field) → FieldAhead (length s) p f → FieldKept k f (field_at cut p) → ((q : ℕ) → p < q → GroupKept k (whole q) (short' q))
+    by_field : (p : ℕ) (f : Option Field) → FieldAhead (length s) p f → FieldKept k f (field_at cut p) → ((q : ℕ) → p < q → GroupKept k (whole q) (short' q))
         → GroupKept k (follow (in_group number (group_at depth s) f) (λ q _. whole q)) (short' p)
-    by_field p (Number n v next) a h ih =
+    by_field p (Some (Number n v next)) a h ih =
         group_moved next (whole next) (short' next) (short' p) (group_ahead s (suc depth) number next)
-        (λ m. here p next (Number n v next) a.behind (omega arith) (h (omega arith))) (ih next a.behind)
-    by_field p (Span n start len next) a h ih =
+        (λ m. here p next (Some (Number n v next)) a.behind (omega arith) (h (omega arith))) (ih next a.behind)
+    by_field p (Some (Span n start len next)) a h ih =
         group_moved next (whole next) (short' next) (short' p) (group_ahead s (suc depth) number next)
-        (λ m. here p next (Span n start len next) a.0.behind (omega arith) (h (omega arith))) (ih next a.0.behind)
-    by_field p (Fixed n next) a h ih =
+        (λ m. here p next (Some (Span n start len next)) a.0.behind (omega arith) (h (omega arith))) (ih next a.0.behind)
+    by_field p (Some (Fixed n next)) a h ih =
         group_moved next (whole next) (short' next) (short' p) (group_ahead s (suc depth) number next)
-        (λ m. here p next (Fixed n next) a.behind (omega arith) (h (omega arith))) (ih next a.behind)
-    by_field p (GroupStart n next) a h ih =
+        (λ m. here p next (Some (Fixed n next)) a.behind (omega arith) (h (omega arith))) (ih next a.behind)
+    by_field p (Some (GroupStart n next)) a h ih =
         by_group p next n (group_at depth s n next) a.behind h (group_ahead s depth n next) (deeper n next) ih
-    by_field p (GroupEnd n next) a h ih =
-        either (λ (x : Group). GroupKept k x (short' p)) (eqb n number)
-        (λ e l. here p next (GroupEnd n next) a.behind l (h l) ∙ ap (λ (t : Bool). when t then Skipped next else noGroup) e)
+    by_field p (Some (GroupEnd n next)) a h ih =
+        either (λ (x : Option ℕ). GroupKept k x (short' p)) (eqb n number)
+        (λ e l. here p next (Some (GroupEnd n next)) a.behind l (h l) ∙ ap (λ (t : Bool). when t then Some next else None) e)
         (λ _. tt)
-    by_field p Unreadable a h ih = tt
+    by_field p None a h ih = tt
 
     within : (n p : ℕ) → length s - p ≤ n → GroupKept k (whole p) (short' p)
     within zero p l = rw (group_end s (suc depth) number p (omega arith)) tt

@@ -1,4 +1,5 @@
 -- Whatever is read at a position ends behind it, and it and its bytes are within the body.
+use Rattle.std.proofs.Common.{Option, Some, None}
 use Prim.Native.Nat.{ℕ, zero, suc, ◌+◌, ◌-◌, ◌/◌, ◌%◌, ◌^◌, ◌≤◌, ◌<◌}
 use native.Mathlib.Omega.{arith}
 use mathlib.Core.List.{List}
@@ -7,10 +8,8 @@ use lib.Dec.{ltb, leb, eqb}
 use borrow.Author.Tests.{ltb-true, leb-true}
 use Rattle.protobuf.specs.Varint.{below, varint_of, varint_at}
 use Rattle.protobuf.specs.Field.{varint_then, number_at, fixed_at, span_at, content_at, field_at}
-use Rattle.protobuf.specs.declared.varint.Varint.{Varint}
-use Rattle.protobuf.specs.declared.varint.Varint.TheVariants.{Read, Unreadable as noVarint}
 use Rattle.protobuf.specs.declared.field.Field.{Field}
-use Rattle.protobuf.specs.declared.field.Field.TheVariants.{Number, Span, Fixed, GroupStart, GroupEnd, Unreadable}
+use Rattle.protobuf.specs.declared.field.Field.TheVariants.{Number, Span, Fixed, GroupStart, GroupEnd}
 use Rattle.wire.proofs.TestLaws.{either}
 
 -- `next` is behind `at`, and within n bytes
@@ -18,21 +17,21 @@ pub record Ahead (n at next : ℕ) : Type 0 where
   pub behind : at < next
   pub within : next ≤ n
 
-abbrev pub VarintAhead : ℕ → ℕ → Varint → Type 0
-VarintAhead n at (Read v next) = Ahead n at next
-VarintAhead n at noVarint = Unit {0}
+abbrev pub VarintAhead : ℕ → ℕ → Option (ℕ × ℕ) → Type 0
+VarintAhead n at (Some (v, next)) = Ahead n at next
+VarintAhead n at None = Unit {0}
 
-abbrev pub FieldAhead : ℕ → ℕ → Field → Type 0
-FieldAhead n at (Number f v next) = Ahead n at next
-FieldAhead n at (Span f start len next) = Ahead n at next × (start + len ≤ n)
-FieldAhead n at (Fixed f next) = Ahead n at next
-FieldAhead n at (GroupStart f next) = Ahead n at next
-FieldAhead n at (GroupEnd f next) = Ahead n at next
-FieldAhead n at Unreadable = Unit {0}
+abbrev pub FieldAhead : ℕ → ℕ → Option Field → Type 0
+FieldAhead n at (Some (Number f v next)) = Ahead n at next
+FieldAhead n at (Some (Span f start len next)) = Ahead n at next × (start + len ≤ n)
+FieldAhead n at (Some (Fixed f next)) = Ahead n at next
+FieldAhead n at (Some (GroupStart f next)) = Ahead n at next
+FieldAhead n at (Some (GroupEnd f next)) = Ahead n at next
+FieldAhead n at None = Unit {0}
 
-pub below_ahead : (n at low : ℕ) (r : Varint) → VarintAhead n (at + 1) r → VarintAhead n at (below low r)
-below_ahead n at low (Read v next) h = omega arith
-below_ahead n at low noVarint h = tt
+pub below_ahead : (n at low : ℕ) (r : Option (ℕ × ℕ)) → VarintAhead n (at + 1) r → VarintAhead n at (below low r)
+below_ahead n at low (Some (v, next)) h = omega arith
+below_ahead n at low None h = tt
 
 pub varint_ahead : (more : ℕ) (s : List ℕ) (at : ℕ) → VarintAhead (length s) at (varint_of more s at)
 unfolding varint_of
@@ -48,26 +47,26 @@ varint_ahead (suc more) s at =
     (λ _. tt)
 
 -- the same of what stands behind the tag, which may be nothing
-abbrev pub FieldFrom : ℕ → ℕ → Field → Type 0
-FieldFrom n at (Number f v next) = (at ≤ next) × (next ≤ n)
-FieldFrom n at (Span f start len next) = (at ≤ next) × (next ≤ n) × (start + len ≤ n)
-FieldFrom n at (Fixed f next) = (at ≤ next) × (next ≤ n)
-FieldFrom n at (GroupStart f next) = (at ≤ next) × (next ≤ n)
-FieldFrom n at (GroupEnd f next) = (at ≤ next) × (next ≤ n)
-FieldFrom n at Unreadable = Unit {0}
+abbrev pub FieldFrom : ℕ → ℕ → Option Field → Type 0
+FieldFrom n at (Some (Number f v next)) = (at ≤ next) × (next ≤ n)
+FieldFrom n at (Some (Span f start len next)) = (at ≤ next) × (next ≤ n) × (start + len ≤ n)
+FieldFrom n at (Some (Fixed f next)) = (at ≤ next) × (next ≤ n)
+FieldFrom n at (Some (GroupStart f next)) = (at ≤ next) × (next ≤ n)
+FieldFrom n at (Some (GroupEnd f next)) = (at ≤ next) × (next ≤ n)
+FieldFrom n at None = Unit {0}
 
 -- what is made of a varint has P, where what is made of its value has
-then_has : (P : Field → Type 0) (n at : ℕ) (r : Varint) (f : ℕ → ℕ → Field) → P Unreadable → VarintAhead n at r → ((v next : ℕ) → Ahead n at next → P (f v next)) → P (varint_then r f)
-then_has P n at (Read v next) f u h g = g v next h
-then_has P n at noVarint f u h g = u
+then_has : (P : Option Field → Type 0) (n at : ℕ) (r : Option (ℕ × ℕ)) (f : ℕ → ℕ → Option Field) → P None → VarintAhead n at r → ((v next : ℕ) → Ahead n at next → P (f v next)) → P (varint_then r f)
+then_has P n at (Some (v, next)) f u h g = g v next h
+then_has P n at None f u h g = u
 
-tagged : (n at p : ℕ) (f : Field) → at < p → FieldFrom n p f → FieldAhead n at f
-tagged n at p (Number f v next) l h = omega arith
-tagged n at p (Span f start len next) l h = omega arith
-tagged n at p (Fixed f next) l h = omega arith
-tagged n at p (GroupStart f next) l h = omega arith
-tagged n at p (GroupEnd f next) l h = omega arith
-tagged n at p Unreadable l h = tt
+tagged : (n at p : ℕ) (f : Option Field) → at < p → FieldFrom n p f → FieldAhead n at f
+tagged n at p (Some (Number f v next)) l h = omega arith
+tagged n at p (Some (Span f start len next)) l h = omega arith
+tagged n at p (Some (Fixed f next)) l h = omega arith
+tagged n at p (Some (GroupStart f next)) l h = omega arith
+tagged n at p (Some (GroupEnd f next)) l h = omega arith
+tagged n at p None l h = tt
 
 module _ (s : List ℕ) (f : ℕ) where
   number_from : (at : ℕ) → FieldFrom (length s) at (number_at s f at)

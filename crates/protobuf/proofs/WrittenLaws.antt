@@ -10,6 +10,7 @@ use lib.Seq.{take-suc-set, drop-set-lt, drop-drop, append_snoc, set_split, lengt
 use lib.Dec.{ltb}
 use borrow.Author.Tests.{lt-ltb, le-ltb, eq-eqb, ne_eqb}
 use Rattle.wire.specs.code.Wrote.{Wrote}
+use Rattle.wire.proofs.BufferLaws.{wrote_none, wrote_on}
 use Rattle.wire.proofs.TestLaws.{either}
 use Rattle.protobuf.specs.Written.{varint_within, varint, number_field, bytes_field}
 
@@ -152,3 +153,7 @@ bytes-field-length number bytes h =
     let tag : List ℕ = varint (8 * number + 2) in
     let size : List ℕ = varint (length bytes) in
     omega (arith, ap length (bytes_field_lem number bytes h), length-append tag (size ++ bytes), length-append size bytes)
+
+pub ruleset counts = (counted_none, counted_all)
+
+pub ruleset writes = (wrote_none, wrote_on, wrote_short, number_field_none, number_field_lem, bytes_field_none, bytes_field_lem, bytes-field-length)

@@ -3,33 +3,30 @@ ghost use Rattle.std.specs.Prelude.{◌≡◌};
 ghost use Rattle.fields.specs.code.Fields.{all_absent};
 ghost use Rattle.protobuf.specs.code.Body.{body_at, body_of};
 
-use crate::message::{Step, read_step};
-use crate::reader::{open_reader, read_message};
-use fields::{Body, Schema, all_absent};
+use crate::message::read_step;
+use crate::reader::Reader;
+use fields::{Schema, Values, all_absent};
 
-// The fields of the body `s` from `start` on, read as a message of the schema.
-pub fn read_fields(s: &[u8], start: usize, k: Schema) -> Body
-    ensures { result ≡ body_at k s.now start all_absent }
+// The fields of the body from `start` on, read as a message of the schema.
+#[tactic(auto, using(crate::proofs::BodyLaws::reads))]
+pub fn read_fields(body: &[u8], start: usize, schema: Schema) -> Result<Values, usize>
+    ensures { result ≡ body_at schema body.now start all_absent }
 {
-    let mut m = all_absent();
+    let mut values = all_absent();
     let mut at = start;
-    while at < s.len() {
-        match read_step(s, at, k, m) {
-            Step::Next(more, next) => {
-                m = more;
-                at = next;
-            }
-            Step::Refuse => {
-                return Body::Unreadable(at);
-            }
-        }
+    while at < body.len() {
+        let Some((more, next)) = read_step(body, at, schema, values) else {
+            return Err(at);
+        };
+        values = more;
+        at = next;
     }
-    Body::Message(m)
+    Ok(values)
 }
 
-// The body `s` read as a message of the schema.
-pub fn read_body(s: &[u8], k: Schema) -> Body
-    ensures { result ≡ body_of k s.now }
+// The body read as a message of the schema.
+pub fn read_body(body: &[u8], schema: Schema) -> Result<Values, usize>
+    ensures { result ≡ body_of schema body.now }
 {
-    read_message(open_reader(s), k)
+    Reader::new(body).read_message(schema)
 }

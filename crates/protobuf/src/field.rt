@@ -2,7 +2,7 @@
 ghost use Rattle.std.specs.Prelude.{◌≡◌, ◌+◌, length, leb};
 ghost use Rattle.protobuf.specs.Field.{number_at, fixed_at, span_at, content_at, field_at};
 
-use crate::varint::{Varint, read_varint};
+use crate::varint::read_varint;
 
 // One field, with the position behind it. A span is its bytes' start and count.
 #[derive(Clone, Copy)]
@@ -30,100 +30,82 @@ pub enum Field {
         number: u64,
         next: usize,
     },
-    Unreadable,
 }
 
 // Whether `size` bytes stand at `at`.
-fn has_room(s: &[u8], at: usize, size: u64) -> bool
-    ensures { result ≡ leb (at + size) (length s.now) }
+fn has_room(body: &[u8], at: usize, size: u64) -> bool
+    ensures { result ≡ leb (at + size) (length body.now) }
 {
-    if s.len() < at {
-        return false;
-    }
-    if s.len() - at < size as usize {
-        return false;
-    }
-    true
+    at <= body.len() && size as usize <= body.len() - at
 }
 
-fn read_number(s: &[u8], number: u64, at: usize) -> Field
-    ensures { result ≡ number_at s.now number at }
+#[tactic(auto, unfolding(crate::specs::Field::number_at))]
+fn read_number(body: &[u8], number: u64, at: usize) -> Option<Field>
+    ensures { result ≡ number_at body.now number at }
 {
-    match read_varint(s, at) {
-        Varint::Read(value, next) => Field::Number {
-            number,
-            value,
-            next,
-        },
-        Varint::Unreadable => Field::Unreadable,
+    let (value, next) = read_varint(body, at)?;
+    Some(Field::Number {
+        number,
+        value,
+        next,
+    })
+}
+
+#[tactic(auto, unfolding(crate::specs::Field::fixed_at))]
+fn read_fixed(body: &[u8], number: u64, size: u64, at: usize) -> Option<Field>
+    ensures { result ≡ fixed_at body.now number size at }
+{
+    if !has_room(body, at, size) {
+        return None;
+    }
+    Some(Field::Fixed {
+        number,
+        next: at + size as usize,
+    })
+}
+
+#[tactic(auto, unfolding(crate::specs::Field::span_at))]
+fn read_span(body: &[u8], number: u64, at: usize) -> Option<Field>
+    ensures { result ≡ span_at body.now number at }
+{
+    let (len, start) = read_varint(body, at)?;
+    if !has_room(body, start, len) {
+        return None;
+    }
+    Some(Field::Span {
+        number,
+        start,
+        len: len as usize,
+        next: start + len as usize,
+    })
+}
+
+#[tactic(auto, unfolding(crate::specs::Field::content_at))]
+fn read_content(body: &[u8], number: u64, wire: u64, at: usize) -> Option<Field>
+    ensures { result ≡ content_at body.now number wire at }
+{
+    match wire {
+        0 => read_number(body, number, at),
+        1 => read_fixed(body, number, 8, at),
+        2 => read_span(body, number, at),
+        3 => Some(Field::GroupStart { number, next: at }),
+        4 => Some(Field::GroupEnd { number, next: at }),
+        5 => read_fixed(body, number, 4, at),
+        _ => None,
     }
 }
 
-fn read_fixed(s: &[u8], number: u64, size: u64, at: usize) -> Field
-    ensures { result ≡ fixed_at s.now number size at }
+#[tactic(auto, unfolding(crate::specs::Field::field_at))]
+pub fn read_field(body: &[u8], at: usize) -> Option<Field>
+    ensures { result ≡ field_at body.now at }
 {
-    if has_room(s, at, size) {
-        return Field::Fixed {
-            number,
-            next: at + size as usize,
-        };
-    }
-    Field::Unreadable
-}
-
-fn read_span(s: &[u8], number: u64, at: usize) -> Field
-    ensures { result ≡ span_at s.now number at }
-{
-    let Varint::Read(len, start) = read_varint(s, at) else {
-        return Field::Unreadable;
-    };
-    if has_room(s, start, len) {
-        return Field::Span {
-            number,
-            start,
-            len: len as usize,
-            next: start + len as usize,
-        };
-    }
-    Field::Unreadable
-}
-
-fn read_content(s: &[u8], number: u64, wire: u64, at: usize) -> Field
-    ensures { result ≡ content_at s.now number wire at }
-{
-    if wire == 0 {
-        return read_number(s, number, at);
-    }
-    if wire == 1 {
-        return read_fixed(s, number, 8, at);
-    }
-    if wire == 2 {
-        return read_span(s, number, at);
-    }
-    if wire == 3 {
-        return Field::GroupStart { number, next: at };
-    }
-    if wire == 4 {
-        return Field::GroupEnd { number, next: at };
-    }
-    if wire == 5 {
-        return read_fixed(s, number, 4, at);
-    }
-    Field::Unreadable
-}
-
-pub fn read_field(s: &[u8], at: usize) -> Field
-    ensures { result ≡ field_at s.now at }
-{
-    let Varint::Read(tag, next) = read_varint(s, at) else {
-        return Field::Unreadable;
-    };
-    if 4294967295 < tag {
-        return Field::Unreadable;
+    let (tag, next) = read_varint(body, at)?;
+    if u64::from(u32::MAX) < tag {
+        return None;
     }
     let number = tag / 8;
     if number == 0 {
-        return Field::Unreadable;
+        return None;
     }
-    read_content(s, number, tag % 8, next)
+    read_content(body, number, tag % 8, next)
 }

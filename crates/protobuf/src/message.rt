@@ -4,123 +4,75 @@ ghost use Rattle.protobuf.specs.Group.{depth_most, group_at};
 ghost use Rattle.protobuf.specs.code.Message as message;
 
 use crate::field::{Field, read_field};
-use crate::group::{Group, skip_group};
+use crate::group::skip_group;
 use fields::{Kind, Schema, Value, Values, kind_of, with_value};
 
-// What a reader does with a field: keep a value under a number and go on, skip it, or refuse the body.
+// What a reader does with a field that it doesn't refuse: keep a value under a number and go on, or skip it.
 #[derive(Clone, Copy)]
 pub enum Item {
     Keep(u64, Value, usize),
     Skip(usize),
-    Refuse,
 }
 
-// Where a reader is after one field: the message so far and the next field's place, or at a field that it refuses.
-#[derive(Clone, Copy)]
-pub enum Step {
-    Next(Values, usize),
-    Refuse,
-}
-
-fn of_number(kind: Kind, n: u64, v: u64, next: usize) -> Item
-    ensures { result ≡ message.of_number kind n v next }
+fn of_number(kind: Kind, number: u64, varint: u64, next: usize) -> Item
+    ensures { result ≡ message.of_number kind number varint next }
 {
-    match kind {
-        Kind::Uint32 => Item::Keep(
-            n,
-            Value {
-                start: 0,
-                len: 0,
-                number: (v % 4294967296) as u32,
-            },
-            next,
-        ),
-        Kind::Boolean => {
-            if v == 0 {
-                return Item::Keep(
-                    n,
-                    Value {
-                        start: 0,
-                        len: 0,
-                        number: 0,
-                    },
-                    next,
-                );
-            }
-            Item::Keep(
-                n,
-                Value {
-                    start: 0,
-                    len: 0,
-                    number: 1,
-                },
-                next,
-            )
-        }
-        Kind::Bytes => Item::Skip(next),
-        Kind::Unlisted => Item::Skip(next),
-    }
+    let read = match kind {
+        Kind::Uint32 => (varint % (1 << 32)) as u32,
+        Kind::Boolean => u32::from(varint != 0),
+        Kind::Bytes | Kind::Unlisted => return Item::Skip(next),
+    };
+    let value = Value {
+        number: read,
+        ..Value::default()
+    };
+    Item::Keep(number, value, next)
 }
 
-fn of_span(kind: Kind, n: u64, start: usize, len: usize, next: usize) -> Item
-    ensures { result ≡ message.of_span kind n start len next }
+fn of_span(kind: Kind, number: u64, start: usize, len: usize, next: usize) -> Item
+    ensures { result ≡ message.of_span kind number start len next }
 {
-    match kind {
-        Kind::Bytes => Item::Keep(
-            n,
-            Value {
-                start,
-                len,
-                number: 0,
-            },
-            next,
-        ),
-        Kind::Uint32 => Item::Skip(next),
-        Kind::Boolean => Item::Skip(next),
-        Kind::Unlisted => Item::Skip(next),
-    }
+    let Kind::Bytes = kind else {
+        return Item::Skip(next);
+    };
+    let value = Value {
+        start,
+        len,
+        ..Value::default()
+    };
+    Item::Keep(number, value, next)
 }
 
-// A group is skipped whole, whatever its number stands for.
-fn of_group(s: &[u8], number: u64, at: usize) -> Item
-    ensures { result ≡ message.of_group (group_at depth_most s.now number at) }
+// What a reader of the schema does with a field. A group is skipped whole, whatever its number stands for.
+#[tactic(auto, unfolding(crate::specs::code::Message::item_of))]
+fn item_of(body: &[u8], schema: Schema, field: Field) -> Option<Item>
+    ensures { result ≡ message.item_of schema body.now field }
 {
-    match skip_group(s, number, at) {
-        Group::Skipped(next) => Item::Skip(next),
-        Group::Unreadable => Item::Refuse,
-    }
-}
-
-// What a reader of the schema does with a field.
-fn item_of(s: &[u8], k: Schema, f: Field) -> Item
-    ensures { result ≡ message.item_of k s.now f }
-{
-    match f {
+    match field {
         Field::Number {
             number,
             value,
             next,
-        } => of_number(kind_of(k, number), number, value, next),
+        } => Some(of_number(kind_of(schema, number), number, value, next)),
         Field::Span {
             number,
             start,
             len,
             next,
-        } => of_span(kind_of(k, number), number, start, len, next),
-        Field::Fixed { number: _, next } => Item::Skip(next),
-        Field::GroupStart { number, next } => of_group(s, number, next),
-        Field::GroupEnd { number: _, next: _ } => Item::Refuse,
-        Field::Unreadable => Item::Refuse,
+        } => Some(of_span(kind_of(schema, number), number, start, len, next)),
+        Field::Fixed { next, .. } => Some(Item::Skip(next)),
+        Field::GroupStart { number, next } => Some(Item::Skip(skip_group(body, number, next)?)),
+        Field::GroupEnd { .. } => None,
     }
 }
 
-// One field of a body, on top of the message so far.
-pub fn read_step(s: &[u8], at: usize, k: Schema, m: Values) -> Step
-    ensures { result ≡ message.step_at k s.now at m }
+// One field of a body, on top of the values so far.
+#[tactic(auto, unfolding(crate::specs::code::Message::step_at))]
+pub fn read_step(body: &[u8], at: usize, schema: Schema, values: Values) -> Option<(Values, usize)>
+    ensures { result ≡ message.step_at schema body.now at values }
 {
-    match item_of(s, k, read_field(s, at)) {
-        Item::Keep(n, v, next) => Step::Next(with_value(m, n, v), next),
-        Item::Skip(next) => Step::Next(m, next),
-        Item::Refuse => Step::Refuse,
+    match item_of(body, schema, read_field(body, at)?)? {
+        Item::Keep(number, value, next) => Some((with_value(values, number, value), next)),
+        Item::Skip(next) => Some((values, next)),
     }
 }

@@ -2,39 +2,28 @@
 ghost use Rattle.std.specs.Prelude.{◌≡◌};
 ghost use Rattle.protobuf.specs.Varint.{varint_at};
 
-// A varint that was read, with the position behind it.
-#[derive(Clone, Copy)]
-pub enum Varint {
-    Read(u64, usize),
-    Unreadable,
-}
+// So many bytes may come before the last of a varint.
+const MORE_MOST: u64 = 9;
 
-pub fn read_varint(s: &[u8], at: usize) -> Varint
-    ensures { result ≡ varint_at s.now at }
+#[tactic(auto, using(crate::proofs::VarintLaws::sums))]
+pub fn read_varint(bytes: &[u8], at: usize) -> Option<(u64, usize)>
+    ensures { result ≡ varint_at bytes.now at }
 {
     let mut value: u64 = 0;
     let mut scale: u64 = 1;
-    let mut left: u64 = 9;
-    let mut p = at;
-    while 0 < left {
-        if s.len() <= p {
-            return Varint::Unreadable;
-        }
-        let b = s[p] as u64;
-        p += 1;
+    let mut next = at;
+    for _ in 0..MORE_MOST {
+        let b = u64::from(*bytes.get(next)?);
+        next += 1;
         if b < 128 {
-            return Varint::Read(value + b * scale, p);
+            return Some((value + b * scale, next));
         }
         value += (b - 128) * scale;
         scale *= 128;
-        left -= 1;
     }
-    if s.len() <= p {
-        return Varint::Unreadable;
-    }
-    let b = s[p] as u64;
+    let b = u64::from(*bytes.get(next)?);
     if 1 < b {
-        return Varint::Unreadable;
+        return None;
     }
-    Varint::Read(value + b * scale, p + 1)
+    Some((value + b * scale, next + 1))
 }

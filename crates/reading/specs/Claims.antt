@@ -1,8 +1,6 @@
 -- What is claimed of calls on a reader in lent memory, for every reader and every code that is called so: types, no proof.
-use Rattle.std.specs.Prelude.{◌≡◌, ℕ, zero, suc, ◌+◌, ◌≤◌, Bool, true, false, not, length, take, drop}
-use Rattle.std.proofs.Math.Option.{Option, none, some}
+use Rattle.std.specs.Prelude.{◌≡◌, ℕ, zero, suc, ◌+◌, ◌≤◌, Bool, true, false, not, length, take, drop, Option, Some, None, is_some}
 use mathlib.Core.List.{List, [], ◌∷◌, map, flatten}
-use Rattle.wire.specs.Choice.{is_some}
 use Rattle.wire.specs.Lists.{all}
 use Rattle.reading.specs.Reader.{Reader, Reading}
 use Rattle.reading.specs.Calls.{Call, Answer, Layout, CallOutcome, CallsOutcome, call_on, leaving, joined_out, taken_stream, answers_by}
@@ -59,8 +57,8 @@ said_by says events = flatten (map says events)
 
 -- `out` finds in what is given for an event what the event says, and nothing in what is given for none
 pub record Finds {Memory Kept Event Lent Given Out : Type 0} (R : Reader Kept Event) (L : Layout Memory Kept Event Lent Given) (out : Given → List Out) (says : Event → List Out) : Type 0 where
-  pub nothing : (lent : Lent) → out (L.give none lent) ≡ []
-  pub event : (s : Kept) (b : ℕ) (e : Event) → (R.byte s b).event ≡ some e → (lent : Lent) → out (L.give (some e) lent) ≡ says e
+  pub nothing : (lent : Lent) → out (L.give None lent) ≡ []
+  pub event : (s : Kept) (b : ℕ) (e : Event) → (R.byte s b).event ≡ Some e → (lent : Lent) → out (L.give (Some e) lent) ≡ says e
 
 module _ {Memory Kept Event Lent Given Code : Type 0} (R : Reader Kept Event) (uncut : (stream : List ℕ) → Reading Kept Event)
     (L : Layout Memory Kept Event Lent Given) where
@@ -96,7 +94,7 @@ module _ {Memory Kept Event Lent Given Code : Type 0} (R : Reader Kept Event) (b
     pub begins : Reachable begin
     pub goes_on : (s : Kept) (b : ℕ) → Reachable s → R.ended s ≡ false → Reachable (R.byte s b).kept
     pub loads : (s : Kept) → Reachable s → L.load (L.store s) ≡ s
-    pub accepts : (s : Kept) (call : Call Lent) → Reachable s → fine call ≡ true → refusal (L.store s) call ≡ none
+    pub accepts : (s : Kept) (call : Call Lent) → Reachable s → fine call ≡ true → refusal (L.store s) call ≡ None
 
 module _ {Memory Kept Event Lent Given Code Ran : Type 0} (R : Reader Kept Event) (L : Layout Memory Kept Event Lent Given) (refusal : Memory → Call Lent → Option Code)
     (outcome : Ran → CallOutcome Memory Code Given) (Contract : Memory → Call Lent → Ran → Type 0) where

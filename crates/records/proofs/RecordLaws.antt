@@ -1,13 +1,13 @@
 -- Laws of a file of records: when one is whole, the plain equations of `read_records`, what holds of every state that is reached,
 -- and a file behind another.
 use mathlib.Core.Path.{◌≡◌, refl, sym, ap, ap₂, ◌∙◌}
-use mathlib.Core.Bool.{Bool, true, false, ◌||◌, or-true}
+use mathlib.Core.Bool.{Bool, true, false, not, ◌||◌}
 use mathlib.Core.List.{List, [], ◌∷◌, ◌++◌}
 use Prim.Native.Nat.{ℕ, zero, suc, ◌+◌, ◌-◌, ◌≤◌, ◌<◌}
 use native.Mathlib.Omega.{arith}
 use native.Mathlib.Decide.{dec_lt}
-use borrow.Author.Tests.{lt-ltb, le-ltb, ltb-false, not-true}
-use lib.Dec.{ltb}
+use borrow.Author.Tests.{lt-ltb, le-ltb, lt-leb, le-leb, ltb-false, not-true}
+use lib.Dec.{ltb, leb}
 use lib.ListN.{length, take, drop, length-append, length-drop}
 use lib.Seq.{drop-drop, drop-append-le, take-append_seam, length-take-le}
 use Rattle.wire.specs.Choice.{when◌then◌else◌}
@@ -21,20 +21,27 @@ use Rattle.records.specs.Records.{Record, record_length, value_in, record_in, is
 
 -- ---- a whole record
 
+not_ltb : (m n : ℕ) → not (ltb m n) ≡ leb n m
+not_ltb m n =
+    elim (dec_lt m n) [
+      | yes l ↦ rw (lt-ltb m n l, lt-leb n m l)
+      | no l ↦ let h : n ≤ m = omega arith in rw (le-ltb m n h, le-leb n m h)
+    ]
+
 module _ (bytes : List ℕ) where
   pub whole_short : length bytes < 3 → is_whole bytes ≡ false
   unfolding is_whole
   whole_short h = rw (lt-ltb _ _ h)
-
-  pub whole_cut : length bytes < record_length bytes → is_whole bytes ≡ false
-  unfolding is_whole
-  whole_cut h = rw (lt-ltb _ _ h, or-true)
 
   pub whole_fit : record_length bytes ≤ length bytes → is_whole bytes ≡ true
   unfolding is_whole
   whole_fit h =
       let three : 3 ≤ length bytes = omega arith in
       rw (le-ltb _ _ three, le-ltb _ _ h)
+
+  pub whole_tested : 3 ≤ length bytes → is_whole bytes ≡ leb (record_length bytes) (length bytes)
+  unfolding is_whole
+  whole_tested h = rw (le-ltb _ _ h) (not_ltb (length bytes) (record_length bytes))
 
   pub whole_room : is_whole bytes ≡ true → record_length bytes ≤ length bytes
   unfolding is_whole

@@ -1,7 +1,7 @@
 -- The records of a stream of bytes are bytes.
+use Rattle.std.proofs.Common.{Option, Some, None, option_and_then, Result, Ok, Err}
 use mathlib.Core.Path.{◌≡◌, refl, sym, ap, ap₂, ◌∙◌, subst}
 use mathlib.Core.Bool.{Bool, true, false, not, ◌&&◌}
-use mathlib.Core.Option.{Option, none, some, bind}
 use mathlib.Core.List.{List, [], ◌∷◌, ◌++◌, map, flatten}
 use Prim.Native.Nat.{ℕ, zero, suc, ◌+◌, ◌-◌, ◌/◌, ◌%◌, ◌^◌, ◌<◌}
 use native.Mathlib.Omega.{arith}
@@ -31,8 +31,6 @@ use Rattle.messages.proofs.PlacesLaws.{placed}
 use Rattle.messages.proofs.PlacedLaws.{input_few, input_no_lists}
 use Rattle.protobuf.specs.code.Body.{body_of}
 use Rattle.fields.specs.declared.Value.{Value as Place}
-use Rattle.fields.specs.declared.Body.{Body}
-use Rattle.fields.specs.declared.Body.TheVariants.{Message as Readable, Unreadable}
 use Rattle.registry.specs.Slots.{flag}
 use Rattle.registry.specs.Registry.{slots_of}
 use Rattle.registry.specs.WellFormed.{well_formed_registry}
@@ -56,6 +54,7 @@ use Rattle.journal.proofs.KeptLaws.{carried_is}
 use Rattle.journal.proofs.LeftLaws.{in_use_below}
 use Rattle.journal.proofs.ReplayLaws.{served_carried, import_taken, replay_short, Alike, replay_any, served_replayed, refused_unrecorded}
 use Rattle.recovery.proofs.RequestLaws.{reply_good}
+use Rattle.fields.specs.declared.Values.{Values}
 
 -- ---- numbers
 
@@ -87,7 +86,7 @@ NameBytes (importing line key) = (all is_byte key.name ≡ true) × (all is_byte
 NameBytes (destroying line name) = all is_byte name ≡ true
 
 module _ (g after : List ℕ) where
-  value_bytes_lem : (act : Act) → NameBytes act → replay g act ≡ some after → all is_byte (value_of act) ≡ true
+  value_bytes_lem : (act : Act) → NameBytes act → replay g act ≡ Some after → all is_byte (value_of act) ≡ true
   unfolding NameBytes replay value_of
   value_bytes_lem (importing line key) (n, b) e =
       let used = (carried_is g line _ after e).0 in
@@ -108,7 +107,7 @@ module _ (g after : List ℕ) where
   tag_byte (importing line key) = refl
   tag_byte (destroying line name) = refl
 
-  record_bytes_lem : (act : Act) → NameBytes act → replay g act ≡ some after → all is_byte (record_of act) ≡ true
+  record_bytes_lem : (act : Act) → NameBytes act → replay g act ≡ Some after → all is_byte (record_of act) ≡ true
   unfolding record_of covered
   record_bytes_lem act n e =
       let value = value_bytes_lem act n e in
@@ -119,14 +118,14 @@ module _ (g after : List ℕ) where
 -- ---- an operation read from bytes
 
 OfBytes : Option Operation → Type 0
-OfBytes none = Unit {0}
-OfBytes (some ping) = Unit {0}
-OfBytes (some list_providers) = Unit {0}
-OfBytes (some (list_opcodes provider)) = Unit {0}
-OfBytes (some (import_key key)) = (all is_byte key.name ≡ true) × (all is_byte key.bytes ≡ true)
-OfBytes (some (destroy_key name)) = all is_byte name ≡ true
-OfBytes (some (export_public_key name)) = Unit {0}
-OfBytes (some (verify_signature name hash signature)) = Unit {0}
+OfBytes None = Unit {0}
+OfBytes (Some ping) = Unit {0}
+OfBytes (Some list_providers) = Unit {0}
+OfBytes (Some (list_opcodes provider)) = Unit {0}
+OfBytes (Some (import_key key)) = (all is_byte key.name ≡ true) × (all is_byte key.bytes ≡ true)
+OfBytes (Some (destroy_key name)) = all is_byte name ≡ true
+OfBytes (Some (export_public_key name)) = Unit {0}
+OfBytes (Some (verify_signature name hash signature)) = Unit {0}
 
 -- the bytes of a value, and of a message's values
 abbrev BytesIn : Value → Type 0
@@ -169,9 +168,9 @@ asking_bytes opcode m h =
     (λ _. either P (eqb opcode 6) (λ _. (at_bytes m 0 h, at_bytes m 1 h))
     (λ _. either P (eqb opcode 3) (λ _. at_bytes m 0 h) (λ _. either P (eqb opcode 7) (λ _. tt) (λ _. either P (eqb opcode 5) (λ _. tt) (λ _. tt)))))))
 
-seen_bytes : (opcode : ℕ) (body : List ℕ) → all is_byte body ≡ true → (b : Body) → OfBytes (operation_in (asking_by opcode (seen body (input_fields opcode) b)))
-seen_bytes opcode body w (Readable v) = asking_bytes opcode (values_of body (input_fields opcode) (five v)) (values_bytes body w (input_fields opcode) (five v))
-seen_bytes opcode body w (Unreadable at) = unfold OfBytes in tt
+seen_bytes : (opcode : ℕ) (body : List ℕ) → all is_byte body ≡ true → (b : Result Values ℕ) → OfBytes (operation_in (asking_by opcode (seen body (input_fields opcode) b)))
+seen_bytes opcode body w (Ok v) = asking_bytes opcode (values_of body (input_fields opcode) (five v)) (values_bytes body w (input_fields opcode) (five v))
+seen_bytes opcode body w (Err at) = unfold OfBytes in tt
 
 -- ---- a body of format 2
 
@@ -185,8 +184,8 @@ ReadBytes (read m) = AllBytes m
 ReadBytes (broken at) = Unit {0}
 
 abbrev AnyBytes : Option Value → Type 0
-AnyBytes none = Unit {0}
-AnyBytes (some v) = BytesIn v
+AnyBytes None = Unit {0}
+AnyBytes (Some v) = BytesIn v
 
 set_bytes : (m : Message) (i : ℕ) (v : Value) → AllBytes m → BytesIn v → AllBytes (set m i v)
 set_bytes [] i v h b = tt
@@ -231,16 +230,16 @@ module _ (body : List ℕ) (w : all is_byte body ≡ true) where
   value_read s h uint32s = given_bytes (leb 1 (length s) && eqb (length s % 4) 0) (numbers (map little_endian (blocks (length s / 4) 4 s))) refl
 
   with_bytes : (n next : ℕ) (o : Option Value) → AnyBytes o → FieldBytes (field_with n next o)
-  with_bytes n next none h = tt
-  with_bytes n next (some v) h = h
+  with_bytes n next None h = tt
+  with_bytes n next (Some v) h = h
 
   listed_bytes : (schema : Schema) (n : ℕ) (s : List ℕ) → all is_byte s ≡ true → (next : ℕ) → FieldBytes (listed schema n (of_value s) next)
-  unfolding listed bind
+  unfolding listed
   listed_bytes schema n s h next = go (kind_at schema n)
     where
-      go : (k : Option Kind) → FieldBytes (field_with n next (bind k (of_value s)))
-      go none = tt
-      go (some kind) = with_bytes n next (of_value s kind) (value_read s h kind)
+      go : (k : Option Kind) → FieldBytes (field_with n next (option_and_then (of_value s) k))
+      go None = tt
+      go (Some kind) = with_bytes n next (of_value s kind) (value_read s h kind)
 
   tagged_bytes : (schema : Schema) (at : ℕ) → FieldBytes (tagged_at schema body at)
   unfolding tagged_at
@@ -274,27 +273,27 @@ module _ (list r : List ℕ) (w : well_formed_registry r ≡ true) (c : Counts) 
   asked_bytes = operation_bytes (format_for q.content_type) q.opcode q.body (all_within is_byte request (header_length request) (content_length request) b)
 
   OfAct : Option Act → Type 0
-  OfAct none = Unit {0}
-  OfAct (some act) = NameBytes act
+  OfAct None = Unit {0}
+  OfAct (Some act) = NameBytes act
 
   asker_bytes : (o : Option Line) (x : Option Operation) → OfBytes x → OfAct (act_asked o x)
   unfolding act_asked act_of OfAct OfBytes NameBytes
-  asker_bytes none x h = tt
-  asker_bytes (some line) none h = tt
-  asker_bytes (some line) (some ping) h = tt
-  asker_bytes (some line) (some list_providers) h = tt
-  asker_bytes (some line) (some (list_opcodes provider)) h = tt
-  asker_bytes (some line) (some (import_key key)) h = h
-  asker_bytes (some line) (some (destroy_key name)) h = h
-  asker_bytes (some line) (some (export_public_key name)) h = tt
-  asker_bytes (some line) (some (verify_signature name hash signature)) h = tt
+  asker_bytes None x h = tt
+  asker_bytes (Some line) None h = tt
+  asker_bytes (Some line) (Some ping) h = tt
+  asker_bytes (Some line) (Some list_providers) h = tt
+  asker_bytes (Some line) (Some (list_opcodes provider)) h = tt
+  asker_bytes (Some line) (Some (import_key key)) h = h
+  asker_bytes (Some line) (Some (destroy_key name)) h = h
+  asker_bytes (Some line) (Some (export_public_key name)) h = tt
+  asker_bytes (Some line) (Some (verify_signature name hash signature)) h = tt
 
   late_bytes : all is_byte (record_for (served_act list r q)) ≡ true
   late_bytes = go (eqb (status_number (result_of list r q).status) 0) refl
     where
-      by_act : (o : Option Act) → OfAct o → (after : List ℕ) → replay_any r o ≡ some after → all is_byte (record_for o) ≡ true
-      by_act none h after e = unfold record_for in refl
-      by_act (some act) h after e = unfold record_for in record_bytes_lem r after act (unfold OfAct in h) (unfold replay_any in e)
+      by_act : (o : Option Act) → OfAct o → (after : List ℕ) → replay_any r o ≡ Some after → all is_byte (record_for o) ≡ true
+      by_act None h after e = unfold record_for in refl
+      by_act (Some act) h after e = unfold record_for in record_bytes_lem r after act (unfold OfAct in h) (unfold replay_any in e)
 
       go : (t : Bool) → eqb (status_number (result_of list r q).status) 0 ≡ t → all is_byte (record_for (served_act list r q)) ≡ true
       go false e = ap (λ (o : Option Act). all is_byte (record_for o)) (refused_unrecorded list r r same q e) ∙ (unfold record_for in refl)

@@ -1,7 +1,7 @@
 -- ONE REQUEST: replaying its record on the registry with use counts 0 gives the registry that the rules leave, with use counts 0.
+use Rattle.std.proofs.Common.{Option, Some, None}
 use mathlib.Core.Path.{◌≡◌, refl, sym, ap, ◌∙◌}
 use mathlib.Core.Bool.{Bool, true, false}
-use mathlib.Core.Option.{Option, none, some}
 use mathlib.Core.List.{List, [], ◌∷◌}
 use Prim.Native.Nat.{ℕ}
 use borrow.Author.Tests.{eqb-false}
@@ -32,12 +32,12 @@ use Rattle.recovery.proofs.UnusedLaws.{alike, unused_change}
 -- these bytes, no record or one, lead from a registry to another
 pub data Tells (g bytes g' : List ℕ) : Type 0 where
   silent : bytes ≡ [] → g ≡ g' → Tells g bytes g'
-  tells : (act : Act) → bytes ≡ record_of act → replay g act ≡ some g' → Tells g bytes g'
+  tells : (act : Act) → bytes ≡ record_of act → replay g act ≡ Some g' → Tells g bytes g'
 
-any_tells : (g g' : List ℕ) (o : Option Act) → replay_any g o ≡ some g' → Tells g (record_for o) g'
+any_tells : (g g' : List ℕ) (o : Option Act) → replay_any g o ≡ Some g' → Tells g (record_for o) g'
 unfolding replay_any record_for
-any_tells g g' none e = silent refl cc
-any_tells g g' (some act) e = tells act refl e
+any_tells g g' None e = silent refl cc
+any_tells g g' (Some act) e = tells act refl e
 
 module _ (list r : List ℕ) (w : well_formed_registry r ≡ true) (c : Counts) (request : List ℕ) where
   abbrev q : Request
@@ -51,14 +51,14 @@ module _ (list r : List ℕ) (w : well_formed_registry r ≡ true) (c : Counts) 
   changed_for_lem = go (application_of r q) refl (result_allowed list r q)
     where
       go : (o : Option Line) → application_of r q ≡ o → Allowed (askers_slots r o) x.change → changed_for (unused r) o x.change ≡ unused (changed_by r o x)
-      go none e ok = refl
-      go (some line) e ok = sym (unused_change r w line (asks r q line e).there x.change ok)
+      go None e ok = refl
+      go (Some line) e ok = sym (unused_change r w line (asks r q line e).there x.change ok)
 
   late_tells : Tells (unused r) (record_for (served_act list r q)) (unused (changed_by r (application_of r q) x))
   late_tells = go (eqb (status_number x.status) 0) refl
     where
       go : (t : Bool) → eqb (status_number x.status) 0 ≡ t → Tells (unused r) (record_for (served_act list r q)) (unused (changed_by r (application_of r q) x))
-      go true e = any_tells (unused r) _ (served_act list r q) (served_replayed list (unused r) r (alike r w) q e ∙ ap some changed_for_lem)
+      go true e = any_tells (unused r) _ (served_act list r q) (served_replayed list (unused r) r (alike r w) q e ∙ ap Some changed_for_lem)
       go false e =
           let stays : changed_by r (application_of r q) x ≡ r = (unfold judgement verdict_of in refused_keeps list r c request (eqb-false _ _ e)) in
           silent (ap record_for (refused_unrecorded list (unused r) r (alike r w) q e) ∙ (unfold record_for in refl)) (ap unused (sym stays))

@@ -1,8 +1,8 @@
 -- RESTORE: the records of any calls of the code, read back in any chunks, give the registry that they left, with use counts 0;
 -- and NOTHING ACKNOWLEDGED IS LOST.
+use Rattle.std.proofs.Common.{Option, Some, None, Ok}
 use mathlib.Core.Path.{◌≡◌, refl, sym, ap, ap₂, ◌∙◌, subst}
 use mathlib.Core.Bool.{Bool, true, false}
-use mathlib.Core.Option.{Option, none, some}
 use mathlib.Core.List.{List, [], ◌∷◌, ◌++◌, append_assoc, flatten}
 use Prim.Native.Nat.{ℕ, zero, suc, ◌+◌, ◌-◌, ◌≤◌, ◌<◌}
 use native.Mathlib.Omega.{arith}
@@ -23,7 +23,6 @@ use Rattle.registry.proofs.KeylessLaws.{LegalNames, registry_good}
 use Rattle.registry.proofs.WellFormedLaws.{good_of}
 use Rattle.roster.specs.Roster.{Roster, applications, faulty, roster_of, RosterOutcome, roster_into, load_roster}
 use Rattle.roster.specs.declared.RosterFault.TheVariants.{WrongMemorySize}
-use Rattle.roster.specs.declared.Loaded.TheVariants.{Good}
 use Rattle.roster.proofs.RosterLaws.{roster_legal}
 use Rattle.stream.specs.Rules.{Verdict, rules}
 use Rattle.stream.specs.Handed.{Handed, responses_in, joined_records}
@@ -65,7 +64,7 @@ module _ (g x g' : List ℕ) (k : ℕ) where
       ap (λ (l : List ℕ). (read journal (reading g k []) l).kept) e
       ∙ (unfold read in ap₂ (λ (r : List ℕ) (n : ℕ). reading r n []) same (let z : k ≡ k + length x = omega (arith, ap length e) in z))
   tells_read (tells act e r) =
-      let judged : judge_act g (some act) ≡ good g' = (unfold judge_act in rw (r, judge_act)) in
+      let judged : judge_act g (Some act) ≡ good g' = (unfold judge_act in rw (r, judge_act)) in
       ap (λ (l : List ℕ). (read journal (reading g k []) l).kept) e
       ∙ read_good g k (record_of act) (is_record_lem act) g' (record_back act g (replay_short g act g' r) ∙ judged)
       ∙ ap (λ (l : List ℕ). reading g' (k + length l) []) (sym e)
@@ -209,9 +208,9 @@ at_border : (s : Kept) → said_for s.fault s.held ≡ AtBorder → s ≡ readin
 at_border s e = go s.fault refl s.held refl
   where
     go : (o : Option Fault) → s.fault ≡ o → (h : List ℕ) → s.held ≡ h → s ≡ reading s.registry s.kept []
-    go (some fault) q h p = absurd (omega (arith, ap said_kind (ap₂ said_for (sym q) (sym p) ∙ e)))
-    go none q [] p = λ i. record { registry = s.registry; kept = s.kept; held = p i; fault = q i }
-    go none q (b ∷ h) p = absurd (omega (arith, ap said_kind (ap₂ said_for (sym q) (sym p) ∙ e)))
+    go (Some fault) q h p = absurd (omega (arith, ap said_kind (ap₂ said_for (sym q) (sym p) ∙ e)))
+    go None q [] p = λ i. record { registry = s.registry; kept = s.kept; held = p i; fault = q i }
+    go None q (b ∷ h) p = absurd (omega (arith, ap said_kind (ap₂ said_for (sym q) (sym p) ∙ e)))
 
 module _ (list first journaled registry : List ℕ) (start : Start first journaled registry) where
   w : well_formed_registry registry ≡ true
@@ -383,12 +382,12 @@ first_start roster memory e = go (eqb (length memory) registry_size) e
     begins : (names : List (List ℕ)) → LegalNames names → Start (registry_of names) [] (registry_of names)
     begins names l = record { well_formed_lem = registry_good names l; bytes = refl; read = unfold read in refl; idle = roster_unused names l }
 
-    read_as : (r : Roster) → roster_of roster ≡ r → (roster_into memory r).answer ≡ Good → Start (roster_into memory r).registry [] (roster_into memory r).registry
+    read_as : (r : Roster) → roster_of roster ≡ r → (roster_into memory r).answer ≡ Ok tt → Start (roster_into memory r).registry [] (roster_into memory r).registry
     read_as (applications names) q f = begins names (roster_legal roster names q)
     read_as (faulty fault) q f = absurd (let z : ◌≡◌ {A = ℕ} 0 1 = cc in omega arith)
 
     go : (t : Bool)
         → (let o : RosterOutcome = when t then roster_into memory (roster_of roster) else roster_into memory (faulty WrongMemorySize) in
-        o.answer ≡ Good → Start o.registry [] o.registry)
+        o.answer ≡ Ok tt → Start o.registry [] o.registry)
     go false f = absurd (let z : ◌≡◌ {A = ℕ} 0 1 = cc in omega arith)
     go true f = read_as (roster_of roster) refl f

@@ -1,12 +1,11 @@
 -- What is claimed of a service that goes on with what its journal gives back: types, no proof. Each is for any cut of the journal
 -- into chunks, and about whatever code meets the contracts of the call and of the journal's reader.
-use Rattle.std.specs.Prelude.{◌≡◌, ℕ, ◌≤◌, true, length, take, eqb}
+use Rattle.std.specs.Prelude.{◌≡◌, ℕ, ◌≤◌, true, length, take, eqb, Ok}
 use mathlib.Core.List.{List, [], ◌++◌, flatten}
 use Rattle.wire.specs.Choice.{when◌then◌else◌}
 use Rattle.reading.specs.Calls.{taken_stream}
 use Rattle.registry.specs.WellFormed.{well_formed_registry}
 use Rattle.roster.specs.Roster.{load_roster}
-use Rattle.roster.specs.declared.Loaded.TheVariants.{Good}
 use Rattle.stream.specs.Rules.{rules}
 use Rattle.stream.specs.Handed.{responses_in, joined_records}
 use Rattle.stream.specs.Parts.{parts_of}
@@ -30,7 +29,7 @@ pub record Start (first journal registry : List ℕ) : Type 0 where
 
 -- the first one: a roster's registry, and no journal yet
 abbrev pub FirstStart : Type 0
-FirstStart = (roster memory : List ℕ) → (load_roster roster memory).answer ≡ Good
+FirstStart = (roster memory : List ℕ) → (load_roster roster memory).answer ≡ Ok tt
     → (let registry : List ℕ = (load_roster roster memory).registry in Start registry [] registry)
 
 -- ---- RESTORE: any calls of the code, refused ones among them, from a fresh connection and zero counters. Their records, behind

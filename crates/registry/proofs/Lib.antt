@@ -6,9 +6,10 @@ pub mod WellFormedLaws
 pub mod FreeLaws
 pub mod KeylessLaws
 pub mod ChangeLaws
-pub mod BlockNameLaws
+pub mod ChunkLaws
 pub mod LineLaws
 pub mod CheckLaws
+pub mod PlaceLaws
 pub mod FindLaws
 pub mod KeyLaws
 pub mod UsedLaws

@@ -4,15 +4,18 @@ use mathlib.Core.List.{List, [], ◌∷◌, ◌++◌, append_assoc, append-nil}
 use Prim.Native.Nat.{ℕ, ◌+◌, ◌-◌, ◌*◌, ◌≤◌, ◌<◌}
 use native.Mathlib.Omega.{arith}
 use borrow.Rule.Slice.PartMut.{put_mid}
-use lib.ListN.{length, take, drop, get_or, set, replicate, get_or-map, drop_of_length-le, replicate-append-replicate}
+use lib.ListN.{length, take, drop, get_or, set, replicate, length-map, get_or-map, drop_of_length-le, replicate-append-replicate}
 use Rattle.wire.specs.Lists.{padded}
 use Rattle.wire.proofs.ListLaws.{length_padded}
 use Rattle.wire.proofs.BufferLaws.{lent}
-use Rattle.wire.proofs.BlockLaws.{block_at_lem}
+use Rattle.wire.proofs.BlockLaws.{block_at_lem, length_blocks}
 use Rattle.keys.specs.Names.{application_name_most}
 use Rattle.registry.specs.Names.{name_in}
 use Rattle.registry.specs.Slots.{slot_size}
 use Rattle.registry.specs.Registry.{line_count, slot_count, line_size, lines_in, names_in, line_of}
+
+pub length_names : (registry : List ℕ) → length (names_in registry) ≡ line_count
+length_names registry = length-map (lines_in registry) name_in ∙ length_blocks line_size line_count registry
 
 pub name_there : (registry : List ℕ) (l : ℕ) → l < line_count → get_or (names_in registry) l [] ≡ name_in (take line_size (drop (l * line_size) registry))
 name_there registry l h = get_or-map name_in (lines_in registry) l [] ∙ ap name_in (block_at_lem line_size line_count registry l h)

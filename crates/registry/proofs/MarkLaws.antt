@@ -2,22 +2,24 @@
 use mathlib.Core.Path.{◌≡◌, refl, sym, ap, ap₂, ◌∙◌, subst}
 use mathlib.Core.Bool.{Bool, true, false}
 use mathlib.Core.List.{List, [], ◌∷◌, ◌++◌, map, map-append}
-use Prim.Native.Nat.{ℕ, zero, suc, ◌+◌, ◌-◌, ◌≤◌, ◌<◌, min}
+use Prim.Native.Nat.{ℕ, zero, suc, ◌+◌, ◌-◌, ◌*◌, ◌≤◌, ◌<◌, min}
 use native.Mathlib.Numerals.{add-one}
-use native.Mathlib.Nat.{le_of_suc-le-suc, not-suc-le-zero}
+use native.Mathlib.Nat.{add-zero, le_of_suc-le-suc, not-suc-le-zero}
 use native.Mathlib.Omega.{arith}
 use lib.ListN.{length, take, drop, get_or, set, replicate, length-take, length-drop}
-use lib.Seq.{take-add, drop-drop, take-suc, take-suc-set}
+use lib.Seq.{take-add, drop-drop, get_or-take, get_or-drop, take-suc, take-suc-set}
 use Rattle.wire.specs.Lists.{all, same, every, padded}
 use Rattle.wire.proofs.TestLaws.{and_left, and_right, every_at}
-use Rattle.wire.proofs.ListLaws.{all_take, same_true, length_part, zeros_back}
-use Rattle.wire.proofs.BlockLaws.{Sized}
+use Rattle.wire.proofs.ListLaws.{all_take, same_true, length_part, part_of_part, zeros_back}
+use Rattle.wire.proofs.BlockLaws.{Sized, block_at_lem, sized_blocks}
 use Rattle.keys.specs.Names.{key_name_most, is_new}
 use Rattle.keys.specs.code.Marks.{differs_from}
 use Rattle.keys.proofs.NameLaws.{legal_short}
 use Rattle.keys.proofs.MarkLaws.{differs}
 use Rattle.registry.specs.Names.{name_in, distinct}
 use Rattle.registry.specs.Slots.{data_length_at, slot_size, key_tests, well_formed_slot}
+use Rattle.registry.specs.Registry.{slot_count, line_head, line_size, slots_in}
+use Rattle.registry.specs.WellFormed.{slots_well_formed}
 use Rattle.registry.specs.code.Check.{mark_in}
 use Rattle.registry.proofs.NameLaws.{Apart, apart_empty, apart_absent, distinct_snoc}
 use Rattle.registry.proofs.SlotLaws.{key_slot}
@@ -148,3 +150,28 @@ marked_more slots sound marks i h k m apart =
         apart_absent (name_in s) (map name_in (take i slots))
         (marks_new s p named (take i slots) (sound_take i slots sound)
         (ap (all (differs_from (mark_of s))) (sym m.first) ∙ all_take (differs_from (mark_of s)) i marks (a named)))
+
+-- ---- slot number i of a line, where it lies
+
+module _ (line : List ℕ) (i : ℕ) (h : i < slot_count) where
+  abbrev at : ℕ
+  at = line_head + i * slot_size
+
+  there : get_or (slots_in line) i [] ≡ take slot_size (drop at line)
+  there = block_at_lem slot_size slot_count (drop line_head line) i h ∙ ap (take slot_size) (drop-drop (i * slot_size) line_head line)
+
+  pub first_there : get_or (get_or (slots_in line) i []) 0 0 ≡ get_or line at 0
+  first_there =
+      ap (λ (l : List ℕ). get_or l 0 0) there ∙ get_or-take slot_size (drop at line) 0 0 (omega arith) ∙ get_or-drop at line 0 0
+      ∙ ap (λ (k : ℕ). get_or line k 0) (add-zero at)
+
+  pub mark_there : mark_in (take (at + data_length_at - at) (drop at line)) ≡ mark_of (get_or (slots_in line) i [])
+  mark_there =
+      let k : at + data_length_at - at ≡ data_length_at = omega arith in
+      ap (λ (n : ℕ). mark_in (take n (drop at line))) k
+      ∙ ap mark_in (sym (ap name_part there ∙ part_of_part data_length_at 0 slot_size (drop at line) (omega arith)))
+
+pub line_sound : (line : List ℕ) → length line ≡ line_size → slots_well_formed line ≡ true → AllSound (slots_in line)
+line_sound line long good =
+    let behind : length (drop line_head line) ≡ slot_count * slot_size = length-drop line_head line ∙ omega (arith, long) in
+    sound_all (slots_in line) (sized_blocks slot_size slot_count (drop line_head line) behind) good

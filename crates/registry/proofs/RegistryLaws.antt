@@ -1,7 +1,7 @@
 -- Laws of the registry's views: an application and a slot that are found are there.
+use Rattle.std.proofs.Common.{Option, Some, None}
 use mathlib.Core.Path.{◌≡◌, refl, sym, ap, ◌∙◌, subst}
 use mathlib.Core.Bool.{Bool, true, false, not, ◌&&◌}
-use mathlib.Core.Option.{Option, none, some}
 use mathlib.Core.List.{List, [], ◌∷◌, map}
 use Prim.Native.Nat.{ℕ, ◌+◌, ◌-◌, ◌*◌, ◌≤◌, ◌<◌}
 use native.Mathlib.Omega.{arith}
@@ -21,8 +21,6 @@ use Rattle.registry.specs.Registry.{line_count, slot_count, line_head, line_size
 use Rattle.registry.specs.WellFormed.{is_used}
 use Rattle.registry.specs.declared.Line.{Line}
 use Rattle.registry.specs.declared.Slot.{Slot}
-use Rattle.registry.specs.declared.Found.{Found}
-use Rattle.registry.specs.declared.Found.TheVariants.{At, Nothing}
 use Rattle.registry.proofs.NameLaws.{index_same, index_none}
 use Rattle.registry.proofs.SlotLaws.{name_of_lem}
 
@@ -36,10 +34,10 @@ pub record Used (registry : List ℕ) (line : Line) : Type 0 where
   pub used : is_used (get_or (names_in registry) line.0 []) ≡ true
 
 line_number : Option Line → ℕ
-line_number none = 0
-line_number (some line) = line.0
+line_number None = 0
+line_number (Some line) = line.0
 
-pub named_used : (registry name : List ℕ) (line : Line) → application_named registry name ≡ some line → Used registry line
+pub named_used : (registry name : List ℕ) (line : Line) → application_named registry name ≡ Some line → Used registry line
 unfolding application_named line_number
 named_used registry name line e = go (ltb 0 (length name) && ltb i line_count) refl e
   where
@@ -47,7 +45,7 @@ named_used registry name line e = go (ltb 0 (length name) && ltb i line_count) r
     i = index_from name (names_in registry) 0
 
     go : (t : Bool) → ltb 0 (length name) && ltb i line_count ≡ t
-        → (let found : Option Line = when t then some (record { 0 = i }) else none in found) ≡ some line → Used registry line
+        → (let found : Option Line = when t then Some (record { 0 = i }) else None in found) ≡ Some line → Used registry line
     go false q w = absurd (some≢none line (sym w))
     go true q w =
         let n : i ≡ line.0 = ap line_number w in
@@ -66,30 +64,30 @@ unfolding slots_of
 length_slots registry line =
     length-map (slots_in (line_at registry line)) slot_of ∙ length_blocks slot_size slot_count (drop line_head (line_at registry line))
 
-slot_number : Found → ℕ
-slot_number (At slot) = slot.0
-slot_number Nothing = 0
+slot_number : Option Slot → ℕ
+slot_number (Some slot) = slot.0
+slot_number None = 0
 
 module _ (name : List ℕ) (slots : List Entry) where
   k : ℕ
   k = index_from name (map name_of slots) 0
 
-  pub found_below : (slot : Slot) → slot_named name slots ≡ At slot → slot.0 < length slots
+  pub found_below : (slot : Slot) → slot_named name slots ≡ Some slot → slot.0 < length slots
   unfolding slot_named slot_number k
   found_below slot e = go (ltb k (length slots)) refl e
     where
-      go : (t : Bool) → ltb k (length slots) ≡ t → (let found : Found = when t then At (record { 0 = k }) else Nothing in found) ≡ At slot → slot.0 < length slots
+      go : (t : Bool) → ltb k (length slots) ≡ t → (let found : Option Slot = when t then Some (record { 0 = k }) else None in found) ≡ Some slot → slot.0 < length slots
       go true q w =
           let n : k ≡ slot.0 = ap slot_number w in
           let h : k < length slots = ltb-true _ _ q in
           omega arith
       go false q w = absurd (let z : ◌≡◌ {A = ℕ} 0 1 = cc in omega arith)
 
-  pub found_name : (slot : Slot) → slot_named name slots ≡ At slot → name_of (get_or slots slot.0 free) ≡ name
+  pub found_name : (slot : Slot) → slot_named name slots ≡ Some slot → name_of (get_or slots slot.0 free) ≡ name
   unfolding slot_named slot_number k
   found_name slot e = go (ltb k (length slots)) refl e
     where
-      go : (t : Bool) → ltb k (length slots) ≡ t → (let found : Found = when t then At (record { 0 = k }) else Nothing in found) ≡ At slot
+      go : (t : Bool) → ltb k (length slots) ≡ t → (let found : Option Slot = when t then Some (record { 0 = k }) else None in found) ≡ Some slot
           → name_of (get_or slots slot.0 free) ≡ name
       go true q w =
           let n : k - 0 ≡ slot.0 = (let z : k - 0 ≡ k = omega arith in z) ∙ ap slot_number w in
@@ -99,11 +97,11 @@ module _ (name : List ℕ) (slots : List Entry) where
           ∙ map_at name_of slots slot.0 free [] h)
       go false q w = cc
 
-  pub found_none : slot_named name slots ≡ Nothing → is_new name (map name_of slots) ≡ true
+  pub found_none : slot_named name slots ≡ None → is_new name (map name_of slots) ≡ true
   unfolding slot_named k
   found_none e = go (ltb k (length slots)) refl e
     where
-      go : (t : Bool) → ltb k (length slots) ≡ t → (let found : Found = when t then At (record { 0 = k }) else Nothing in found) ≡ Nothing
+      go : (t : Bool) → ltb k (length slots) ≡ t → (let found : Option Slot = when t then Some (record { 0 = k }) else None in found) ≡ None
           → is_new name (map name_of slots) ≡ true
       go true q w = cc
       go false q w =
@@ -111,7 +109,7 @@ module _ (name : List ℕ) (slots : List Entry) where
           index_none name (map name_of slots) 0 (let x : 0 + length (map name_of slots) ≤ k = omega (arith, length-map slots name_of) in x)
 
 -- a slot that was found is one of the application's
-pub slot_below : (registry : List ℕ) (line : Line) (name : List ℕ) (slot : Slot) → slot_named name (slots_of registry line) ≡ At slot → slot.0 < slot_count
+pub slot_below : (registry : List ℕ) (line : Line) (name : List ℕ) (slot : Slot) → slot_named name (slots_of registry line) ≡ Some slot → slot.0 < slot_count
 slot_below registry line name slot e = omega (arith, length_slots registry line, found_below name (slots_of registry line) slot e)
 
 -- the slots' names, where they lie
@@ -142,7 +140,7 @@ slot_there_lem registry line k h =
 -- ---- an application and its name
 
 -- the name that an application was found by is its line's
-pub found_line : (registry name : List ℕ) (line : Line) → application_named registry name ≡ some line → get_or (names_in registry) line.0 [] ≡ name
+pub found_line : (registry name : List ℕ) (line : Line) → application_named registry name ≡ Some line → get_or (names_in registry) line.0 [] ≡ name
 unfolding application_named line_number
 found_line registry name line e = go (ltb 0 (length name) && ltb i line_count) refl e
   where
@@ -150,7 +148,7 @@ found_line registry name line e = go (ltb 0 (length name) && ltb i line_count) r
     i = index_from name (names_in registry) 0
 
     go : (t : Bool) → ltb 0 (length name) && ltb i line_count ≡ t
-        → (let found : Option Line = when t then some (record { 0 = i }) else none in found) ≡ some line → get_or (names_in registry) line.0 [] ≡ name
+        → (let found : Option Line = when t then Some (record { 0 = i }) else None in found) ≡ Some line → get_or (names_in registry) line.0 [] ≡ name
     go false q w = absurd (some≢none line (sym w))
     go true q w =
         let n : i ≡ line.0 = ap line_number w in

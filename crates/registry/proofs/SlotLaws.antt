@@ -1,6 +1,6 @@
 -- Laws of a slot's bytes: a key written is read as itself, and a key that a registry may hold is a well-formed slot.
 use mathlib.Core.Path.{◌≡◌, refl, sym, ap, ◌∙◌}
-use mathlib.Core.Bool.{Bool, true, false, or-true, or-false}
+use mathlib.Core.Bool.{Bool, true, false, true≢false, ◌&&◌, and-false, or-true, or-false}
 use mathlib.Core.List.{List, [], ◌∷◌, ◌++◌, append_assoc, append-nil}
 use Prim.Native.Nat.{ℕ, zero, suc, ◌+◌, ◌-◌, ◌≤◌, ◌<◌}
 use native.Mathlib.Omega.{arith}
@@ -42,6 +42,21 @@ unfolding well_formed_slot
 key_slot [] h = absurd (h refl)
 key_slot (x ∷ slot) h = rw (ne_eqb x 0 h)
 
+-- a test that fails
+pub every_fails : (ts : List Bool) (k : ℕ) → get_or ts k true ≡ false → every ts ≡ false
+every_fails [] k e = absurd (true≢false e)
+every_fails (t ∷ ts) zero e = ap (λ (a : Bool). a && every ts) e
+every_fails (t ∷ ts) (suc k) e = ap (λ (a : Bool). t && a) (every_fails ts k e) ∙ and-false t
+
+pub key_fails : (slot : List ℕ) → (get_or slot 0 0 ≡ 0 → ⊥) → (k : ℕ) → get_or (key_tests slot) k true ≡ false → well_formed_slot slot ≡ false
+key_fails slot named k e = key_slot slot named ∙ every_fails (key_tests slot) k e
+
+-- the bytes behind a name, as a part by the name's length
+pub behind_lent : (most n : ℕ) (block : List ℕ) → n ≡ get_or block 0 0 → take (1 + most - (1 + n)) (drop (1 + n) block) ≡ behind_name most block
+behind_lent most n block e =
+    let less : 1 + most - (1 + get_or block 0 0) ≡ most - get_or block 0 0 = omega arith in
+    ap (λ (k : ℕ). take (1 + most - (1 + k)) (drop (1 + k) block)) e ∙ ap (λ (k : ℕ). take k (drop (1 + get_or block 0 0) block)) less
+
 -- the data of a well-formed slot
 abbrev pub ShortEntry : Entry → Type 0
 ShortEntry free = Unit {0}
@@ -77,6 +92,21 @@ module _ (slot : List ℕ) (long : length slot ≡ slot_size) where
           let long-field : data_most < field data_length_at 2 slot = leb-false _ _ e in
           let more : data_most < length (data_in slot) = simp (length-take, length-drop) (omega arith) in
           long_data _ (omega (arith, zeros, long-field)) ∙ sym (long_data _ more)
+
+  -- a test of data of that length
+  pub data_tested : {d : ℕ} {r : Bool} → d ≡ field data_length_at 2 slot → ((bytes : List ℕ) → length bytes ≡ d → r ≡ legal_data bytes) → r ≡ legal_data (data_in slot)
+  data_tested e tested = tested (replicate (field data_length_at 2 slot) 0) (length-replicate {A = ℕ} (field data_length_at 2 slot) 0 ∙ sym e) ∙ data_judged
+
+-- data that pass it are short
+pub data_short : (d : ℕ) {r : Bool} → r ≡ true → ((bytes : List ℕ) → length bytes ≡ d → r ≡ legal_data bytes) → d ≤ data_most
+data_short d e tested =
+    omega (arith, length-replicate {A = ℕ} d 0, legal_data_lem (replicate d 0) (sym (tested (replicate d 0) (length-replicate {A = ℕ} d 0)) ∙ e))
+
+-- the bytes behind them, as a part
+pub data_lent : (d : ℕ) (slot : List ℕ) → d ≡ field data_length_at 2 slot → take (bits_at - (data_at + d)) (drop (data_at + d) slot) ≡ behind_data slot
+data_lent d slot e =
+    let less : bits_at - (data_at + d) ≡ data_most - d = omega arith in
+    ap (λ (k : ℕ). take k (drop (data_at + d) slot)) less ∙ ap (λ (k : ℕ). take (data_most - k) (drop (data_at + k) slot)) e
 
 -- ---- a key that is written and read again
 

@@ -1,12 +1,13 @@
 -- A slot whose key was used once more: its count alone has changed (document 02, "Use per key").
-use mathlib.Core.Path.{◌≡◌, sym, ap, ◌∙◌}
+use mathlib.Core.Path.{◌≡◌, refl, sym, ap, ◌∙◌}
 use mathlib.Core.Bool.{Bool, true, false, true≢false}
 use mathlib.Core.List.{List, [], ◌∷◌}
-use Prim.Native.Nat.{ℕ, ◌+◌, ◌-◌, ◌≤◌, ◌<◌, min}
+use Prim.Native.Nat.{ℕ, ◌+◌, ◌-◌, ◌^◌, ◌≤◌, ◌<◌, min}
+use borrow.Author.Tests.{ltb-true, ltb-false}
 use native.Mathlib.Omega.{arith}
 use lib.ListN.{length, take, drop, get_or, length-take, length-drop}
 use lib.Seq.{get_or-take}
-use lib.Dec.{eqb, leb}
+use lib.Dec.{eqb, leb, ltb}
 use Rattle.wire.specs.Choice.{when◌then◌else◌}
 use Rattle.wire.specs.Lists.{all, every, is_zero}
 use Rattle.wire.specs.Numbers.{little_endian, little_endian_of, field}
@@ -18,8 +19,17 @@ use Rattle.keys.specs.Names.{key_name_most, legal_name}
 use Rattle.keys.proofs.KeyLaws.{legal_data_lem}
 use Rattle.keys.proofs.NameLaws.{legal_short}
 use Rattle.registry.specs.Names.{name_in}
-use Rattle.registry.specs.Slots.{Entry, free, held, data_length_at, data_at, bits_at, export_at, verify_at, uses_at, slot_size, data_in, key_in, slot_of, uses_in, used, used_slot, behind_name, behind_data, key_tests, well_formed_slot}
+use Rattle.registry.specs.Slots.{Entry, free, held, data_length_at, data_at, bits_at, export_at, verify_at, uses_at, slot_size, data_in, key_in, slot_of, uses_in, uses_most, used, used_slot, behind_name, behind_data, key_tests, well_formed_slot}
 use Rattle.registry.proofs.SlotLaws.{key_slot}
+
+-- one use more, as the library adds
+pub used_saturates : (n : ℕ) → n < 2 ^ 32 → min (n + 1) (2 ^ 32 - 1) ≡ used n
+unfolding used
+used_saturates n h = go (ltb n uses_most) refl
+  where
+    go : (t : Bool) → ltb n uses_most ≡ t → min (n + 1) (2 ^ 32 - 1) ≡ (when t then n + 1 else n)
+    go true e = omega (arith, ltb-true n uses_most e)
+    go false e = omega (arith, ltb-false n uses_most e)
 
 module _ (slot : List ℕ) (long : length slot ≡ slot_size) where
   abbrev count : List ℕ

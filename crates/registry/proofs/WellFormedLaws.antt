@@ -1,4 +1,5 @@
 -- A well-formed registry stays so when a slot of a used line is filled with a legal key or cleared, or its key is used.
+use Rattle.std.proofs.Common.{Some, None}
 use mathlib.Core.Path.{◌≡◌, refl, sym, ap, ap₂, ◌∙◌, subst}
 use mathlib.Core.Bool.{Bool, true, not, ◌&&◌, ◌||◌}
 use mathlib.Core.List.{List, [], ◌∷◌, map}
@@ -21,7 +22,6 @@ use Rattle.registry.specs.Registry.{line_count, slot_count, line_head, line_size
 use Rattle.registry.specs.WellFormed.{is_used, none_used, used_first, legal_if_used, free_if_unused, slots_well_formed, zeros_behind_name, keys_distinct, registry_tests, well_formed_registry}
 use Rattle.registry.specs.declared.Line.{Line}
 use Rattle.registry.specs.declared.Slot.{Slot}
-use Rattle.registry.specs.declared.Found.TheVariants.{At, Nothing}
 use Rattle.keys.proofs.NameLaws.{legal_short}
 use Rattle.registry.proofs.NameLaws.{lone, lone_absent, Apart, apart_empty, apart_absent, distinct_set, distinct_empty}
 use Rattle.registry.proofs.SlotLaws.{Legal, ShortEntry, entry_short, free_good, key_good, key_length, key_name}
@@ -265,15 +265,15 @@ slot_good r w l k hl hk =
 -- key used
 pub data Allowed (slots : List Entry) : Change → Type 0 where
   stays : Allowed slots unchanged
-  fills : {slot : Slot} {key : Key} → Legal key → slot_named key.name slots ≡ Nothing → slot_named [] slots ≡ At slot → Allowed slots (fill slot key)
-  clears : {slot : Slot} (name : List ℕ) → slot_named name slots ≡ At slot → Allowed slots (clear slot)
-  uses : {slot : Slot} (name : List ℕ) (key : Key) → slot_named name slots ≡ At slot → get_or slots slot.0 free ≡ held key → Allowed slots (add_use slot)
+  fills : {slot : Slot} {key : Key} → Legal key → slot_named key.name slots ≡ None → slot_named [] slots ≡ Some slot → Allowed slots (fill slot key)
+  clears : {slot : Slot} (name : List ℕ) → slot_named name slots ≡ Some slot → Allowed slots (clear slot)
+  uses : {slot : Slot} (name : List ℕ) (key : Key) → slot_named name slots ≡ Some slot → get_or slots slot.0 free ≡ held key → Allowed slots (add_use slot)
 
 module _ (r : List ℕ) (w : well_formed_registry r ≡ true) (line : Line) (a : Used r line) where
   names : List (List ℕ)
   names = map name_in (slots_in (line_in r line.0))
 
-  absent_name : (name : List ℕ) → slot_named name (slots_of r line) ≡ Nothing → is_new name names ≡ true
+  absent_name : (name : List ℕ) → slot_named name (slots_of r line) ≡ None → is_new name names ≡ true
   unfolding slots_of names
   absent_name name e =
       ap (λ (l : List ℕ). is_new name (map name_in (slots_in l))) (line_there r (good_of r w) line.0 a.there)

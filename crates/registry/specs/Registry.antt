@@ -1,7 +1,6 @@
 -- The registry's bytes as applications and their slots, and what a change of a slot writes ("Roster, registry, connection,
 -- tally"; document 02, "Use per key"; docs/LAYOUT.md).
-use Rattle.std.specs.Prelude.{ℕ, ◌+◌, ◌*◌, ◌&&◌, length, take, drop, replicate, ltb}
-use Rattle.std.proofs.Math.Option.{Option, none, some}
+use Rattle.std.specs.Prelude.{ℕ, ◌+◌, ◌*◌, ◌&&◌, length, take, drop, replicate, ltb, Option, Some, None}
 use mathlib.Core.List.{List, ◌∷◌, ◌++◌, map, flatten}
 use Rattle.wire.specs.Choice.{when◌then◌else◌}
 use Rattle.wire.specs.Lists.{padded, put, blocks}
@@ -11,8 +10,6 @@ use Rattle.registry.specs.Names.{name_in, index_from}
 use Rattle.registry.specs.Slots.{Entry, free, name_of, key_bytes, slot_bytes, slot_of, uses_in, used_slot, slot_size}
 use Rattle.registry.specs.declared.Line.{Line}
 use Rattle.registry.specs.declared.Slot.{Slot}
-use Rattle.registry.specs.declared.Found.{Found}
-use Rattle.registry.specs.declared.Found.TheVariants.{At, Nothing}
 
 -- ---- sizes
 
@@ -51,7 +48,7 @@ slots_in line = blocks slot_count slot_size (drop line_head line)
 unfoldable pub application_named : List ℕ → (name : List ℕ) → Option Line
 application_named registry name =
     let number = index_from name (names_in registry) 0 in
-    when ltb 0 (length name) && ltb number line_count then some (record { 0 = number }) else none
+    when ltb 0 (length name) && ltb number line_count then Some (record { 0 = number }) else None
 
 -- the bytes of a line
 abbrev pub line_at : List ℕ → Line → List ℕ
@@ -66,10 +63,10 @@ unfoldable pub uses_of : List ℕ → Line → List ℕ
 uses_of registry line = map uses_in (slots_in (line_at registry line))
 
 -- the first slot with this name; the empty name is that of a free slot
-unfoldable pub slot_named : (name : List ℕ) → List Entry → Found
+unfoldable pub slot_named : (name : List ℕ) → List Entry → Option Slot
 slot_named name slots =
     let number = index_from name (map name_of slots) 0 in
-    when ltb number (length slots) then At (record { 0 = number }) else Nothing
+    when ltb number (length slots) then Some (record { 0 = number }) else None
 
 -- ---- what an operation changes, of the slots of the application that asks
 

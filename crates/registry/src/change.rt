@@ -11,6 +11,7 @@ use crate::slots::{count_use, write_key};
 use crate::{Line, SLOT_SIZE, Slot};
 use wire::bytes::clear;
 
+// Kept in each of the three: a function that hands out the slot's part to be written needs a clause of what comes back, which is no plainer.
 pub fn fill_slot(
     registry: &mut [u8],
     line: Line,

@@ -40,7 +40,8 @@ pub fn key_bits(registry: &[u8], line: Line, slot: Slot) -> usize
     size_at(registry, a + BITS_AT)
 }
 
-// Whether the key in a slot may verify; of a free slot it may not.
+// Whether the key in a slot may verify; of a free slot it may not. Kept beside `is_exportable`: each is one line, and its name says which of
+// the two flags.
 pub fn is_verifiable(registry: &[u8], line: Line, slot: Slot) -> bool
     requires { (well_formed_registry registry.now ≡ true) × (line.0 < line_count) × (slot.0 < slot_count) }
     ensures { result ≡ verify_in (get_or (slots_of registry.now line) slot.0 free) }

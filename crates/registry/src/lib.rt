@@ -27,9 +27,6 @@ pub const USES_AT: usize = VERIFY_AT + 1;
 
 pub const SLOT_SIZE: usize = USES_AT + 4;
 
-// A count of uses stays here.
-pub const USES_MOST: u32 = 4294967295;
-
 pub const SLOTS: usize = 8;
 
 // A line: the name's length and the name, then the slots.
@@ -41,24 +38,11 @@ pub const LINES: usize = 8;
 
 pub const REGISTRY_SIZE: usize = LINES * LINE_SIZE;
 
-// The number of an application in the roster: document 01's roster line.
+// The number of an application in the roster: document 01's roster line. Kept without an invariant, here and at Slot:
+// journal::replay::is_in_use takes a Line that may be none, so that each function says for itself what it asks of the two.
 #[derive(Clone, Copy)]
 pub struct Line(pub usize);
 
 // The number of one of an application's slots.
 #[derive(Clone, Copy)]
 pub struct Slot(pub usize);
-
-// What a search among an application's slots finds.
-#[derive(Clone, Copy)]
-pub enum Found {
-    At(Slot),
-    Nothing,
-}
-
-// What a search for an application finds.
-#[derive(Clone, Copy)]
-pub enum Application {
-    Named(Line),
-    Unknown,
-}

@@ -6,19 +6,17 @@ ghost use Rattle.keys.specs.Names.{application_name_most};
 ghost use Rattle.registry.specs.Registry.{line_count, slot_count, line_size, registry_size, names_in, place, slot_at, line_of};
 ghost use Rattle.registry.specs.code.Check.{is_free};
 
+use crate::names::name_of;
 use crate::slots::write_padded;
 use crate::{LINE_HEAD, LINE_SIZE, Line, SLOT_SIZE, Slot};
 use wire::bytes::clear;
-use wire::number::wide;
 
 // Where a slot begins in the registry.
 pub fn slot_at(line: Line, slot: Slot) -> usize
     requires { (line.0 < line_count) × (slot.0 < slot_count) }
     ensures { result ≡ place line slot }
 {
-    let l = line.0;
-    let k = slot.0;
-    l * LINE_SIZE + (LINE_HEAD + k * SLOT_SIZE)
+    line.0 * LINE_SIZE + (LINE_HEAD + slot.0 * SLOT_SIZE)
 }
 
 // Whether a slot is free.
@@ -35,11 +33,8 @@ pub fn line_name<'a>(registry: &'a [u8], line: Line) -> &'a [u8]
     requires { (length registry.now ≡ registry_size) × (line.0 < line_count) }
     ensures { result.now ≡ get_or (names_in registry.now) line.0 [] }
 {
-    let l = line.0;
-    let a = l * LINE_SIZE;
-    let begin = a + 1;
-    let end = begin + wide(registry[a]);
-    &registry[begin..end]
+    let a = line.0 * LINE_SIZE;
+    name_of(&registry[a..a + LINE_SIZE])
 }
 
 // Writes the bytes of a line, of an application that has no keys.
@@ -47,7 +42,7 @@ fn write_keyless(bytes: &mut [u8], name: &[u8])
     requires { (length bytes.old ≡ line_size) × (length name.now ≤ application_name_most) }
     ensures { bytes.new ≡ line_of name.now }
 {
-    bytes[0] = (name.len() % 256) as u8;
+    bytes[0] = name.len() as u8;
     write_padded(&mut bytes[1..], name);
 }
 
@@ -56,8 +51,7 @@ pub fn write_line(registry: &mut [u8], line: Line, name: &[u8])
     requires { (length registry.old ≡ registry_size) × (line.0 < line_count) × (length name.now ≤ application_name_most) }
     ensures { registry.new ≡ put registry.old (line.0 * line_size) (line_of name.now) }
 {
-    let l = line.0;
-    let a = l * LINE_SIZE;
+    let a = line.0 * LINE_SIZE;
     let e = a + LINE_SIZE;
     write_keyless(&mut registry[a..e], name);
 }

@@ -12,6 +12,7 @@ use crate::{DATA_LENGTH_AT, LINE_HEAD, SLOT_SIZE, SLOTS};
 use keys::marks::{four_words, is_among, mix};
 
 // The mark of a key's name, by all bytes that there are for one: `s` is a slot up to its data's length.
+#[tactic(auto, unfolding(crate::specs::code::Check::mark_in))]
 fn mark_of(s: &[u8]) -> u32
     requires { length s.now ≡ data_length_at }
     ensures { result ≡ mark_in s.now }
@@ -23,10 +24,7 @@ fn mark_of(s: &[u8]) -> u32
 fn is_repeated(marks: &[u32], n: u8, mark: u32) -> bool
     ensures { result ≡ not (eqb n 0) && not (all (differs_from mark) marks.now) }
 {
-    if n == 0 {
-        return false;
-    }
-    is_among(marks, mark)
+    n != 0 && is_among(marks, mark)
 }
 
 // Whether the marks of a line's keys differ, so that no name stands twice. `false` decides nothing.
@@ -34,9 +32,8 @@ fn are_marks_apart(line: &[u8]) -> bool
     requires { (length line.now ≡ line_size) × (slots_well_formed line.now ≡ true) }
     ensures { result ≡ true → keys_distinct line.now ≡ true }
 {
-    let mut marks: [u32; SLOTS] = [0; SLOTS];
-    let mut i = 0;
-    while i < SLOTS {
+    let mut marks = [0; SLOTS];
+    for i in 0..SLOTS {
         let a = LINE_HEAD + i * SLOT_SIZE;
         let e = a + DATA_LENGTH_AT;
         let mark = mark_of(&line[a..e]);
@@ -44,7 +41,6 @@ fn are_marks_apart(line: &[u8]) -> bool
             return false;
         }
         marks[i] = mark;
-        i += 1;
     }
     true
 }
@@ -57,5 +53,5 @@ pub fn are_keys_distinct(line: &[u8]) -> bool
     if are_marks_apart(line) {
         return true;
     }
-    are_distinct(line, LINE_HEAD, SLOT_SIZE, SLOTS)
+    are_distinct(&line[LINE_HEAD..], SLOT_SIZE)
 }

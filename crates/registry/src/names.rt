@@ -1,77 +1,61 @@
-// Where a name stands among blocks that begin with names ("Roster, registry, connection, tally").
-ghost use Rattle.std.specs.Prelude.{◌≡◌, not, ◌+◌, ◌*◌, ◌≤◌, length, drop};
-ghost use Rattle.keys.specs.Names.{is_new};
-ghost use Rattle.registry.specs.Names.{index_from, distinct};
-ghost use Rattle.registry.specs.code.Check.{block_names};
+// Names at the beginning of blocks of one size ("Roster, registry, connection, tally").
+ghost use Rattle.std.specs.Prelude.{ℕ, ◌≡◌, ◌*◌, ◌≤◌, length, map, get_or};
+ghost use Rattle.std.specs.List.{position};
+ghost use Rattle.wire.specs.Lists.{same, blocks};
+ghost use Rattle.registry.specs.Names.{name_in, distinct};
 
-use wire::bytes::equal;
 use wire::number::wide;
 
-// The number of the first block from `from` on whose name is `name`, or `count` where there is none: blocks of `size`
-// bytes behind `head` bytes.
-pub fn scan(s: &[u8], head: usize, size: usize, count: usize, from: usize, name: &[u8]) -> usize
-    requires { (length s.now ≡ head + count * size) × (256 ≤ size) × (from ≤ count) }
-    ensures { result ≡ index_from name.now (drop from (block_names head size count s.now)) from }
+// The name that a block begins with: its length in one byte, then the name.
+pub(crate) fn name_of(block: &[u8]) -> &[u8]
+    requires { 256 ≤ length block.now }
+    ensures name { result.now ≡ name_in block.now }
+    ensures size { length result.now ≡ get_or block.now 0 0 }
 {
-    let mut next = from;
-    let n = 'scan: loop {
-        if count <= next {
-            break 'scan next;
-        }
-        let block = next;
+    let end = 1 + wide(block[0]);
+    &block[1..end]
+}
+
+// The number of the first block whose name is `name`, where `bytes` are blocks of one size.
+pub fn scan(bytes: &[u8], size: usize, name: &[u8]) -> Option<usize>
+    requires { 256 ≤ size }
+    ensures { (count : ℕ) → length bytes.now ≡ count * size → result ≡ position (λ block. same name.now (name_in block)) (blocks count size bytes.now) }
+{
+    // Document 01's form for this place: a labelled scan, left with the number as the loop's value.
+    let mut rest = bytes;
+    let mut next = 0;
+    let found = 'scan: loop {
+        let Some((block, behind)) = rest.split_at_checked(size) else {
+            break 'scan None;
+        };
+        let number = next;
         next += 1;
-        let at = head + block * size;
-        if wide(s[at]) != name.len() {
+        rest = behind;
+        if wide(block[0]) != name.len() {
             continue 'scan;
         }
-        let begin = at + 1;
-        let mut k: usize = 0;
-        while k < name.len() {
-            if s[begin + k] != name[k] {
+        for (k, byte) in name.iter().enumerate() {
+            if block[1 + k] != *byte {
                 continue 'scan;
             }
-            k += 1;
         }
-        break 'scan block;
+        break 'scan Some(number);
     };
-    n
+    found
 }
 
-// Whether one of the blocks from `from` on has the name.
-fn is_among(s: &[u8], head: usize, size: usize, count: usize, from: usize, name: &[u8]) -> bool
-    requires { (length s.now ≡ head + count * size) × (256 ≤ size) × (from ≤ count) }
-    ensures { result ≡ not (is_new name.now (drop from (block_names head size count s.now))) }
+// Whether no name but the empty one stands twice among such blocks.
+pub fn are_distinct(bytes: &[u8], size: usize) -> bool
+    requires { 256 ≤ size }
+    ensures { (count : ℕ) → length bytes.now ≡ count * size → result ≡ distinct (map name_in (blocks count size bytes.now)) }
 {
-    let mut i = from;
-    while i < count {
-        let at = head + i * size;
-        let begin = at + 1;
-        let end = begin + wide(s[at]);
-        if equal(name, &s[begin..end]) {
-            return true;
+    let mut rest = bytes;
+    while let Some((block, behind)) = rest.split_at_checked(size) {
+        let name = name_of(block);
+        if !name.is_empty() && scan(behind, size, name).is_some() {
+            return false;
         }
-        i += 1;
-    }
-    false
-}
-
-// Whether no name but the empty one stands twice.
-pub fn are_distinct(s: &[u8], head: usize, size: usize, count: usize) -> bool
-    requires { (length s.now ≡ head + count * size) × (256 ≤ size) }
-    ensures { result ≡ distinct (block_names head size count s.now) }
-{
-    let mut i = 0;
-    while i < count {
-        let at = head + i * size;
-        let n = wide(s[at]);
-        let begin = at + 1;
-        let end = begin + n;
-        i += 1;
-        if n != 0 {
-            if is_among(s, head, size, count, i, &s[begin..end]) {
-                return false;
-            }
-        }
+        rest = behind;
     }
     true
 }

@@ -1,8 +1,8 @@
 -- Laws of loading a roster file as the code does it: a record's faults, one record on, names kept by place, and lines written
 -- one after another.
+use Rattle.std.proofs.Common.{Option, Some, None, Ok, Err}
 use mathlib.Core.Path.{◌≡◌, refl, sym, ap, ◌∙◌}
 use mathlib.Core.Bool.{Bool, true, false}
-use mathlib.Core.Option.{Option, none, some}
 use mathlib.Core.List.{List, [], ◌∷◌, ◌++◌, map, flatten, map-append}
 use Prim.Native.Nat.{ℕ, ◌+◌, ◌*◌, ◌≤◌, ◌<◌}
 use native.Mathlib.Numerals.{add-one}
@@ -21,19 +21,17 @@ use Rattle.keys.specs.Names.{legal_name, application_name_most, is_new}
 use Rattle.registry.specs.Registry.{line_count, line_size, line_of}
 use Rattle.registry.proofs.KeylessLaws.{is_legal, sized_names}
 use Rattle.records.specs.Records.{record_length, value_in, record_in, is_whole, read_records}
-use Rattle.records.proofs.RecordLaws.{records_empty, records_cut, records_on}
+use Rattle.records.proofs.RecordLaws.{whole_room, records_empty, records_cut, records_on}
 use Rattle.roster.specs.Roster.{record_faults, Roster, applications, faulty, record_step, roster_of}
-use Rattle.roster.specs.code.Check.{loaded_of, fault_in, names_at, with_name, Within, roster_in, RosterKnown}
+use Rattle.roster.specs.code.Check.{loaded_of, fault_in, names_at, with_name, Within, roster_in, KnownWithin, RosterKnown}
 use Rattle.roster.specs.declared.RosterFault.{RosterFault}
 use Rattle.roster.specs.declared.RosterFault.TheVariants.{CutRecord, UnknownTag, BadName, NinthName, RepeatedName}
-use Rattle.roster.specs.declared.Loaded.TheVariants.{Good, Faulty}
 use Rattle.roster.specs.declared.check.Names.{Names}
-use Rattle.roster.specs.declared.load.Checked.{Checked}
 
 -- ---- the first fault of a record
 
 module _ (names : List (List ℕ)) (bytes : List ℕ) where
-  pub fault_cut : is_whole bytes ≡ false → fault_in names bytes ≡ some CutRecord
+  pub fault_cut : is_whole bytes ≡ false → fault_in names bytes ≡ Some CutRecord
   unfolding fault_in
   fault_cut whole = rw whole
 
@@ -42,30 +40,30 @@ module _ (names : List (List ℕ)) (bytes : List ℕ) where
     unfolding fault_in
     fault_whole = rw whole
 
-    pub fault_tag : eqb (field 0 1 bytes) 1 ≡ false → fault_in names bytes ≡ some UnknownTag
+    pub fault_tag : eqb (field 0 1 bytes) 1 ≡ false → fault_in names bytes ≡ Some UnknownTag
     unfolding record_faults first_of
     fault_tag tag = fault_whole ∙ rw tag
 
     module _ (tag : eqb (field 0 1 bytes) 1 ≡ true) where
-      pub fault_name : legal_name application_name_most (value_in bytes) ≡ false → fault_in names bytes ≡ some BadName
+      pub fault_name : legal_name application_name_most (value_in bytes) ≡ false → fault_in names bytes ≡ Some BadName
       unfolding record_faults first_of
       fault_name legal = fault_whole ∙ rw (tag, legal)
 
       module _ (legal : legal_name application_name_most (value_in bytes) ≡ true) where
-        pub fault_ninth : leb line_count (length names) ≡ true → fault_in names bytes ≡ some NinthName
+        pub fault_ninth : leb line_count (length names) ≡ true → fault_in names bytes ≡ Some NinthName
         unfolding record_faults first_of
         fault_ninth ninth = fault_whole ∙ rw (tag, legal, ninth)
 
-        pub fault_repeated : leb line_count (length names) ≡ false → is_new (value_in bytes) names ≡ false → fault_in names bytes ≡ some RepeatedName
+        pub fault_repeated : leb line_count (length names) ≡ false → is_new (value_in bytes) names ≡ false → fault_in names bytes ≡ Some RepeatedName
         unfolding record_faults first_of
         fault_repeated ninth repeated = fault_whole ∙ rw (tag, legal, ninth, repeated)
 
-        pub fault_none : leb line_count (length names) ≡ false → is_new (value_in bytes) names ≡ true → fault_in names bytes ≡ none
+        pub fault_none : leb line_count (length names) ≡ false → is_new (value_in bytes) names ≡ true → fault_in names bytes ≡ None
         unfolding record_faults first_of
         fault_none ninth repeated = fault_whole ∙ rw (tag, legal, ninth, repeated)
 
   -- a record without a fault is whole, and there is room for its name
-  module _ (e : fault_in names bytes ≡ none) where
+  module _ (e : fault_in names bytes ≡ None) where
     pub passed_whole : is_whole bytes ≡ true
     passed_whole = go (is_whole bytes) refl
       where
@@ -73,22 +71,22 @@ module _ (names : List (List ℕ)) (bytes : List ℕ) where
         go true w = refl
         go false w = absurd (some≢none CutRecord (sym (fault_cut w) ∙ e))
 
-    pub passed_tests : first_of (record_faults names (record_in bytes)) ≡ none
+    pub passed_tests : first_of (record_faults names (record_in bytes)) ≡ None
     passed_tests = sym (fault_whole passed_whole) ∙ e
 
     pub passed_room : length names < line_count
     unfolding record_faults
     passed_room = leb-false _ _ (none_at (record_faults names (record_in bytes)) 2 NinthName passed_tests)
 
-pub loaded_good : (o : Option RosterFault) → loaded_of o ≡ Good → o ≡ none
+pub loaded_good : (o : Option RosterFault) → loaded_of o ≡ Ok tt → o ≡ None
 unfolding loaded_of
-loaded_good none e = refl
-loaded_good (some fault) e = cc
+loaded_good None e = refl
+loaded_good (Some fault) e = cc
 
-pub loaded_faulty : (o : Option RosterFault) (fault : RosterFault) → loaded_of o ≡ Faulty fault → o ≡ some fault
+pub loaded_faulty : (o : Option RosterFault) (fault : RosterFault) → loaded_of o ≡ Err fault → o ≡ Some fault
 unfolding loaded_of
-loaded_faulty none fault e = cc
-loaded_faulty (some f) fault e = cc
+loaded_faulty None fault e = cc
+loaded_faulty (Some f) fault e = cc
 
 -- ---- one record on
 
@@ -102,18 +100,18 @@ module _ (file : List ℕ) (at : ℕ) (names : List (List ℕ)) where
       ap (λ (l : List ℕ). read_records (faulty CutRecord) record_step applications l names) (drop_of_length-le file h)
       ∙ records_empty (faulty CutRecord) record_step applications names
 
-  pub roster_fault : (fault : RosterFault) → at < length file → fault_in names (drop at file) ≡ some fault → roster_from file at names ≡ faulty fault
+  pub roster_fault : (fault : RosterFault) → at < length file → fault_in names (drop at file) ≡ Some fault → roster_from file at names ≡ faulty fault
   unfolding record_step fault_in
   roster_fault fault h e = go (is_whole (drop at file)) refl e
     where
-      go : (t : Bool) → is_whole (drop at file) ≡ t → (when t then first_of (record_faults names (record_in (drop at file))) else some CutRecord) ≡ some fault
+      go : (t : Bool) → is_whole (drop at file) ≡ t → (when t then first_of (record_faults names (record_in (drop at file))) else Some CutRecord) ≡ Some fault
           → roster_from file at names ≡ faulty fault
       go true w q = records_on (faulty CutRecord) record_step applications (drop at file) names w ∙ rw (record_step, q)
       go false w q =
           let c : CutRecord ≡ fault = cc in
           records_cut (faulty CutRecord) record_step applications (drop at file) names (omega (arith, length-drop at file)) w ∙ ap faulty c
 
-  pub roster_on : at < length file → fault_in names (drop at file) ≡ none
+  pub roster_on : at < length file → fault_in names (drop at file) ≡ None
       → roster_from file at names ≡ roster_from file (at + record_length (drop at file)) (names ++ (value_in (drop at file) ∷ []))
   unfolding record_step
   roster_on h e =
@@ -138,6 +136,9 @@ module _ (file : List ℕ) (names : Names) (w : Within file names) where
     place_whole =
         rw (← get_or-take names.count names.starts i 0 h)
         (all_at (λ at. is_whole (drop at file)) 0 (take names.count names.starts) i there w.whole)
+
+    pub place_within : get_or names.starts i 0 ≤ length file
+    place_within = omega (arith, length-drop (get_or names.starts i 0) file, whole_room (drop (get_or names.starts i 0) file) place_whole)
 
     pub name_there : get_or (names_at file names) i [] ≡ value_in (drop (get_or names.starts i 0) file)
     unfolding names_at
@@ -183,11 +184,15 @@ module _ (names : List (List ℕ)) (i : ℕ) where
 
 -- ---- a checked file
 
-module _ (file : List ℕ) (checked : Checked) (k : RosterKnown file checked) where
-  pub known_good : checked.loaded ≡ Good → roster_of file ≡ applications (names_at file checked.names)
+module _ (file : List ℕ) where
+  pub known_good : (names : Names) → RosterKnown file (Ok names) → roster_of file ≡ applications (names_at file names)
   unfolding roster_in
-  known_good e = sym k.roster ∙ rw (roster_in, e)
+  known_good names k = sym k.roster
 
-  pub known_faulty : (fault : RosterFault) → checked.loaded ≡ Faulty fault → roster_of file ≡ faulty fault
+  pub known_within : (names : Names) → RosterKnown file (Ok names) → Within file names
+  unfolding KnownWithin
+  known_within names k = k.within
+
+  pub known_faulty : (fault : RosterFault) → RosterKnown file (Err fault) → roster_of file ≡ faulty fault
   unfolding roster_in
-  known_faulty fault e = sym k.roster ∙ rw (roster_in, e)
+  known_faulty fault k = sym k.roster

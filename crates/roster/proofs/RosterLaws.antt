@@ -1,7 +1,7 @@
 -- A good roster file has legal, distinct names, at most eight, and leaves a well-formed registry.
+use Rattle.std.proofs.Common.{Option, Some, None, Ok}
 use mathlib.Core.Path.{◌≡◌, refl, ap₂, subst}
 use mathlib.Core.Bool.{Bool, true, false, ◌&&◌}
-use mathlib.Core.Option.{Option, none, some}
 use mathlib.Core.List.{List, [], ◌∷◌, ◌++◌}
 use Prim.Native.Nat.{ℕ, ◌+◌, ◌≤◌, ◌<◌}
 use native.Mathlib.Omega.{arith}
@@ -21,12 +21,11 @@ use Rattle.records.proofs.RecordLaws.{StepHas, records_have}
 use Rattle.roster.specs.Roster.{fault_number, record_faults, Roster, applications, faulty, record_step, roster_of, RosterOutcome, roster_into, load_roster}
 use Rattle.roster.specs.declared.RosterFault.{RosterFault}
 use Rattle.roster.specs.declared.RosterFault.TheVariants.{WrongMemorySize, CutRecord, UnknownTag, BadName, NinthName, RepeatedName}
-use Rattle.roster.specs.declared.Loaded.TheVariants.{Good}
 
 -- ---- what reading a roster collects: at most eight legal, distinct names
 
 -- no test of the record's faults holds
-legal_more : (names : List (List ℕ)) (r : Record) → LegalNames names → first_of (record_faults names r) ≡ none → LegalNames (names ++ (r.value ∷ []))
+legal_more : (names : List (List ℕ)) (r : Record) → LegalNames names → first_of (record_faults names r) ≡ None → LegalNames (names ++ (r.value ∷ []))
 unfolding record_faults
 legal_more names r l e =
     let bad = none_at (record_faults names r) 1 BadName e in
@@ -47,8 +46,8 @@ unfolding record_step LegalRoster
 step_legal names r l = go (first_of (record_faults names r)) refl
   where
     go : (o : Option RosterFault) → first_of (record_faults names r) ≡ o → StepHas LegalNames LegalRoster (record_step names r)
-    go (some fault) e = rw (e, record_step) tt
-    go none e = rw (e, record_step) (legal_more names r l e)
+    go (Some fault) e = rw (e, record_step) tt
+    go None e = rw (e, record_step) (legal_more names r l e)
 
 pub roster_legal : (file : List ℕ) (names : List (List ℕ)) → roster_of file ≡ applications names → LegalNames names
 unfolding roster_of LegalRoster distinct
@@ -58,17 +57,17 @@ roster_legal file names e =
     (record { few = omega arith; legal = refl; named = refl }))
 
 -- a roster file that is read leaves a well-formed registry
-pub roster_good : (file memory : List ℕ) → (load_roster file memory).answer ≡ Good → well_formed_registry (load_roster file memory).registry ≡ true
+pub roster_good : (file memory : List ℕ) → (load_roster file memory).answer ≡ Ok tt → well_formed_registry (load_roster file memory).registry ≡ true
 unfolding load_roster roster_into
 roster_good file memory e = go (eqb (length memory) registry_size) e
   where
-    read : (r : Roster) → roster_of file ≡ r → (roster_into memory r).answer ≡ Good → well_formed_registry (roster_into memory r).registry ≡ true
+    read : (r : Roster) → roster_of file ≡ r → (roster_into memory r).answer ≡ Ok tt → well_formed_registry (roster_into memory r).registry ≡ true
     read (applications names) q f = registry_good names (roster_legal file names q)
     read (faulty fault) q f = cc
 
     go : (t : Bool)
         → (let o : RosterOutcome = when t then roster_into memory (roster_of file) else roster_into memory (faulty WrongMemorySize) in
-        o.answer ≡ Good → well_formed_registry o.registry ≡ true)
+        o.answer ≡ Ok tt → well_formed_registry o.registry ≡ true)
     go false f = cc
     go true f = read (roster_of file) refl f
 

@@ -1,15 +1,12 @@
 -- The roster file: application names, read into a registry without keys, or the first fault ("Roster, registry, connection,
 -- tally", R0 to R5).
-use Rattle.std.specs.Prelude.{ℕ, Bool, not, List, [], ◌∷◌, ◌++◌, length, leb, eqb}
-use Rattle.std.proofs.Math.Option.{none, some}
+use Rattle.std.specs.Prelude.{ℕ, Bool, not, List, [], ◌∷◌, ◌++◌, length, leb, eqb, Some, None, Result, Ok, Err}
 use Rattle.wire.specs.Choice.{when◌then◌else◌, first_of}
 use Rattle.keys.specs.Names.{legal_name, application_name_most, is_new}
 use Rattle.registry.specs.Registry.{line_count, registry_size, registry_of}
 use Rattle.records.specs.Records.{Record, Step, next, stop, read_records}
 use Rattle.roster.specs.declared.RosterFault.{RosterFault}
 use Rattle.roster.specs.declared.RosterFault.TheVariants.{WrongMemorySize, CutRecord, UnknownTag, BadName, NinthName, RepeatedName}
-use Rattle.roster.specs.declared.Loaded.{Loaded}
-use Rattle.roster.specs.declared.Loaded.TheVariants.{Good, Faulty}
 
 -- R0 to R5
 unfoldable pub fault_number : RosterFault → ℕ
@@ -36,8 +33,8 @@ pub data Roster : Type 0 where
 -- the first fault of a record, or one name more
 unfoldable pub record_step : (names : List (List ℕ)) → Record → Step (List (List ℕ)) Roster
 record_step names r = elim (first_of (record_faults names r)) [
-  | some fault ↦ stop (faulty fault)
-  | none ↦ next (names ++ (r.value ∷ []))
+  | Some fault ↦ stop (faulty fault)
+  | None ↦ next (names ++ (r.value ∷ []))
 ]
 
 -- a cut record is R1 whatever its tag
@@ -47,12 +44,12 @@ roster_of file = read_records (faulty CutRecord) record_step applications file [
 -- ---- reading a roster file into memory lent for the registry
 
 pub record RosterOutcome : Type 0 where
-  pub answer : Loaded  -- good, or the first fault
+  pub answer : Result (Unit {0}) RosterFault  -- good, or the first fault
   pub registry : List ℕ  -- the memory afterwards
 
 unfoldable pub roster_into : (memory : List ℕ) → Roster → RosterOutcome
-roster_into memory (applications names) = record { answer = Good; registry = registry_of names }
-roster_into memory (faulty fault) = record { answer = Faulty fault; registry = memory }
+roster_into memory (applications names) = record { answer = Ok tt; registry = registry_of names }
+roster_into memory (faulty fault) = record { answer = Err fault; registry = memory }
 
 -- memory of another size is refused before any record; a refused file leaves it as it came
 unfoldable pub load_roster : (file memory : List ℕ) → RosterOutcome

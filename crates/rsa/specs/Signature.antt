@@ -1,12 +1,11 @@
 -- RSASSA-PKCS1-v1_5 with SHA-256, the hash handed in (RFC 8017, sections 5.2.2, 8.2.2 and 9.2).
-use Rattle.std.specs.Prelude.{ℕ, ◌-◌, ◌/◌, ◌%◌, ◌^◌, Bool, ◌&&◌, List, [], ◌∷◌, ◌++◌, length, replicate, eqb, ltb}
+use Rattle.std.specs.Prelude.{ℕ, ◌-◌, ◌/◌, ◌%◌, ◌^◌, Bool, ◌&&◌, List, [], ◌∷◌, ◌++◌, length, replicate, eqb, ltb, Option, Some, None}
 use Rattle.wire.specs.Choice.{when◌then◌else◌}
 use Rattle.wire.specs.Lists.{every, same}
 use Rattle.rsa_key.specs.Octets.{os2ip, i2osp}
 use Rattle.rsa.specs.Power.{square_and_multiply}
 use Rattle.rsa_key.specs.Key.{number_in, public_key, supported_bits, has_bits}
 use Rattle.rsa_key.specs.declared.key.PublicKey.{PublicKey}
-use Rattle.rsa_key.specs.declared.key.PublicKey.TheVariants.{Valid, Invalid}
 use Rattle.rsa.specs.declared.verify.Outcome.{Outcome}
 use Rattle.rsa.specs.declared.verify.Outcome.TheVariants.{ValidSignature, InvalidSignature, InvalidKey}
 use Rattle.rsa.specs.declared.verify.Verification.{Verification}
@@ -42,11 +41,11 @@ verified n e k hash signature =
     report (compared n e k hash signature) (square_and_multiply n (os2ip signature) e).count
     else report InvalidSignature 0
 
-unfoldable pub verified_by : (key : List ℕ) → (bits : ℕ) → (hash signature : List ℕ) → PublicKey → Verification
-verified_by key bits hash signature Invalid = report InvalidKey 0
-verified_by key bits hash signature (Valid modulus size e) =
-    when supported_bits bits && has_bits (number_in key modulus size) bits then
-    verified (number_in key modulus size) e (bits / 8) hash signature
+unfoldable pub verified_by : (key : List ℕ) → (bits : ℕ) → (hash signature : List ℕ) → Option PublicKey → Verification
+verified_by key bits hash signature None = report InvalidKey 0
+verified_by key bits hash signature (Some k) =
+    when supported_bits bits && has_bits (number_in key k.modulus.start k.modulus.len) bits then
+    verified (number_in key k.modulus.start k.modulus.len) k.exponent (bits / 8) hash signature
     else report InvalidKey 0
 
 -- a signature checked by the key in these octets, whose modulus must have so many bits

@@ -2,11 +2,13 @@
 use mathlib.Core.Path.{◌≡◌, refl, sym, ap, ◌∙◌}
 use mathlib.Core.Logic.{⊎_elim}
 use Prim.Native.Nat.{ℕ, zero, suc, ◌+◌, ◌*◌, ◌-◌, ◌/◌, ◌^◌, ◌≤◌, ◌<◌}
-use native.Mathlib.Nat.{pow-suc, pow-le-pow_right, div-eq_of_lt-le, div-mul-le_self, lt-div-mul-add, div-lt_iff_lt-mul, eq-zero-or-pos}
+use native.Mathlib.Nat.{pow-suc, pow-le-pow_right, div-eq_of_lt-le, div-mul-le_self, lt-div-mul-add, eq-zero-or-pos}
 use native.Mathlib.Omega.{arith}
 use borrow.Author.Tests.{le-leb, lt-leb, eq-eqb, eqb-true}
 use lib.Dec.{eqb}
 use lib.Pow.{pow_pos}
+use Rattle.std.specs.Int.Count.{count_leading_zeros, leading_of_zero}
+use Rattle.std.proofs.lemmas.Nat.{leading_top}
 use Rattle.wire.proofs.TestLaws.{both}
 use Rattle.bignum.proofs.Values.{le_or_lt}
 use Rattle.rsa_key.specs.Key.{has_bits, bit_count}
@@ -18,19 +20,6 @@ power_below a b n l h =
     (λ (k : b ≤ a). let z : 2 ^ b ≤ 2 ^ a = pow-le-pow_right (omega arith) k in omega arith)
     (λ (k : a < b). k)
     (le_or_lt b a)
-
--- a shift tells whether a power is reached
-pub reached : (w n : ℕ) → 0 < n / 2 ^ w → 2 ^ w ≤ n
-reached w n h =
-    ⊎_elim
-    (λ (k : 2 ^ w ≤ n). k)
-    (λ (k : n < 2 ^ w). let z : n / 2 ^ w < 1 = (div-lt_iff_lt-mul (pow_pos w)).1 (omega arith) in omega arith)
-    (le_or_lt (2 ^ w) n)
-
-pub not_reached : (w n : ℕ) → n / 2 ^ w ≤ 0 → n < 2 ^ w
-not_reached w n h =
-    let z : n < 1 * 2 ^ w = (div-lt_iff_lt-mul (pow_pos w)).0 (omega arith) in
-    omega arith
 
 pub count_zero : (w : ℕ) → bit_count w 0 ≡ 0
 count_zero zero = refl
@@ -45,6 +34,17 @@ count_is (suc w) b n l h s =
     rw (le-leb (2 ^ w) n k) e)
     (λ (k : n < 2 ^ w). rw (lt-leb (2 ^ w) n k) (count_is w b n l h (power_below b w n l k)))
     (le_or_lt (2 ^ w) n)
+
+-- a byte has the bits that do not lead as zeros
+pub by_leading : (n : ℕ) → n < 256 → 8 - count_leading_zeros 8 n ≡ bit_count 8 n
+by_leading n h =
+    ⊎_elim
+    (λ (z : n ≡ 0). ap (λ (k : ℕ). 8 - count_leading_zeros 8 k) z ∙ rw (leading_of_zero 8) (sym (ap (λ (k : ℕ). bit_count 8 k) z ∙ count_zero 8)))
+    (λ (p : 0 < n).
+    let (j, e, low, high) = leading_top 8 n p h in
+    let c : bit_count 8 n ≡ suc j = count_is 8 j n low high (omega arith) in
+    omega arith)
+    (eq-zero-or-pos n)
 
 -- a number between the powers that its count names
 pub record Counted (n c : ℕ) : Type 0 where

@@ -1,32 +1,30 @@
 -- RSAPublicKey (RFC 8017, appendix A.1.1) in DER (X.690), and what is demanded of its numbers ("Checking signatures", document 02).
-use Rattle.std.specs.Prelude.{ℕ, zero, suc, ◌+◌, ◌-◌, ◌*◌, ◌/◌, ◌%◌, ◌^◌, Bool, ◌&&◌, ◌||◌, List, [], ◌∷◌, length, get_or, take, drop, eqb, leb, ltb}
+use Rattle.std.specs.Prelude.{ℕ, zero, suc, ◌+◌, ◌-◌, ◌*◌, ◌/◌, ◌%◌, ◌^◌, Bool, ◌&&◌, ◌||◌, List, [], ◌∷◌, length, get_or, take, drop, eqb, leb, ltb, Option, Some, None}
 use Rattle.wire.specs.Choice.{when◌then◌else◌}
 use Rattle.wire.specs.Lists.{every}
 use Rattle.rsa_key.specs.Octets.{os2ip}
-use Rattle.rsa_key.specs.declared.der.Element.{Element}
-use Rattle.rsa_key.specs.declared.der.Element.TheVariants.{Contents, Unreadable}
+use Rattle.wire.specs.declared.span.Span.{Span}
 use Rattle.rsa_key.specs.declared.key.PublicKey.{PublicKey}
-use Rattle.rsa_key.specs.declared.key.PublicKey.TheVariants.{Valid, Invalid}
 
 -- ---- an element: tag, length, contents
 
 -- contents that end within the data
-abbrev pub within : List ℕ → (start len : ℕ) → Element
-within s start len = when leb (start + len) (length s) then Contents start len else Unreadable
+abbrev pub within : List ℕ → (start len : ℕ) → Option Span
+within s start len = when leb (start + len) (length s) then Some (record { start = start; len = len }) else None
 
 -- the length behind the tag at `at`, in its shortest form (X.690, 10.1): one octet below 128, behind 0x81 one, behind 0x82 two;
 -- no element of a key of at most 4,096 bits is longer
-abbrev pub length_at : List ℕ → (at : ℕ) → Element
+abbrev pub length_at : List ℕ → (at : ℕ) → Option Span
 length_at s at =
     when ltb (get_or s (at + 1) 0) 128 then within s (at + 2) (get_or s (at + 1) 0)
     else when eqb (get_or s (at + 1) 0) 0x81 then
-    (when ltb (get_or s (at + 2) 0) 128 then Unreadable else within s (at + 3) (get_or s (at + 2) 0))
+    (when ltb (get_or s (at + 2) 0) 128 then None else within s (at + 3) (get_or s (at + 2) 0))
     else when eqb (get_or s (at + 1) 0) 0x82 then
-    (when eqb (get_or s (at + 2) 0) 0 then Unreadable else within s (at + 4) (256 * get_or s (at + 2) 0 + get_or s (at + 3) 0))
-    else Unreadable
+    (when eqb (get_or s (at + 2) 0) 0 then None else within s (at + 4) (256 * get_or s (at + 2) 0 + get_or s (at + 3) 0))
+    else None
 
-unfoldable pub element_at : List ℕ → (tag at : ℕ) → Element
-element_at s tag at = when eqb (get_or s at 0) tag then length_at s at else Unreadable
+unfoldable pub element_at : List ℕ → (tag at : ℕ) → Option Span
+element_at s tag at = when eqb (get_or s at 0) tag then length_at s at else None
 
 -- ---- INTEGER: 2, SEQUENCE: 0x30
 
@@ -49,22 +47,21 @@ is_exponent s start len =
     && (leb 3 (number_in s start len) && (ltb (number_in s start len) (2 ^ 32) && eqb (number_in s start len % 2) 1))
 
 -- the exponent, and nothing behind it
-unfoldable pub with_exponent : List ℕ → (modulus size : ℕ) → Element → PublicKey
-with_exponent s modulus size Unreadable = Invalid
-with_exponent s modulus size (Contents start len) =
-    when eqb (start + len) (length s) && is_exponent s start len then Valid modulus size (number_in s start len) else Invalid
+unfoldable pub with_exponent : List ℕ → (modulus : Span) → Option Span → Option PublicKey
+with_exponent s modulus None = None
+with_exponent s modulus (Some c) =
+    when eqb (c.start + c.len) (length s) && is_exponent s c.start c.len then Some (record { modulus = modulus; exponent = number_in s c.start c.len }) else None
 
-unfoldable pub with_modulus : List ℕ → Element → PublicKey
-with_modulus s Unreadable = Invalid
-with_modulus s (Contents start len) =
-    when is_modulus s start len then with_exponent s start len (element_at s 2 (start + len)) else Invalid
+unfoldable pub with_modulus : List ℕ → Option Span → Option PublicKey
+with_modulus s None = None
+with_modulus s (Some c) = when is_modulus s c.start c.len then with_exponent s c (element_at s 2 (c.start + c.len)) else None
 
-unfoldable pub in_sequence : List ℕ → Element → PublicKey
-in_sequence s Unreadable = Invalid
-in_sequence s (Contents start len) = when eqb (start + len) (length s) then with_modulus s (element_at s 2 start) else Invalid
+unfoldable pub in_sequence : List ℕ → Option Span → Option PublicKey
+in_sequence s None = None
+in_sequence s (Some c) = when eqb (c.start + c.len) (length s) then with_modulus s (element_at s 2 c.start) else None
 
--- where the modulus's contents stand, and the exponent
-unfoldable pub public_key : List ℕ → PublicKey
+-- where the modulus's contents stand, and the exponent; none where these octets are no RSAPublicKey
+unfoldable pub public_key : List ℕ → Option PublicKey
 public_key s = in_sequence s (element_at s 0x30 0)
 
 -- ---- bits
@@ -88,9 +85,9 @@ abbrev pub bit_count : (w n : ℕ) → ℕ
 bit_count zero n = 0
 bit_count (suc w) n = when leb (2 ^ w) n then suc w else bit_count w n
 
-unfoldable pub bits_in : (key : List ℕ) → PublicKey → ℕ
-bits_in key Invalid = 0
-bits_in key (Valid modulus size e) = bit_count (8 * size) (number_in key modulus size)
+unfoldable pub bits_in : (key : List ℕ) → Option PublicKey → ℕ
+bits_in key None = 0
+bits_in key (Some k) = bit_count (8 * k.modulus.len) (number_in key k.modulus.start k.modulus.len)
 
 -- how many bits the modulus of the key in these octets has; 0 where they are no RSAPublicKey
 unfoldable pub modulus_bits : (key : List ℕ) → ℕ

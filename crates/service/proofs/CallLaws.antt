@@ -1,8 +1,8 @@
 -- What every call keeps to, whatever it is lent: it is refused exactly in the seven cases, a refused one alters nothing, an
 -- empty chunk alters nothing, at most 629 bytes are written and 645 recorded, and both buffers keep their lengths.
+use Rattle.std.proofs.Common.{Option, Some, None, option_map}
 use mathlib.Core.Path.{◌≡◌, refl, sym, ap, subst, ◌∙◌}
 use mathlib.Core.Bool.{true}
-use mathlib.Core.Option.{Option, none, some, map-eq-none_iff}
 use mathlib.Core.List.{List, []}
 use Prim.Native.Nat.{ℕ, ◌≤◌}
 use native.Mathlib.Omega.{arith}
@@ -92,15 +92,19 @@ effect_bare list m chunk = call_bare (recorded_for list) (judgement list) (state
 
 -- ---- a call that is not refused has passed the seven tests
 
+none_under : {A B : Type 0} (f : A → B) (o : Option A) → option_map f o ≡ None → o ≡ None
+none_under f None e = refl
+none_under f (Some x) e = cc
+
 pub record Passed (list : List ℕ) (m : Memory) (call : Call) : Type 0 where
   pub ready : Ready m.connection m.registry list call.chunk call.lent.response call.lent.journal
   pub counters_good : largest_counter m.counters ≤ counter_most
 
-pub passed : (list : List ℕ) (m : Memory) (call : Call) → refusal_of list m call ≡ none → Passed list m call
+pub passed : (list : List ℕ) (m : Memory) (call : Call) → refusal_of list m call ≡ None → Passed list m call
 unfolding refusal_of refusal_tests
 passed list m call refused =
     let tests = refusal_tests list m call in
-    let e : first_of tests ≡ none = (map-eq-none_iff refusal_number (first_of tests)).0 refused in
+    let e : first_of tests ≡ None = none_under refusal_number (first_of tests) refused in
     record {
       ready =
           record {
@@ -117,11 +121,11 @@ passed list m call refused =
 -- ---- any call
 
 module _ (list : List ℕ) (m : Memory) (call : Call) where
-  pub refused_outcome : (code : ℕ) → refusal_of list m call ≡ some code → call_outcome list m call ≡ record { answer = refused layout code call; memory = m }
+  pub refused_outcome : (code : ℕ) → refusal_of list m call ≡ Some code → call_outcome list m call ≡ record { answer = refused layout code call; memory = m }
   unfolding call_outcome call_on
   refused_outcome code e = rw (e, call_on)
 
-  pub taken_outcome : refusal_of list m call ≡ none
+  pub taken_outcome : refusal_of list m call ≡ None
       → call_outcome list m call
       ≡ record { answer = took layout (recorded_effect list m call.chunk).taken (recorded_effect list m call.chunk).event call; memory = memory_of (recorded_effect list m call.chunk).kept }
   unfolding call_outcome call_on layout
@@ -137,8 +141,8 @@ module _ (list : List ℕ) (m : Memory) (call : Call) where
   took_fits : (n : ℕ) (o : Option Handed) (l : Memory) → IfSome Short (bare_event (recorded_for list) (judgement list) o) → IfSome Modest o → buffer_least ≤ length call.lent.response
       → journal_least ≤ length call.lent.journal → Fits (record { answer = took layout n o call; memory = l })
   unfolding layout give written
-  took_fits n none l s z h g = record { written = omega arith; recorded = omega arith; response_length = refl; journal_length = refl }
-  took_fits n (some r) l s z h g = record {
+  took_fits n None l s z h g = record { written = omega arith; recorded = omega arith; response_length = refl; journal_length = refl }
+  took_fits n (Some r) l s z h g = record {
     written = s;
     recorded = z;
     response_length = same_length r.response call.lent.response (omega arith);
@@ -150,8 +154,8 @@ module _ (list : List ℕ) (m : Memory) (call : Call) where
   call_fits = go (refusal_of list m call) refl
     where
       go : (o : Option ℕ) → refusal_of list m call ≡ o → Fits (call_outcome list m call)
-      go (some code) e = rw (refused_outcome code e) (record { written = omega arith; recorded = omega arith; response_length = refl; journal_length = refl })
-      go none e =
+      go (Some code) e = rw (refused_outcome code e) (record { written = omega arith; recorded = omega arith; response_length = refl; journal_length = refl })
+      go None e =
           let t = passed list m call e in
           let f = recorded_effect list m call.chunk in
           rw (taken_outcome e)
@@ -164,8 +168,8 @@ module _ (list : List ℕ) (m : Memory) (call : Call) where
   refused_exactly = go (refusal_of list m call) refl
     where
       go : (o : Option ℕ) → refusal_of list m call ≡ o → (call_outcome list m call).answer.refusal ≡ o
-      go (some code) e = rw (refused_outcome code e)
-      go none e = rw (taken_outcome e)
+      go (Some code) e = rw (refused_outcome code e)
+      go None e = rw (taken_outcome e)
 
 -- an empty chunk alters nothing, whether the call is refused or not
 record Idle (m : Memory) (lent : Lent) (o : CallOutcome) : Type 0 where
@@ -182,8 +186,8 @@ empty_idle list m lent = go (refusal_of list m call) refl
     call = record { chunk = []; lent = lent }
 
     go : (o : Option ℕ) → refusal_of list m call ≡ o → Idle m lent (call_outcome list m call)
-    go (some code) e = rw (refused_outcome list m call code e) (record { taken = refl; response_stays = refl; journal_stays = refl; memory_stays = refl })
-    go none e =
+    go (Some code) e = rw (refused_outcome list m call code e) (record { taken = refl; response_stays = refl; journal_stays = refl; memory_stays = refl })
+    go None e =
         let t = passed list m call e in
         rw (taken_outcome list m call e)
         (record {
@@ -207,7 +211,7 @@ module _ (list : List ℕ) (m : Memory) (call : Call) (r : Ran) (e : CallContrac
     journal = ap (λ (o : CallOutcome). o.answer.given.journal.buffer) e ∙ ap (λ (w : Written). w.buffer) journal;
   }
 
-  when_refused : (code : ℕ) → refusal_of list m call ≡ some code → Still m call r
+  when_refused : (code : ℕ) → refusal_of list m call ≡ Some code → Still m call r
   unfolding layout give written
   when_refused code q =
       let o = refused_outcome list m call code q in

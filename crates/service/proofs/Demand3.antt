@@ -1,8 +1,8 @@
 -- Demand 3 of the definition's calls, at document 01's judgement and on memory as the code has it. The list of keys that we ship
 -- is a fixed input: the same in all calls.
+use Rattle.std.proofs.Common.{None}
 use mathlib.Core.Path.{◌≡◌, sym, ap, ◌∙◌, subst}
 use mathlib.Core.Bool.{true}
-use mathlib.Core.Option.{none}
 use mathlib.Core.List.{List, [], ◌++◌, map, flatten}
 use Prim.Native.Nat.{ℕ, ◌+◌, ◌≤◌}
 use native.Mathlib.Omega.{arith}
@@ -49,7 +49,7 @@ lawful s w = λ i. record { connection = load_store s.connection w i; registry =
 
 pub accepts : (list registry : List ℕ) → well_formed_registry registry ≡ true → well_formed_list list ≡ true → (seen : List ℕ) (call : Call)
     → length seen ≤ counter_most → length call.chunk ≤ chunk_most → buffer_least ≤ length call.lent.response → journal_least ≤ length call.lent.journal
-    → refusal_of list (memory_of (rules (judgement list) registry seen).state) call ≡ none
+    → refusal_of list (memory_of (rules (judgement list) registry seen).state) call ≡ None
 unfolding refusal_of refusal_tests first_of memory_of counters_of
 accepts list registry w good seen call h short room space =
     let s : State (List ℕ) Counts = (rules (judgement list) registry seen).state in
@@ -75,7 +75,7 @@ pub record CalledOn (list registry seen : List ℕ) (call : Call) (o : CallOutco
   pub taken : o.answer.taken ≡ (call_rule (reader (judgement list)) (rules (judgement list) registry seen).state call.chunk).taken
   pub memory : o.memory ≡ memory_of (rules (judgement list) registry (seen ++ take o.answer.taken call.chunk)).state
 
-pub called_on : (list registry seen : List ℕ) (call : Call) → refusal_of list (memory_of (rules (judgement list) registry seen).state) call ≡ none
+pub called_on : (list registry seen : List ℕ) (call : Call) → refusal_of list (memory_of (rules (judgement list) registry seen).state) call ≡ None
     → CalledOn list registry seen call (call_outcome list (memory_of (rules (judgement list) registry seen).state) call)
 unfolding call_outcome layout journalling
 called_on list registry seen call ok =

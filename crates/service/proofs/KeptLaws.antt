@@ -1,7 +1,7 @@
 -- What the judgement keeps, as the stream's laws ask it: no counter rises by more than one, and a well-formed registry stays
 -- well formed.
+use Rattle.std.proofs.Common.{Option, Some, None}
 use mathlib.Core.Path.{refl}
-use mathlib.Core.Option.{Option, none, some}
 use mathlib.Core.List.{List, [], ◌∷◌}
 use Prim.Native.Nat.{ℕ, zero, suc, ◌≤◌}
 use native.Mathlib.Omega.{arith}
@@ -33,8 +33,8 @@ refused_one c status = omega (arith, increment_one c.refused (index_of status re
 
 served_one : (c : Counts) (o : Option Line) → largest_count (count_served c o) ≤ suc (largest_count c)
 unfolding largest_count count_served
-served_one c none = omega arith
-served_one c (some line) = omega (arith, increment_one c.served line.0)
+served_one c None = omega arith
+served_one c (Some line) = omega (arith, increment_one c.served line.0)
 
 count_one : (c : Counts) (o : Option Line) (status : Status) → largest_count (count c o status) ≤ suc (largest_count c)
 unfolding count

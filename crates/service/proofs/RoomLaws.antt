@@ -1,5 +1,5 @@
 -- There is room in the counters for what a call counts.
-use Prim.Native.Nat.{◌≤◌, ◌<◌, ◌^◌}
+use Prim.Native.Nat.{◌≤◌}
 use native.Mathlib.Omega.{arith}
 use Rattle.counters.specs.Counters.{counter_most, largest_counter}
 use Rattle.counters.specs.code.Counted.{Fits}
@@ -7,8 +7,6 @@ use Rattle.counters.specs.declared.Counters.{Counters}
 use Rattle.counters.specs.declared.Increments.{Increments}
 use Rattle.counters.proofs.CountedLaws.{low_enough}
 use Rattle.service.specs.code.Served.{Modest}
-use Rattle.service.specs.code.Called.{refused_with}
-use Rattle.service.specs.declared.Code.{Code}
 
 -- counters of at most 2^62 have room for what a call counts
 pub modest_fits : (c : Counters) (by : Increments) → largest_counter c ≤ counter_most → Modest by → Fits c by
@@ -20,7 +18,3 @@ modest_fits c by low modest = record {
   low = low_enough (largest_counter c) by.event low;
   below = modest.event;
 }
-
--- and any counters have room for nothing
-pub nothing_fits : (c : Counters) (code : Code) → c.taken < 2 ^ 64 → c.answered < 2 ^ 64 → c.dropped < 2 ^ 64 → Fits c (refused_with code).added
-nothing_fits c code taken answered dropped = record { taken = omega arith; answered = omega arith; dropped = omega arith; low = tt; below = tt }

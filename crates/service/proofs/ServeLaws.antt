@@ -32,7 +32,7 @@ use Rattle.counters.proofs.CountedLaws.{event_counts, event_below}
 use Rattle.counters.specs.declared.Counters.{Counters}
 use Rattle.service.specs.Call.{buffer_least, chunk_most, state_in}
 use Rattle.service.specs.Contract.{lent_memory}
-use Rattle.service.specs.code.Served.{Modest, waited, finished, dropped_all, Carried, SkipReady, effect_of, skip_effect}
+use Rattle.service.specs.code.Served.{Modest, unanswered, finished, Carried, SkipReady, effect_of, skip_effect}
 use Rattle.service.specs.declared.Handled.{Handled}
 
 abbrev pub state_with : Connection → (registry : List ℕ) → Counters → State (List ℕ) Counts
@@ -40,10 +40,10 @@ state_with k registry c = record { connection = k; registry = registry; totals =
 
 -- ---- what a call comes to is little
 
-modest_waited : (n : ℕ) → n ≤ chunk_most → Modest (waited n).added
+modest_waited : (n : ℕ) → n ≤ chunk_most → Modest (unanswered n 0).added
 modest_waited n few = record { taken = few; answered = lit< tt; dropped = omega arith; event = tt }
 
-modest_dropped : (n : ℕ) → n ≤ chunk_most → Modest (dropped_all n).added
+modest_dropped : (n : ℕ) → n ≤ chunk_most → Modest (unanswered n n).added
 modest_dropped n few = record { taken = few; answered = lit< tt; dropped = few; event = tt }
 
 modest_finished : (n size : ℕ) (a : Answered) → n ≤ chunk_most → size < 2 ^ 40 → AskerBelow a.asker → Modest (finished n size a).added
@@ -51,12 +51,11 @@ modest_finished n size a few small asker = record { taken = few; answered = smal
 
 module _ (k : Connection) (registry : List ℕ) (c : Counters) where
   pub carried_wait : (n : ℕ) (conn : Connection) (connection before after journal journal' : List ℕ) (r : Handled)
-      → n ≤ chunk_most → r ≡ waited n
+      → n ≤ chunk_most → r ≡ unanswered n 0
       → connection ≡ connection_bytes conn → after ≡ before → journal' ≡ journal
       → Carried c (waiting (state_with k registry c) n conn) connection registry before after journal journal' r
   unfolding totals_of counters_of counted count_event
   carried_wait n conn connection before after journal journal' r few e m b j = record {
-    code_is = ap (λ (x : Handled). x.code) e;
     taken_is = ap (λ (x : Handled). x.added.taken) e;
     written_is = (ap (λ (x : Handled). x.written) e, b, ap (λ (x : Handled). x.recorded) e, j);
     connection_is = m;
@@ -68,12 +67,11 @@ module _ (k : Connection) (registry : List ℕ) (c : Counters) where
   }
 
   carried_drop : (n : ℕ) (connection before after journal journal' : List ℕ) (r : Handled)
-      → n ≤ chunk_most → r ≡ dropped_all n
+      → n ≤ chunk_most → r ≡ unanswered n n
       → connection ≡ connection_bytes closed → after ≡ before → journal' ≡ journal
       → Carried c (dropping (state_with k registry c) n) connection registry before after journal journal' r
   unfolding totals_of counters_of counted count_event
   carried_drop n connection before after journal journal' r few e m b j = record {
-    code_is = ap (λ (x : Handled). x.code) e;
     taken_is = ap (λ (x : Handled). x.added.taken) e;
     written_is = (ap (λ (x : Handled). x.written) e, b, ap (λ (x : Handled). x.recorded) e, j);
     connection_is = m;
@@ -95,7 +93,6 @@ module _ (k : Connection) (registry : List ℕ) (c : Counters) where
       → Carried c (answering (state_with k registry c) n size (v (totals_of c).counts) conn) connection kept before after journal journal' r
   unfolding totals_of counters_of counted count_event
   carried_answer v n size conn connection kept before after journal journal' a r few small by same-response same_registry e m = record {
-    code_is = ap (λ (x : Handled). x.code) e;
     taken_is = ap (λ (x : Handled). x.added.taken) e;
     written_is = (
       record {
@@ -173,7 +170,7 @@ module _ (list connection registry : List ℕ) (c : Counters) (chunk before jour
 
   pub serves_wait : (n : ℕ) (conn : Connection) (left after journal' : List ℕ) (r : Handled)
       → call_rule (reader (journalling list)) s chunk ≡ waiting s n conn
-      → n ≤ chunk_most → r ≡ waited n
+      → n ≤ chunk_most → r ≡ unanswered n 0
       → left ≡ connection_bytes conn → after ≡ before → journal' ≡ journal
       → Carried c (effect_of list (lent_memory connection registry c) chunk) left registry before after journal journal' r
   unfolding state_in
@@ -195,7 +192,7 @@ module _ (list connection registry : List ℕ) (c : Counters) (chunk before jour
 
   pub serves_drop : (left after journal' : List ℕ) (r : Handled)
       → connection_of connection ≡ closed
-      → length chunk ≤ chunk_most → r ≡ dropped_all (length chunk)
+      → length chunk ≤ chunk_most → r ≡ unanswered (length chunk) (length chunk)
       → left ≡ connection_bytes closed → after ≡ before → journal' ≡ journal
       → Carried c (effect_of list (lent_memory connection registry c) chunk) left registry before after journal journal' r
   unfolding state_in

@@ -1,7 +1,6 @@
 -- THE CALL'S WHOLE OUTCOME, which the code's contract cites: "When a call is not taken" (C6: document 02, "Keys we ship"), and what
 -- a taken one leaves.
-use Rattle.std.specs.Prelude.{ℕ, Bool, not, List, [], ◌∷◌, length, ltb}
-use Rattle.std.proofs.Math.Option.{Option, map}
+use Rattle.std.specs.Prelude.{ℕ, Bool, not, List, [], ◌∷◌, length, ltb, Option, option_map}
 use Rattle.wire.specs.Choice.{first_of}
 pub use Rattle.wire.specs.Response.{buffer_least}
 use Rattle.reading.specs.Calls.{Call as CallWith, Answer as AnswerWith, Layout, CallOutcome as CallOutcomeWith, CallsOutcome as CallsOutcomeWith, call_on}
@@ -76,7 +75,7 @@ refusal_tests list m call =
 
 -- C1 to C7, first that applies, by its number
 unfoldable pub refusal_of : (list : List ℕ) → Memory → Call → Option ℕ
-refusal_of list m call = map refusal_number (first_of (refusal_tests list m call))
+refusal_of list m call = option_map refusal_number (first_of (refusal_tests list m call))
 
 -- ---- the call, by the judgement with its records; all calls are lent the same list of keys that we ship, read-only
 

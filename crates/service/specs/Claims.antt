@@ -1,7 +1,6 @@
 -- What is claimed of the call, for every list of keys that we ship: types, no proof. Each is about whatever code meets the contract
 -- of a call (`CallContract`), as `service::call::call`, `call_by_value` and, for C and Rust, `abi::razidkot_call` do.
-use Rattle.std.specs.Prelude.{ℕ, ◌+◌, ◌≤◌, ◌≡◌, true, length}
-use Rattle.std.proofs.Math.Option.{some}
+use Rattle.std.specs.Prelude.{ℕ, ◌+◌, ◌≤◌, ◌≡◌, true, length, Some}
 use mathlib.Core.List.{List, [], flatten}
 use Rattle.reading.specs.Calls.{taken_stream, answers_by}
 use Rattle.reading.specs.Claims as reading
@@ -36,7 +35,7 @@ pub record EachCall (list : List ℕ) (m : Memory) (call : Call) (r : Ran) : Typ
   -- it says the first of the listed cases that applies, if one does,
   pub refused_exactly : refusal_in r.code ≡ refusal_of list m call
   -- and then alters nothing, as it does with an empty chunk
-  pub refused_still : (code : ℕ) → refusal_of list m call ≡ some code → Still m call r
+  pub refused_still : (code : ℕ) → refusal_of list m call ≡ Some code → Still m call r
   pub empty_still : call.chunk ≡ [] → Still m call r
   -- at most 629 bytes are written and 645 recorded, and the buffers keep their lengths
   pub short : r.written ≤ longest_response

@@ -1,12 +1,10 @@
 -- THE CONTRACT OF A CALL, in numbers, so that it is one for Rattle, C and Rust: each of the functions' `ensures` cites it, and
 -- it is the single step of demand 3 of the code.
-use Rattle.std.specs.Prelude.{ℕ, zero, suc, ◌≡◌, List}
-use Rattle.std.proofs.Math.Option.{Option, none, some}
+use Rattle.std.specs.Prelude.{ℕ, zero, suc, ◌≡◌, List, Option, Some, None, Result, Ok, Err}
 use Rattle.counters.specs.declared.Counters.{Counters}
 use Rattle.service.specs.Refusals.{refusal_number}
 use Rattle.service.specs.Call.{Memory, Call, Answer, CallOutcome, call_outcome}
-use Rattle.service.specs.declared.Code.{Code}
-use Rattle.service.specs.declared.Code.TheVariants.{Taken, Refused}
+use Rattle.service.specs.declared.Refusal.{Refusal}
 
 -- what a function is lent, as a call's memory and as the call
 abbrev pub lent_memory : (connection registry : List ℕ) → Counters → Memory
@@ -16,14 +14,14 @@ abbrev pub call_with : (chunk response journal : List ℕ) → Call
 call_with chunk response journal = record { chunk = chunk; lent = record { response = response; journal = journal } }
 
 -- what the code says, as a number: 0 if the call is taken, else the refusal's
-unfoldable pub code_number : Code → ℕ
-code_number Taken = 0
-code_number (Refused refusal) = refusal_number refusal
+unfoldable pub code_number : Result (Unit {0}) Refusal → ℕ
+code_number (Ok tt) = 0
+code_number (Err refusal) = refusal_number refusal
 
 -- the refusal that a number says, if it does
 unfoldable pub refusal_in : (code : ℕ) → Option ℕ
-refusal_in zero = none
-refusal_in (suc n) = some (suc n)
+refusal_in zero = None
+refusal_in (suc n) = Some (suc n)
 
 -- all that a call says, in numbers, and leaves
 pub record Ran : Type 0 where

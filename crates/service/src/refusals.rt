@@ -5,7 +5,7 @@ ghost use Rattle.service.specs.Call.{refusal_tests};
 ghost use Rattle.service.specs.Contract.{lent_memory, call_with};
 ghost use Rattle.service.specs.code.Called.{code_for};
 
-use crate::{Code, Refusal};
+use crate::Refusal;
 use counters::Counters;
 use counters::limit::is_too_high;
 
@@ -25,29 +25,29 @@ pub fn judge_call(
     counters: Counters,
     response: &[u8],
     journal: &[u8],
-) -> Code
+) -> Result<(), Refusal>
     ensures { result ≡ code_for (first_of (refusal_tests list.now (lent_memory connection.now registry.now counters) (call_with chunk.now response.now journal.now))) }
 {
     if response.len() < BUFFER_LEAST {
-        return Code::Refused(Refusal::ResponseBufferTooSmall);
+        return Err(Refusal::ResponseBufferTooSmall);
     }
     if CHUNK_MOST < chunk.len() {
-        return Code::Refused(Refusal::ChunkTooLong);
+        return Err(Refusal::ChunkTooLong);
     }
     if !connection::check::is_well_formed(connection) {
-        return Code::Refused(Refusal::ConnectionIllFormed);
+        return Err(Refusal::ConnectionIllFormed);
     }
     if !registry::check::is_well_formed(registry) {
-        return Code::Refused(Refusal::RegistryIllFormed);
+        return Err(Refusal::RegistryIllFormed);
     }
     if is_too_high(counters) {
-        return Code::Refused(Refusal::CounterTooHigh);
+        return Err(Refusal::CounterTooHigh);
     }
     if !shipped::check::is_well_formed(list) {
-        return Code::Refused(Refusal::ListIllFormed);
+        return Err(Refusal::ListIllFormed);
     }
     if journal.len() < JOURNAL_LEAST {
-        return Code::Refused(Refusal::JournalBufferTooSmall);
+        return Err(Refusal::JournalBufferTooSmall);
     }
-    Code::Taken
+    Ok(())
 }

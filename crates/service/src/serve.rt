@@ -5,34 +5,32 @@ ghost use Rattle.connection.specs.Connection.{connection_of};
 ghost use Rattle.connection.specs.code.State.{state_of};
 ghost use Rattle.stream.specs.Rules.{opened};
 ghost use Rattle.service.specs.Contract.{lent_memory};
-ghost use Rattle.service.specs.code.Served.{Ready, Carried, effect_of, skip_effect, SkipReady, header_at, waited, finished, dropped_all};
+ghost use Rattle.service.specs.code.Served.{Ready, Carried, effect_of, skip_effect, SkipReady, header_at, unanswered, finished};
 
-use crate::{Code, Handled};
+use crate::Handled;
 use answer::Answered;
 use answer::request::{answer_bad_start, answer_skipped, answer_whole};
 use connection::BYTES_AT;
 use connection::change::{append, close, reset, set_skipping};
 use connection::check::{State, read_state};
 use connection::gather::gather;
+use counters::Increments;
 use counters::events::event_of;
-use counters::{Event, Increments};
 use stream::frame::{Frame, read_frame, request_length};
 
-// `n` bytes are taken and bring no response.
-fn wait(n: usize) -> Handled
-    ensures { result ≡ waited n }
+// `taken` bytes bring no response; `dropped` of them came after closing.
+fn unanswered(taken: usize, dropped: usize) -> Handled
+    ensures { result ≡ unanswered taken dropped }
 {
-    let added = Increments {
-        taken: n,
-        answered: 0,
-        dropped: 0,
-        event: Event::NoRequest,
-    };
     Handled {
-        code: Code::Taken,
         written: 0,
         recorded: 0,
-        added,
+        added: Increments {
+            taken,
+            answered: 0,
+            dropped,
+            event: None,
+        },
     }
 }
 
@@ -40,19 +38,15 @@ fn wait(n: usize) -> Handled
 fn finish(n: usize, size: u64, a: Answered) -> Handled
     ensures { result ≡ finished n size a }
 {
-    let asker = a.asker;
-    let status = a.status;
-    let added = Increments {
-        taken: n,
-        answered: size,
-        dropped: 0,
-        event: event_of(asker, status),
-    };
     Handled {
-        code: Code::Taken,
         written: a.written,
         recorded: a.recorded,
-        added,
+        added: Increments {
+            taken: n,
+            answered: size,
+            dropped: 0,
+            event: Some(event_of(a.asker, a.status)),
+        },
     }
 }
 
@@ -63,7 +57,7 @@ fn skip(connection: &mut [u8], out: &mut [u8], used: usize, here: usize, to_go: 
 {
     if (here as u64) < to_go {
         set_skipping(connection, to_go - here as u64);
-        return wait(used + here);
+        return unanswered(used + here, 0);
     }
     let size = request_length(&connection[BYTES_AT..]);
     let a = answer_skipped(out, &connection[BYTES_AT..]);
@@ -86,7 +80,7 @@ fn serve_fresh(
     match read_frame(chunk) {
         Frame::Unfinished => {
             append(connection, 0, chunk);
-            wait(chunk.len())
+            unanswered(chunk.len(), 0)
         }
         Frame::BadStart => {
             let a = answer_bad_start(out);
@@ -96,7 +90,7 @@ fn serve_fresh(
         Frame::Skipped { header, missing } => {
             append(connection, 0, &chunk[..header]);
             set_skipping(connection, missing);
-            wait(chunk.len())
+            unanswered(chunk.len(), 0)
         }
         Frame::Whole(n) => {
             let a = answer_whole(out, journal, &chunk[..n], registry, list);
@@ -119,42 +113,22 @@ fn serve_held(
     ensures { (c : Counters) → Carried c (effect_of list.now (lent_memory connection.old registry.old c) chunk.now) connection.new registry.new out.old out.new journal.old journal.new result }
 {
     let g = gather(connection, held, chunk);
-    let used = g.used;
-    let frame = g.frame;
-    match frame {
-        Frame::Unfinished => wait(used),
+    match g.frame {
+        Frame::Unfinished => unanswered(g.used, 0),
         Frame::BadStart => {
             let a = answer_bad_start(out);
             close(connection);
-            finish(used, 6, a)
+            finish(g.used, 6, a)
         }
         Frame::Skipped { header: _, missing } => {
-            skip(connection, out, used, chunk.len() - used, missing)
+            skip(connection, out, g.used, chunk.len() - g.used, missing)
         }
         Frame::Whole(n) => {
             let end = BYTES_AT + n;
             let a = answer_whole(out, journal, &connection[BYTES_AT..end], registry, list);
             reset(connection);
-            finish(used, n as u64, a)
+            finish(g.used, n as u64, a)
         }
-    }
-}
-
-// The bytes of a chunk that come after closing.
-fn drop_all(n: usize) -> Handled
-    ensures { result ≡ dropped_all n }
-{
-    let added = Increments {
-        taken: n,
-        answered: 0,
-        dropped: n,
-        event: Event::NoRequest,
-    };
-    Handled {
-        code: Code::Taken,
-        written: 0,
-        recorded: 0,
-        added,
     }
 }
 
@@ -178,6 +152,6 @@ pub fn serve(
             serve_held(connection, registry, list, out, journal, chunk, held)
         }
         State::Skipping(to_go) => skip(connection, out, 0, chunk.len(), to_go),
-        State::Closed => drop_all(chunk.len()),
+        State::Closed => unanswered(chunk.len(), chunk.len()),
     }
 }

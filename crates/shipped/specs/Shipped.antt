@@ -1,7 +1,6 @@
 -- The list of keys that we ship: which lists are good, and the keys of one (document 02, "Keys we ship").
-use Rattle.std.specs.Prelude.{ℕ, Bool, List, [], ◌∷◌, ◌++◌, map, length, ltb, eqb}
-use Rattle.std.proofs.Math.Option.{Option, none, some}
-use Rattle.wire.specs.Choice.{when◌then◌else◌, is_some}
+use Rattle.std.specs.Prelude.{ℕ, Bool, List, [], ◌∷◌, ◌++◌, map, length, ltb, eqb, Option, Some, None, is_some}
+use Rattle.wire.specs.Choice.{when◌then◌else◌}
 use Rattle.wire.specs.Lists.{every, same}
 use Rattle.keys.specs.Key.{legal_data}
 use Rattle.keys.specs.Names.{legal_name, key_name_most, is_new}
@@ -39,17 +38,17 @@ abbrev pub data_tests : Record → List Bool
 data_tests r = eqb r.tag 2 ∷ legal_data r.value ∷ []
 
 unfoldable pub pair_step : Pairs → Record → Step Pairs (Option (List ListedKey))
-pair_step (whole keys) r = when every (name_tests keys r) then next (named keys r.value) else stop none
+pair_step (whole keys) r = when every (name_tests keys r) then next (named keys r.value) else stop None
 pair_step (named keys n) r =
-    when every (data_tests r) then next (whole (keys ++ (record { name = n; bytes = r.value } ∷ []))) else stop none
+    when every (data_tests r) then next (whole (keys ++ (record { name = n; bytes = r.value } ∷ []))) else stop None
 
 unfoldable pub pairs_done : Pairs → Option (List ListedKey)
-pairs_done (whole keys) = some keys
-pairs_done (named keys n) = none
+pairs_done (whole keys) = Some keys
+pairs_done (named keys n) = None
 
 -- the keys of a list, none for a bad one
 unfoldable pub list_of : (list : List ℕ) → Option (List ListedKey)
-list_of list = read_records none pair_step pairs_done list (whole [])
+list_of list = read_records None pair_step pairs_done list (whole [])
 
 -- any other list is C6
 unfoldable pub well_formed_list : (list : List ℕ) → Bool
@@ -59,10 +58,10 @@ well_formed_list list = is_some (list_of list)
 
 unfoldable pub keys_in : (list : List ℕ) → List ListedKey
 keys_in list = elim (list_of list) [
-  | some keys ↦ keys
-  | none ↦ []
+  | Some keys ↦ keys
+  | None ↦ []
 ]
 
 unfoldable pub listed_named : (name : List ℕ) → List ListedKey → Option ListedKey
-listed_named n [] = none
-listed_named n (key ∷ keys) = when same n key.name then some key else listed_named n keys
+listed_named n [] = None
+listed_named n (key ∷ keys) = when same n key.name then Some key else listed_named n keys

@@ -4,10 +4,10 @@ ghost use Rattle.keys.specs.Names.{is_new};
 ghost use Rattle.shipped.specs.Shipped.{well_formed_list, keys_in, names_of};
 ghost use Rattle.shipped.specs.code.Marks.{mark_of, Marked};
 
+use crate::LISTED_MOST;
 use crate::find::find_listed;
 use crate::marks::mark_of;
 use crate::pairs::pair_length;
-use crate::{LISTED_MOST, Listed};
 use keys::marks::is_among;
 use records::file::value_in;
 
@@ -17,27 +17,21 @@ fn is_repeated(list: &[u8], at: usize, marks: &[u32], name: &[u8], mark: u32) ->
     requires { (at ≤ length list.now) × (well_formed_list (take at list.now) ≡ true) × Marked (keys_in (take at list.now)) marks.now × (mark ≡ mark_of name.now) }
     ensures { result ≡ not (is_new name.now (names_of (keys_in (take at list.now)))) }
 {
-    if !is_among(marks, mark) {
-        return false;
-    }
-    match find_listed(&list[..at], name) {
-        Listed::At(_) => true,
-        Listed::Nothing => false,
-    }
+    is_among(marks, mark) && find_listed(&list[..at], name).is_some()
 }
 
-// Whether a list is pairs, at most as many as it may have, and no name stands twice.
+// Whether a list is pairs, at most as many as it may have, and no name stands twice. The marks are kept in an array with their
+// count beside it: memory is fixed, and a mark is looked for among all places at once.
 fn are_pairs(list: &[u8]) -> bool
     ensures { result ≡ well_formed_list list.now }
 {
-    let mut marks: [u32; LISTED_MOST] = [0; LISTED_MOST];
+    let mut marks = [0; LISTED_MOST];
     let mut count = 0;
     let mut at = 0;
     while at < list.len() {
-        let n = pair_length(&list[at..]);
-        if n == 0 {
+        let Some(n) = pair_length(&list[at..]) else {
             return false;
-        }
+        };
         if LISTED_MOST <= count {
             return false;
         }
@@ -57,8 +51,5 @@ fn are_pairs(list: &[u8]) -> bool
 pub fn is_well_formed(list: &[u8]) -> bool
     ensures { result ≡ well_formed_list list.now }
 {
-    if list.len() == 0 {
-        return true;
-    }
-    are_pairs(list)
+    list.is_empty() || are_pairs(list)
 }

@@ -3,12 +3,12 @@ ghost use Rattle.std.specs.Prelude.{◌≡◌, true};
 ghost use Rattle.shipped.specs.Shipped.{well_formed_list};
 ghost use Rattle.shipped.specs.code.Pairs.{Finds};
 
-use crate::{Listed, Span};
 use records::file::{record_length, value_in};
 use wire::bytes::equal;
+use wire::span::Span;
 
 // Where the data of the key with the name lies.
-pub fn find_listed(list: &[u8], name: &[u8]) -> Listed
+pub fn find_listed(list: &[u8], name: &[u8]) -> Option<Span>
     requires { well_formed_list list.now ≡ true }
     ensures { Finds list.now name.now result }
 {
@@ -19,9 +19,9 @@ pub fn find_listed(list: &[u8], name: &[u8]) -> Listed
         let start = at + n + 3;
         let len = record_length(&bytes[n..]) - 3;
         if equal(name, value_in(bytes)) {
-            return Listed::At(Span { start, len });
+            return Some(Span { start, len });
         }
         at = start + len;
     }
-    Listed::Nothing
+    None
 }

@@ -8,17 +8,3 @@ mod pairs;
 
 // The most pairs that a list may have.
 pub const LISTED_MOST: usize = 64;
-
-// A part of the list: the bytes from `start` on.
-#[derive(Clone, Copy)]
-pub struct Span {
-    pub start: usize,
-    pub len: usize,
-}
-
-// What a search in the list finds: where the key's data lies.
-#[derive(Clone, Copy)]
-pub enum Listed {
-    At(Span),
-    Nothing,
-}

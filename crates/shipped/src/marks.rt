@@ -1,16 +1,11 @@
 // The mark of a listed name.
-ghost use Rattle.std.specs.Prelude.{◌≡◌, ◌<◌};
+ghost use Rattle.std.specs.Prelude.{◌≡◌};
 ghost use Rattle.shipped.specs.code.Marks.{three_bytes, mark_of};
 
 use keys::marks::{four_words, mix};
 
-fn byte(x: u8) -> u32
-    ensures { (result ≡ x) × (result < 256) }
-{
-    x as u32
-}
-
 // The bytes of a name below four.
+#[tactic(auto, unfolding(crate::specs::code::Marks::three_bytes))]
 fn three_bytes(s: &[u8]) -> u32
     ensures { result ≡ three_bytes s.now }
 {
@@ -18,10 +13,11 @@ fn three_bytes(s: &[u8]) -> u32
     if n == 0 {
         return 0;
     }
-    byte(s[0]) + 256 * byte(s[n / 2]) + 65536 * byte(s[n - 1])
+    u32::from(s[0]) + 256 * u32::from(s[n / 2]) + 65536 * u32::from(s[n - 1])
 }
 
 // The mark of a name: every byte of one of at most 32 is looked at.
+#[tactic(auto, unfolding(crate::specs::code::Marks::mark_of))]
 pub fn mark_of(name: &[u8]) -> u32
     ensures { result ≡ mark_of name.now }
 {

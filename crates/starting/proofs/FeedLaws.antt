@@ -1,4 +1,5 @@
 -- A chunk handed over until it is taken whole leaves in memory what the rules leave, and so does a stream read chunk by chunk.
+use Rattle.std.proofs.Common.{Option, Some, Result}
 use mathlib.Core.Path.{◌≡◌, refl, sym, ap, ◌∙◌, subst}
 use mathlib.Core.Bool.{true}
 use mathlib.Core.List.{List, [], ◌∷◌, ◌++◌, append_assoc, append-nil}
@@ -25,12 +26,10 @@ use Rattle.service.specs.Call.{Memory, memory_of, journal_least, Call, CallOutco
 use Rattle.service.specs.Contract.{lent_memory, call_with}
 use Rattle.service.proofs.Demand3.{accepts, CalledOn, called_on}
 use Rattle.counters.specs.declared.Counters.{Counters}
-use Rattle.connection.specs.declared.change.Opened.{Opened}
+use Rattle.connection.specs.declared.change.OpenRefusal.{OpenRefusal}
 use Rattle.starting.specs.code.Stream.{ReadWithin, KeptWithin, left_by, Follows, Takes, After}
 use Rattle.starting.specs.declared.files.Input.{Input}
 use Rattle.starting.specs.declared.files.Input.TheVariants.{Bytes}
-use Rattle.starting.specs.declared.files.Front.{Front}
-use Rattle.starting.specs.declared.files.Front.TheVariants.{Kept}
 
 -- ---- what was read
 
@@ -38,7 +37,7 @@ pub read_bytes : {most n : ℕ} {r : Input} → ReadWithin most r → r ≡ Byte
 unfolding ReadWithin
 read_bytes {most} w e = subst (ReadWithin most) e w
 
-pub kept_bytes : {most n : ℕ} {r : Front} → KeptWithin most r → r ≡ Kept n → n ≤ most
+pub kept_bytes : {most n : ℕ} {r : Option ℕ} → KeptWithin most r → r ≡ Some n → n ≤ most
 unfolding KeptWithin
 kept_bytes {most} w e = subst (KeptWithin most) e w
 
@@ -118,7 +117,7 @@ module _ (list chunk : List ℕ) (at : ℕ) (before after : Memory) (buffer jour
 -- ---- a stream, chunk by chunk
 
 -- a fresh connection and zero counters
-pub starts : (list registry before connection : List ℕ) (opened : Opened) (counters : Counters) → length before ≡ connection_size
+pub starts : (list registry before connection : List ℕ) (opened : Result (Unit {0}) OpenRefusal) (counters : Counters) → length before ≡ connection_size
     → record { answer = opened; memory = connection } ≡ open_connection before → counters ≡ zero_counters
     → After list registry 0 (lent_memory connection registry counters)
 unfolding open_connection memory_of stream.fresh judgement fresh zero_counters

@@ -1,8 +1,8 @@
 -- Why the front of a roster file is enough, and that of a list of keys: of a longer roster file the first faulty record lies whole
 -- within it, and a longer list is bad.
+use Rattle.std.proofs.Common.{Option, Some, None}
 use mathlib.Core.Path.{◌≡◌, refl, sym, ap, ap₂, ◌∙◌}
 use mathlib.Core.Bool.{Bool, true, false}
-use mathlib.Core.Option.{Option, none, some}
 use mathlib.Core.List.{List, [], ◌∷◌, ◌++◌}
 use Prim.Native.Nat.{ℕ, zero, suc, ◌+◌, ◌*◌, ◌≤◌, ◌<◌}
 use native.Mathlib.Omega.{arith}
@@ -30,7 +30,7 @@ use Rattle.roster.specs.declared.RosterFault.{RosterFault}
 use Rattle.roster.specs.declared.RosterFault.TheVariants.{CutRecord, BadName}
 use Rattle.roster.proofs.LoadLaws.{passed_whole, passed_tests, passed_room, roster_from, roster_fault, roster_on}
 use Rattle.shipped.specs.Shipped.{ListedKey, listed_most, whole, list_of, well_formed_list}
-use Rattle.shipped.specs.code.Pairs.{is_name, is_data, behind as behind_name, is_pair, pair_length, key_in}
+use Rattle.shipped.specs.code.Pairs.{is_name, is_data, behind as behind_name, is_pair, pair_size, key_in}
 use Rattle.shipped.proofs.PairLaws.{read_pairs, pair_name, pair_data, pair_whole, behind_whole, pair_long, pairs_over}
 use Rattle.shipped.proofs.ListLaws.{good_list, next_pair, next_on}
 use Rattle.billing.specs.Bill.{refused_list, bill_for, is_list_refused, bill}
@@ -52,7 +52,7 @@ unfolding field
 record_most_lem bytes e = omega (arith, two_bytes (drop 1 bytes) (all_drop is_byte 1 bytes e))
 
 -- a good record is short
-module _ (names : List (List ℕ)) (bytes : List ℕ) (e : fault_in names bytes ≡ none) where
+module _ (names : List (List ℕ)) (bytes : List ℕ) (e : fault_in names bytes ≡ None) where
   legal : legal_name application_name_most (value_in bytes) ≡ true
   unfolding record_faults
   legal = not-false _ (none_at (record_faults names (record_in bytes)) 1 BadName (passed_tests names bytes e))
@@ -67,7 +67,7 @@ module _ (names : List (List ℕ)) (bytes : List ℕ) (e : fault_in names bytes 
 same_fault : (names : List (List ℕ)) (x rest : List ℕ) → record_length x ≤ length x → fault_in names (x ++ rest) ≡ fault_in names x
 unfolding fault_in
 same_fault names x rest room =
-    ap₂ (λ (whole : Bool) (r : Record). when whole then first_of (record_faults names r) else some CutRecord)
+    ap₂ (λ (whole : Bool) (r : Record). when whole then first_of (record_faults names r) else Some CutRecord)
     (whole_append x rest room ∙ sym (whole_fit x room)) (record_append x rest room)
 
 -- ---- record after record
@@ -98,8 +98,8 @@ module _ (front rest : List ℕ) (bytes : all is_byte front ≡ true) (long : fr
     step next = go (fault_in names x) refl
       where
         go : (o : Option RosterFault) → fault_in names x ≡ o → roster_from front at names ≡ roster_from (front ++ rest) at names
-        go (some fault) q = roster_fault front at names fault (omega arith) q ∙ sym (roster_fault (front ++ rest) at names fault there (faults ∙ q))
-        go none q =
+        go (Some fault) q = roster_fault front at names fault (omega arith) q ∙ sym (roster_fault (front ++ rest) at names fault there (faults ∙ q))
+        go None q =
             roster_on front at names (omega arith) q
             ∙ next (good_most names x q) (passed_room names x q)
             ∙ ap₂ (λ (s : ℕ) (r : Record). roster_from (front ++ rest) (at + (3 + s)) (names ++ (r.value ∷ [])))
@@ -135,7 +135,7 @@ module _ (bytes : List ℕ) (e : is_pair bytes ≡ true) where
   unfolding is_data
   data_legal = and_left (legal_data (value_in (behind_name bytes))) _ (and_right (eqb (field 0 1 (behind_name bytes)) 2) _ (and_right (is_whole (behind_name bytes)) _ (pair_data bytes e)))
 
-  pair_most_lem : pair_length bytes ≤ pair_most
+  pair_most_lem : pair_size bytes ≤ pair_most
   pair_most_lem =
       let name = legal_short key_name_most (value_in bytes) name_legal in
       let size = value_length bytes (pair_whole bytes e) in
@@ -144,7 +144,7 @@ module _ (bytes : List ℕ) (e : is_pair bytes ≡ true) where
       omega (arith, pair_long bytes e)
 
 -- k pairs more have room
-pairs_most : (k : ℕ) (keys more : List ListedKey) (bytes : List ℕ) → length keys + k ≡ listed_most → read_pairs bytes (whole keys) ≡ some more
+pairs_most : (k : ℕ) (keys more : List ListedKey) (bytes : List ℕ) → length keys + k ≡ listed_most → read_pairs bytes (whole keys) ≡ Some more
     → length bytes ≤ k * pair_most
 pairs_most zero keys more bytes all e =
     elim (dec_lt 0 (length bytes)) [
@@ -155,8 +155,8 @@ pairs_most (suc k) keys more bytes all e =
     elim (dec_lt 0 (length bytes)) [
       | yes l ↦
           let n = length-append keys (key_in bytes ∷ []) in
-          let rest = pairs_most k (keys ++ (key_in bytes ∷ [])) more (drop (pair_length bytes) bytes) (omega arith) (next_on keys more bytes e l) in
-          omega (arith, rest, pair_most_lem bytes (next_pair keys more bytes e l), length-drop (pair_length bytes) bytes)
+          let rest = pairs_most k (keys ++ (key_in bytes ∷ [])) more (drop (pair_size bytes) bytes) (omega arith) (next_on keys more bytes e l) in
+          omega (arith, rest, pair_most_lem bytes (next_pair keys more bytes e l), length-drop (pair_size bytes) bytes)
       | no l ↦ omega arith
     ]
 
@@ -176,7 +176,7 @@ module _ (file : List ℕ) (long : list_most < length file) where
   front_bad = longer_bad (take list_front_most file) (omega (arith, length-take-le list_front_most file (omega arith)))
 
   -- the list's line, or the roster's
-  same_line : (roster stream : List ℕ) → bill (some roster) (some stream) (some (take list_front_most file)) ≡ bill (some roster) (some stream) (some file)
+  same_line : (roster stream : List ℕ) → bill (Some roster) (Some stream) (Some (take list_front_most file)) ≡ bill (Some roster) (Some stream) (Some file)
   unfolding bill is_list_refused bill_for
   same_line roster stream = go (roster_of roster)
     where
@@ -194,12 +194,12 @@ list_front_decides file =
       | no l ↦ ap well_formed_list (take_all list_front_most file (omega arith))
     ]
 
-pub list_front_bills : (roster stream : Option (List ℕ)) (file : List ℕ) → bill roster stream (some (take list_front_most file)) ≡ bill roster stream (some file)
+pub list_front_bills : (roster stream : Option (List ℕ)) (file : List ℕ) → bill roster stream (Some (take list_front_most file)) ≡ bill roster stream (Some file)
 unfolding bill
-list_front_bills none stream file = refl
-list_front_bills (some roster) none file = refl
-list_front_bills (some roster) (some stream) file =
+list_front_bills None stream file = refl
+list_front_bills (Some roster) None file = refl
+list_front_bills (Some roster) (Some stream) file =
     elim (dec_lt list_most (length file)) [
       | yes l ↦ same_line file l roster stream
-      | no l ↦ ap (λ (list : List ℕ). bill (some roster) (some stream) (some list)) (take_all list_front_most file (omega arith))
+      | no l ↦ ap (λ (list : List ℕ). bill (Some roster) (Some stream) (Some list)) (take_all list_front_most file (omega arith))
     ]

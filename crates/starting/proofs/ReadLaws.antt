@@ -1,4 +1,5 @@
 -- What the system's answers come to when a file is opened and read.
+use Rattle.std.proofs.Common.{Option, Some, None}
 use mathlib.Core.Path.{◌≡◌, refl, sym, ap, ◌∙◌, subst}
 use mathlib.Core.Bool.{Bool, true, false}
 use Prim.Native.Nat.{ℕ, zero, suc, min, ◌≤◌, ◌<◌}
@@ -12,10 +13,8 @@ use lib.IntN.{ℤ, pos, negsuc, nat_abs}
 use lib.Signed.{lt_z, non_neg}
 use Rattle.starting.specs.code.Stream.{ReadWithin, KeptWithin}
 use Rattle.starting.specs.code.Reads.{file_of, size_input, input_of, front_of}
-use Rattle.starting.specs.declared.files.File.TheVariants.{Open, Missing}
 use Rattle.starting.specs.declared.files.Input.{Input}
 use Rattle.starting.specs.declared.files.Input.TheVariants.{Bytes, End, Failed}
-use Rattle.starting.specs.declared.files.Front.{Front}
 
 -- ---- a number as the machine reads it
 
@@ -24,14 +23,14 @@ sign z fits b e = sym (ap (λ (x : ℤ). lt_z x (pos 0)) (to_z-of_z fits)) ∙ e
 
 -- ---- opening
 
-pub file_missing : (fd : ℤ) → SFits w32 fd → lt_z (to_z w32 (of_z w32 fd)) (pos 0) ≡ true → Missing ≡ file_of fd
+pub file_missing : (fd : ℤ) → SFits w32 fd → lt_z (to_z w32 (of_z w32 fd)) (pos 0) ≡ true → None ≡ file_of fd
 unfolding file_of
 file_missing (pos n) fits e = absurd (omega (arith, ltb-true n 0 (sign (pos n) fits true e)))
 file_missing (negsuc k) fits e = refl
 
-pub file_open : (fd : ℤ) → SFits w32 fd → lt_z (to_z w32 (of_z w32 fd)) (pos 0) ≡ false → Open (to_z w32 (of_z w32 fd)) ≡ file_of fd
+pub file_open : (fd : ℤ) → SFits w32 fd → lt_z (to_z w32 (of_z w32 fd)) (pos 0) ≡ false → Some (to_z w32 (of_z w32 fd)) ≡ file_of fd
 unfolding file_of
-file_open (pos n) fits e = ap Open (to_z-of_z fits)
+file_open (pos n) fits e = ap Some (to_z-of_z fits)
 file_open (negsuc k) fits e = absurd (let q = sign (negsuc k) fits false e in let z : ◌≡◌ {A = ℕ} 0 1 = cc in omega arith)
 
 -- ---- reading once
@@ -88,7 +87,7 @@ input_within (pos k) most r e = rw e (go (min k most) (omega arith))
 
 -- ---- the front of a file
 
-pub front_within : (most n : ℕ) (is_whole : Bool) (r : Front) → n ≤ most → r ≡ front_of n is_whole → KeptWithin most r
+pub front_within : (most n : ℕ) (is_whole : Bool) (r : Option ℕ) → n ≤ most → r ≡ front_of n is_whole → KeptWithin most r
 unfolding KeptWithin front_of
 front_within most n true r h e = rw e h
 front_within most n false r h e = rw e tt

@@ -1,8 +1,8 @@
 -- What becomes of the three files, by what was read of them.
+use Rattle.std.proofs.Common.{Option, Some, None, Result, Ok, Err}
 use mathlib.Core.Path.{◌≡◌, refl, sym, ap, ◌∙◌, subst}
 use mathlib.Core.Bool.{Bool, true, false, true≢false, false≢true, not}
 use mathlib.Core.List.{List, []}
-use mathlib.Core.Option.{Option, none, some}
 use Prim.Native.Nat.{ℕ, ◌≤◌}
 use native.Mathlib.Omega.{arith}
 use borrow.Author.Tests.{eq-eqb}
@@ -19,7 +19,6 @@ use Rattle.registry.specs.WellFormed.{well_formed_registry}
 use Rattle.registry.proofs.KeylessLaws.{registry_good}
 use Rattle.roster.specs.Roster.{Roster, applications, faulty, roster_of, roster_into, load_roster}
 use Rattle.roster.specs.declared.RosterFault.{RosterFault}
-use Rattle.roster.specs.declared.Loaded.{Loaded}
 use Rattle.roster.proofs.RosterLaws.{roster_legal}
 use Rattle.shipped.specs.Shipped.{well_formed_list}
 use Rattle.judgement.specs.Judgement.{judgement}
@@ -28,37 +27,32 @@ use Rattle.service.specs.Call.{Memory, memory_of}
 use Rattle.service.proofs.KeptLaws.{keeps}
 use Rattle.billing.specs.Bill as bills
 use Rattle.billing.specs.Bill.{refused_list, bill_for, bill}
-use Rattle.starting.specs.Start.{MayGive, is_read, roster_source, roster_start, is_list_refused, with_list, start_of, with_file, is_good, line_of}
+use Rattle.starting.specs.Start.{Source, MayGive, is_read, roster_source, roster_start, list_checked, with_list, start_of, with_file, is_good, line_of}
+use Rattle.starting.specs.declared.start.StartRefusal.TheVariants.{Unreadable}
 use Rattle.starting.specs.code.Stream.{KeptWithin, After}
 use Rattle.starting.specs.code.Sources.{SourceOutcome, source_with, source_for, source_of, load_front, Starts, RosterRead, ListRead, StartRead, Ready, StreamTaken, StreamRead, Billable}
-use Rattle.starting.specs.declared.files.File.{File}
-use Rattle.starting.specs.declared.files.File.TheVariants.{Open, Missing}
-use Rattle.starting.specs.declared.files.Front.{Front}
-use Rattle.starting.specs.declared.files.Front.TheVariants as front
-use Rattle.starting.specs.declared.start.Source.{Source}
-use Rattle.starting.specs.declared.start.Source.TheVariants as source
 use Rattle.starting.proofs.FeedLaws.{kept_bytes}
 
 -- ---- what was kept of a roster file, loaded
 
 module _ (bytes memory : List ℕ) where
-  pub load_none : {read : Front} → read ≡ front.Unreadable → source_with source.Unreadable memory ≡ load_front bytes read memory
+  pub load_none : {read : Option ℕ} → read ≡ None → source_with (Err Unreadable) memory ≡ load_front bytes read memory
   unfolding load_front
-  load_none e = sym (ap (λ (r : Front). load_front bytes r memory) e)
+  load_none e = sym (ap (λ (r : Option ℕ). load_front bytes r memory) e)
 
-  pub load_kept : {read : Front} {n : ℕ} {answer : Loaded} {after : List ℕ} {s : Source} → read ≡ front.Kept n
+  pub load_kept : {read : Option ℕ} {n : ℕ} {answer : Result (Unit {0}) RosterFault} {after : List ℕ} {s : Source} → read ≡ Some n
       → record { answer = answer; registry = after } ≡ load_roster (take n bytes) memory → s ≡ source_for answer → source_with s after ≡ load_front bytes read memory
   unfolding load_front source_of
-  load_kept {after = after} e o q = ap (λ (x : Source). source_with x after) q ∙ ap source_of o ∙ sym (ap (λ (r : Front). load_front bytes r memory) e)
+  load_kept {after = after} e o q = ap (λ (x : Source). source_with x after) q ∙ ap source_of o ∙ sym (ap (λ (r : Option ℕ). load_front bytes r memory) e)
 
 -- ---- a roster file that was read
 
-starts_none : (registry : List ℕ) → Starts none registry
+starts_none : (registry : List ℕ) → Starts None registry
 unfolding Starts
 starts_none registry file names e q = absurd (some≢none file (sym e))
 
 module _ (file memory : List ℕ) (size : length memory ≡ registry_size) where
-  loaded_source : source_for (load_roster file memory).answer ≡ roster_start (some file)
+  loaded_source : source_for (load_roster file memory).answer ≡ roster_start (Some file)
   unfolding source_for load_roster roster_into roster_start roster_source
   loaded_source = rw (eq-eqb (length memory) registry_size size) (go (roster_of file))
     where
@@ -66,28 +60,28 @@ module _ (file memory : List ℕ) (size : length memory ≡ registry_size) where
       go (applications names) = refl
       go (faulty fault) = refl
 
-  loaded_starts : Starts (some file) (load_roster file memory).registry
+  loaded_starts : Starts (Some file) (load_roster file memory).registry
   unfolding Starts load_roster roster_into
   loaded_starts other names e q =
       let same : file ≡ other = cc in
       rw (eq-eqb (length memory) registry_size size) (ap (λ (r : Roster). (roster_into memory r).registry) (ap roster_of same ∙ q))
 
-pub roster_missing : (registry : List ℕ) {f : File} → f ≡ Missing → RosterRead f registry source.Unreadable
+pub roster_missing : (registry : List ℕ) {f : Option ℤ} → f ≡ None → RosterRead f registry (Err Unreadable)
 unfolding MayGive roster_start
-roster_missing registry e = record { roster = none; given = rw e refl; is = refl; registered = starts_none registry }
+roster_missing registry e = record { roster = None; given = rw e refl; is = refl; registered = starts_none registry }
 
 -- whatever was kept of it
-pub roster_open : {f : File} {fd : ℤ} → f ≡ Open fd → (bytes memory : List ℕ) → length memory ≡ registry_size → (read : Front) (o : SourceOutcome)
+pub roster_open : {f : Option ℤ} {fd : ℤ} → f ≡ Some fd → (bytes memory : List ℕ) → length memory ≡ registry_size → (read : Option ℕ) (o : SourceOutcome)
     → o ≡ load_front bytes read memory → RosterRead f o.registry o.answer
 unfolding MayGive load_front source_of roster_start
-roster_open e bytes memory size (front.Kept n) o q = record {
-  roster = some (take n bytes);
+roster_open e bytes memory size (Some n) o q = record {
+  roster = Some (take n bytes);
   given = rw e tt;
   is = ap (λ (x : SourceOutcome). x.answer) q ∙ loaded_source (take n bytes) memory size;
-  registered = subst (Starts (some (take n bytes))) (sym (ap (λ (x : SourceOutcome). x.registry) q)) (loaded_starts (take n bytes) memory size);
+  registered = subst (Starts (Some (take n bytes))) (sym (ap (λ (x : SourceOutcome). x.registry) q)) (loaded_starts (take n bytes) memory size);
 }
-roster_open e bytes memory size front.Unreadable o q = record {
-  roster = none;
+roster_open e bytes memory size None o q = record {
+  roster = None;
   given = rw e tt;
   is = ap (λ (x : SourceOutcome). x.answer) q;
   registered = starts_none o.registry;
@@ -95,49 +89,23 @@ roster_open e bytes memory size front.Unreadable o q = record {
 
 -- ---- and then a list of keys
 
-pub list_missing : (most : ℕ) {f : File} → f ≡ Missing → ListRead f most front.Unreadable
+pub list_missing : (most : ℕ) {f : Option ℤ} → f ≡ None → ListRead f most None
 unfolding ListRead
 list_missing most e = rw e refl
 
-pub list_open : (most : ℕ) (read : Front) {f : File} {fd : ℤ} → f ≡ Open fd → KeptWithin most read → ListRead f most read
+pub list_open : (most : ℕ) (read : Option ℕ) {f : Option ℤ} {fd : ℤ} → f ≡ Some fd → KeptWithin most read → ListRead f most read
 unfolding ListRead
 list_open most read e k = rw e k
 
 -- a list of which bytes were kept was opened
-pub list_kept : (f : File) {most n : ℕ} {read : Front} (bytes : List ℕ) → ListRead f most read → read ≡ front.Kept n → (n ≤ most) × MayGive f (some bytes)
+pub list_kept : (f : Option ℤ) {most n : ℕ} {read : Option ℕ} (bytes : List ℕ) → ListRead f most read → read ≡ Some n → (n ≤ most) × MayGive f (Some bytes)
 unfolding ListRead MayGive
-list_kept (Open fd) bytes k e = (kept_bytes k e, tt)
-list_kept Missing bytes k e = absurd (let z : ◌≡◌ {A = ℕ} 0 1 = cc in omega arith)
-
-module _ (s : Source) (is_good : Bool) where
-  pub refused_good : {t : Bool} → s ≡ source.Good → t ≡ is_good → not t ≡ is_list_refused s is_good
-  unfolding is_list_refused
-  refused_good q e = rw q (ap not e)
-
-  pub refused_faulty : {fault : RosterFault} → s ≡ source.Faulty fault → false ≡ is_list_refused s is_good
-  unfolding is_list_refused
-  refused_faulty q = rw q refl
-
-  pub refused_before : s ≡ source.BadList → false ≡ is_list_refused s is_good
-  unfolding is_list_refused
-  refused_before q = rw q refl
-
-  pub refused_unread : s ≡ source.Unreadable → false ≡ is_list_refused s is_good
-  unfolding is_list_refused
-  refused_unread q = rw q refl
-
-  module _ {t : Bool} (e : t ≡ is_list_refused s is_good) where
-    pub with_bad : t ≡ true → source.BadList ≡ with_list s is_good
-    unfolding with_list
-    with_bad w = rw (sym e ∙ w) refl
-
-    pub with_good : t ≡ false → s ≡ with_list s is_good
-    unfolding with_list
-    with_good w = rw (sym e ∙ w) refl
+list_kept (Some fd) bytes k e = (kept_bytes k e, tt)
+list_kept None bytes k e = absurd (let z : ◌≡◌ {A = ℕ} 0 1 = cc in omega arith)
 
 -- ---- one file more, and whether the start is good
 
-pub with_unread : (s : Source) {is_whole : Bool} → is_whole ≡ false → source.Unreadable ≡ with_file s is_whole
+pub with_unread : (s : Source) {is_whole : Bool} → is_whole ≡ false → Err Unreadable ≡ with_file s is_whole
 unfolding with_file
 with_unread s w = rw w refl
 
@@ -145,16 +113,9 @@ pub with_read : (s : Source) {is_whole : Bool} → is_whole ≡ true → s ≡ w
 unfolding with_file
 with_read s w = rw w refl
 
-pub not_good : (s : Source) → (s ≡ source.Good → ⊥) → false ≡ is_good s
-unfolding is_good
-not_good source.Good other = absurd (other refl)
-not_good (source.Faulty fault) other = refl
-not_good source.BadList other = refl
-not_good source.Unreadable other = refl
-
 -- ---- the start, by what was read
 
-pub start_read : (roster : File) (registry list : List ℕ) (s start : Source) → RosterRead roster registry s → start ≡ with_list s (well_formed_list list)
+pub start_read : (roster : Option ℤ) (registry list : List ℕ) (s start : Source) → RosterRead roster registry s → start ≡ with_list s (well_formed_list list)
     → StartRead roster registry list start
 unfolding start_of
 start_read roster registry list s start r e = record {
@@ -168,21 +129,21 @@ start_read roster registry list s start r e = record {
 pub record GoodStart (roster : Option (List ℕ)) (list : List ℕ) : Type 0 where
   pub file : List ℕ
   pub names : List (List ℕ)
-  pub same : roster ≡ some file
+  pub same : roster ≡ Some file
   pub good : roster_of file ≡ applications names
   pub listed : well_formed_list list ≡ true
 
-good_start : (roster : Option (List ℕ)) (list : List ℕ) → is_good (start_of roster (some list)) ≡ true → GoodStart roster list
-unfolding start_of roster_start roster_source with_list is_list_refused is_good
-good_start none list e = absurd (false≢true e)
-good_start (some file) list e = go (roster_of file) refl (well_formed_list list) refl e
+good_start : (roster : Option (List ℕ)) (list : List ℕ) → is_good (start_of roster (Some list)) ≡ true → GoodStart roster list
+unfolding start_of roster_start roster_source list_checked with_list
+good_start None list e = absurd (false≢true e)
+good_start (Some file) list e = go (roster_of file) refl (well_formed_list list) refl e
   where
-    go : (r : Roster) → roster_of file ≡ r → (t : Bool) → well_formed_list list ≡ t → is_good (with_list (roster_source r) t) ≡ true → GoodStart (some file) list
+    go : (r : Roster) → roster_of file ≡ r → (t : Bool) → well_formed_list list ≡ t → is_good (with_list (roster_source r) t) ≡ true → GoodStart (Some file) list
     go (applications names) q true w e = record { file = file; names = names; same = refl; good = q; listed = w }
     go (applications names) q false w e = absurd (false≢true e)
     go (faulty fault) q t w e = absurd (false≢true e)
 
-module _ (roster : File) (registry list : List ℕ) (s : Source) (r : StartRead roster registry list s) where
+module _ (roster : Option ℤ) (registry list : List ℕ) (s : Source) (r : StartRead roster registry list s) where
   pub good_read : is_good s ≡ true → GoodStart r.roster list
   good_read good = good_start r.roster list (sym (ap is_good r.is) ∙ good)
 
@@ -196,21 +157,21 @@ module _ (roster : File) (registry list : List ℕ) (s : Source) (r : StartRead 
       let g = good_read good in
       (ap well_formed_registry (good_registry good) ∙ registry_good g.names (roster_legal g.file g.names g.good), g.listed)
 
-pub ready_good : (registry list : List ℕ) {s : Source} → s ≡ source.Good → Ready registry list s
+pub ready_good : (registry list : List ℕ) {s : Source} → s ≡ Ok tt → Ready registry list s
     → (well_formed_registry registry ≡ true) × (well_formed_list list ≡ true)
-unfolding Ready is_good
+unfolding Ready
 ready_good registry list e f = f (ap is_good e)
 
 -- the bill of a start that is refused is its line
 pub start_bills : (roster stream list : Option (List ℕ)) → is_good (with_file (start_of roster list) (is_read stream)) ≡ false
     → line_of (with_file (start_of roster list) (is_read stream)) ≡ bill roster stream list
-unfolding bill bill_for bills.is_list_refused is_read start_of roster_start roster_source with_list is_list_refused with_file is_good line_of
-start_bills none none list e = refl
-start_bills none (some stream) none e = refl
-start_bills none (some stream) (some list) e = refl
-start_bills (some roster) none list e = refl
-start_bills (some roster) (some stream) none e = refl
-start_bills (some roster) (some stream) (some list) e = go (roster_of roster) (well_formed_list list) refl e
+unfolding bill bill_for bills.is_list_refused is_read start_of roster_start roster_source list_checked with_list with_file line_of
+start_bills None None list e = refl
+start_bills None (Some stream) None e = refl
+start_bills None (Some stream) (Some list) e = refl
+start_bills (Some roster) None list e = refl
+start_bills (Some roster) (Some stream) None e = refl
+start_bills (Some roster) (Some stream) (Some list) e = go (roster_of roster) (well_formed_list list) refl e
   where
     go : (r : Roster) (t : Bool) → well_formed_list list ≡ t → is_good (with_list (roster_source r) t) ≡ false
         → line_of (with_list (roster_source r) t) ≡ (when bills.is_list_refused r list then refused_list else bill_for list r stream)
@@ -220,12 +181,12 @@ start_bills (some roster) (some stream) (some list) e = go (roster_of roster) (w
 
 -- ---- a stream that was read
 
-module _ (s : Source) (registry list : List ℕ) (is_whole : Bool) (m : Memory) {f : File} where
-  pub stream_missing : f ≡ Missing → is_whole ≡ false → StreamRead f s registry list is_whole m
+module _ (s : Source) (registry list : List ℕ) (is_whole : Bool) (m : Memory) {f : Option ℤ} where
+  pub stream_missing : f ≡ None → is_whole ≡ false → StreamRead f s registry list is_whole m
   unfolding StreamRead
   stream_missing e w = rw e w
 
-  module _ {fd : ℤ} (e : f ≡ Open fd) where
+  module _ {fd : ℤ} (e : f ≡ Some fd) where
     pub stream_good : After list registry counter_most m → StreamRead f s registry list is_whole m
     unfolding StreamRead StreamTaken
     stream_good a = rw e (λ good. a)
@@ -249,10 +210,10 @@ module _ (registry list : List ℕ) (good : well_formed_registry registry ≡ tr
       ap (λ (x : Memory). well_formed_registry x.registry) a.memory
       ∙ (rules_kept largest_count well_formed_registry (judgement list) (keeps list) registry good a.stream).good
 
-pub billable : (stream : File) (registry list : List ℕ) (m : Memory) (s : Source) (is_whole : Bool) → Ready registry list s
+pub billable : (stream : Option ℤ) (registry list : List ℕ) (m : Memory) (s : Source) (is_whole : Bool) → Ready registry list s
     → StreamRead stream s registry list is_whole m → Billable (with_file s is_whole) m
-unfolding Ready StreamRead StreamTaken Billable with_file is_good
+unfolding Ready StreamRead StreamTaken Billable with_file
 billable stream registry list m s false f g e = absurd (false≢true e)
-billable Missing registry list m s true f g e = absurd (false≢true (sym g))
-billable (Open fd) registry list m s true f g e =
+billable None registry list m s true f g e = absurd (false≢true (sym g))
+billable (Some fd) registry list m s true f g e =
     (after_connected registry list (f e).0 counter_most m (g e), after_registered registry list (f e).0 counter_most m (g e))

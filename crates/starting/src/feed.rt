@@ -7,9 +7,10 @@ ghost use Rattle.starting.specs.code.Stream.{Follows, Takes, taken_with};
 
 use counters::Counters;
 use counters::counting::zero_counters;
-use service::call::{call_by_value, counters_of};
+use service::call::call_by_value;
 
-// A stream that was read: the counters after it, and whether it could be read to its end.
+// A stream that was read: the counters after it, and whether it could be read to its end. Kept: the claims speak of what a stream
+// that broke off left in memory too.
 #[derive(Clone, Copy)]
 pub struct Taken {
     pub counters: Counters,
@@ -51,8 +52,8 @@ pub fn feed(
             response,
             journal,
         );
-        at += o.taken;
-        after = counters_of(o);
+        at += o.answer.taken;
+        after = o.counters;
     }
     after
 }

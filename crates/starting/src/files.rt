@@ -2,14 +2,7 @@
 ghost use Rattle.std.specs.Prelude.{◌≡◌, length};
 ghost use Rattle.starting.specs.code.Reads.{file_of, size_input, input_of, is_end, front_of};
 
-// The file that an argument names, or that it can't be opened.
-#[derive(Clone, Copy)]
-pub enum File {
-    Open(i32),
-    Missing,
-}
-
-// What reading once gives.
+// What reading once gives. Kept: an end is no failure and no bytes, and a `Result` of an `Option` would name none of the three.
 #[derive(Clone, Copy)]
 pub enum Input {
     Bytes(usize),
@@ -17,28 +10,22 @@ pub enum Input {
     Failed,
 }
 
-// How many of a file's first bytes were kept; a file that can't be read to its end is unreadable.
-#[derive(Clone, Copy)]
-pub enum Front {
-    Kept(usize),
-    Unreadable,
-}
-
 // A number that no run counts down: nothing says that a file ends, and a proved loop has to. It is counter_most divided by
 // chunk_most, the limits of C5 and C2: so many chunks have as many bytes at most as a counter may count.
 pub const TURNS: u64 = 70368744177664;
 
 // What an answer of `open` comes to: below 0 it is no file's number.
-pub fn file_of(fd: i32) -> File
+pub fn file_of(fd: i32) -> Option<i32>
     ensures { result ≡ file_of fd }
 {
     if fd < 0 {
-        return File::Missing;
+        return None;
     }
-    File::Open(fd)
+    Some(fd)
 }
 
 // No bytes are the file's end.
+#[tactic(auto, unfolding(crate::specs::code::Reads::size_input))]
 fn size_input(size: usize) -> Input
     ensures { result ≡ size_input size }
 {
@@ -63,6 +50,7 @@ pub fn input_of(got: isize, buffer: &[u8]) -> Input
 }
 
 // Whether a file was read to its end, by what the last read gave.
+#[tactic(auto, unfolding(crate::specs::code::Reads::is_end))]
 pub fn is_end(last: Input) -> bool
     ensures { result ≡ is_end last }
 {
@@ -74,11 +62,12 @@ pub fn is_end(last: Input) -> bool
 }
 
 // Of a file that can't be read to its end nothing is kept.
-pub fn front_of(size: usize, is_whole: bool) -> Front
+#[tactic(auto, unfolding(crate::specs::code::Reads::front_of))]
+pub fn front_of(size: usize, is_whole: bool) -> Option<usize>
     ensures { result ≡ front_of size is_whole }
 {
     if is_whole {
-        return Front::Kept(size);
+        return Some(size);
     }
-    Front::Unreadable
+    None
 }

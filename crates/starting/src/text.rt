@@ -8,13 +8,11 @@ ghost use Rattle.billing.specs.Bill.{no_file, refused_roster, refused_list};
 ghost use Rattle.billing.specs.Outcome.{bill_most, bill_in};
 ghost use Rattle.starting.specs.Start.{line_of};
 
-use crate::start::Source;
-use billing::Billed;
+use crate::start::StartRefusal;
 use billing::text::{write_decimal, write_word};
 use billing::whole::write_bill;
 use counters::Counters;
 use roster::RosterFault;
-use roster::load::fault_number;
 
 pub fn write_no_file(out: &mut [u8]) -> usize
     requires { bill_most ≤ length out.old }
@@ -29,7 +27,7 @@ fn write_refused(out: &mut [u8], fault: RosterFault) -> usize
     ensures { Wrote (refused_roster fault) out.old out.new result }
 {
     let named = write_word(out, 0, b"roster R");
-    let numbered = write_decimal(out, named, fault_number(fault) as u64);
+    let numbered = write_decimal(out, named, u64::from(u32::from(fault)));
     write_word(out, numbered, b"\n")
 }
 
@@ -42,15 +40,16 @@ fn write_list_refused(out: &mut [u8]) -> usize
 }
 
 // The line that says why there is no start; a good one has none.
-pub fn write_line(out: &mut [u8], source: Source) -> usize
+#[tactic(auto, unfolding(crate::specs::Start::line_of))]
+pub fn write_line(out: &mut [u8], source: Result<(), StartRefusal>) -> usize
     requires { bill_most ≤ length out.old }
     ensures { Wrote (line_of source) out.old out.new result }
 {
     match source {
-        Source::Unreadable => write_no_file(out),
-        Source::Faulty(fault) => write_refused(out, fault),
-        Source::BadList => write_list_refused(out),
-        Source::Good => 0,
+        Err(StartRefusal::Unreadable) => write_no_file(out),
+        Err(StartRefusal::Faulty(fault)) => write_refused(out, fault),
+        Err(StartRefusal::BadList) => write_list_refused(out),
+        Ok(()) => 0,
     }
 }
 
@@ -60,7 +59,7 @@ pub fn write_memory(out: &mut [u8], counters: Counters, registry: &[u8], connect
     ensures { Wrote (bill_in (lent_memory connection.now registry.now counters)) out.old out.new result }
 {
     match write_bill(out, counters, registry, connection) {
-        Billed::Written(size) => size,
+        Ok(size) => size,
         // Never: there is room, and memory is well formed.
         _ => 0,
     }

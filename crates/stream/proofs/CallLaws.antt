@@ -1,7 +1,7 @@
 -- The rules are what the reader of bytes reads, and the first byte of a call on it.
+use Rattle.std.proofs.Common.{Option, Some, None}
 use mathlib.Core.Path.{◌≡◌, refl, sym, ◌∙◌}
 use Prim.Native.Nat.{ℕ, ◌+◌}
-use mathlib.Core.Option.{Option, none, some}
 use mathlib.Core.List.{List, [], ◌∷◌, ◌++◌, append-nil}
 use lib.ListN.{length, length-append}
 use Rattle.reading.specs.Reader.{with_event, read}
@@ -14,8 +14,8 @@ use Rattle.stream.proofs.RulesLaws.{with_response, after, rules_byte, rules_fres
 
 with_event_lem : {Out : Type 0} (rs : List Out) (o : Option Out) → with_response rs o ≡ rs ++ with_event o []
 unfolding with_response with_event
-with_event_lem rs none = sym (append-nil rs)
-with_event_lem rs (some r) = refl
+with_event_lem rs None = sym (append-nil rs)
+with_event_lem rs (Some r) = refl
 
 module _ {Reg Count Out : Type 0} (J : Judgement Reg Count Out) where
   -- THE RULES ARE THE READER'S
@@ -33,9 +33,9 @@ module _ {Reg Count Out : Type 0} (J : Judgement Reg Count Out) where
       ∙ (λ i. record { taken = length seen + 1; events = with_event_lem (rules J registry seen).responses (byte_rule J s b).event i; kept = (byte_rule J s b).kept }))
 
   module _ (s : State Reg Count) (b : ℕ) (chunk : List ℕ) where
-    pub call_responds : (r : Out) → (byte_rule J s b).event ≡ some r
-        → call_rule (reader J) s (b ∷ chunk) ≡ record { taken = 1; event = some r; kept = (byte_rule J s b).kept }
+    pub call_responds : (r : Out) → (byte_rule J s b).event ≡ Some r
+        → call_rule (reader J) s (b ∷ chunk) ≡ record { taken = 1; event = Some r; kept = (byte_rule J s b).kept }
     call_responds r e = call_event (reader J) s b chunk refl r e
 
-    pub call_goes_on : (byte_rule J s b).event ≡ none → call_rule (reader J) s (b ∷ chunk) ≡ one_more (call_rule (reader J) (byte_rule J s b).kept chunk)
+    pub call_goes_on : (byte_rule J s b).event ≡ None → call_rule (reader J) s (b ∷ chunk) ≡ one_more (call_rule (reader J) (byte_rule J s b).kept chunk)
     call_goes_on e = call_on_lem (reader J) s b chunk refl e

@@ -1,9 +1,9 @@
 -- DEMAND 3 for every judgement, every way of keeping its state in memory, of giving what it hands out and of refusing calls: a
 -- list of calls gives what the rules give for the joined stream of taken bytes, uncut. It is the cut theorem at the rules' reader.
+use Rattle.std.proofs.Common.{Option, None}
 use mathlib.Core.Path.{◌≡◌, sym, ap, ◌∙◌, subst}
 use Prim.Native.Nat.{ℕ, ◌+◌}
 use mathlib.Core.Bool.{true}
-use mathlib.Core.Option.{Option, none}
 use mathlib.Core.List.{List, [], ◌++◌, flatten}
 use lib.ListN.{length, take}
 use Rattle.reading.specs.Reader.{Reading, read}
@@ -38,13 +38,13 @@ module _ {Memory Reg Count Out Lent Given Code : Type 0} (J : Judgement Reg Coun
   fresh_memory = ap (λ (o : Outcome Reg Count Out). L.store o.state) (rules_fresh J registry)
 
   -- one call that is not refused, after any stream
-  pub rules_took : (seen : List ℕ) (call : Call Lent) → refusal (L.store (rules J registry seen).state) call ≡ none
+  pub rules_took : (seen : List ℕ) (call : Call Lent) → refusal (L.store (rules J registry seen).state) call ≡ None
       → (let effect = call_rule (reader J) (rules J registry seen).state call.chunk in
       call_on (reader J) L refusal (L.store (rules J registry seen).state) call
       ≡ record { answer = took L effect.taken effect.event call; memory = L.store (rules J registry (seen ++ take effect.taken call.chunk)).state })
   unfolding by_rules
   rules_took seen call =
-      subst (λ (uncut : List ℕ → Reading (State Reg Count) Out). refusal (L.store (uncut seen).kept) call ≡ none
+      subst (λ (uncut : List ℕ → Reading (State Reg Count) Out). refusal (L.store (uncut seen).kept) call ≡ None
       → (let effect = call_rule (reader J) (uncut seen).kept call.chunk in
       call_on (reader J) L refusal (L.store (uncut seen).kept) call
       ≡ record { answer = took L effect.taken effect.event call; memory = L.store (uncut (seen ++ take effect.taken call.chunk)).kept }))

@@ -1,8 +1,8 @@
 -- What one call does, in one go: `call_rule` is told byte by byte, and here it is told for the whole chunk.
+use Rattle.std.proofs.Common.{Option, Some, None}
 use mathlib.Core.Path.{◌≡◌, refl, sym, ap, ap₂, ◌∙◌}
 use Prim.Native.Nat.{ℕ, suc, ◌+◌, ◌-◌, ◌≤◌, ◌<◌}
 use mathlib.Core.Bool.{Bool, true, false, true≢false, ◌&&◌}
-use mathlib.Core.Option.{Option, none, some}
 use mathlib.Core.List.{List, [], ◌∷◌, ◌++◌, append_assoc, append-nil}
 use native.Mathlib.Omega.{arith}
 use lib.ListN.{length, take}
@@ -142,7 +142,7 @@ module _ {Reg Count Out : Type 0} (J : Judgement Reg Count Out) where
   unfolding call_rule
   call_nothing s c e =
       let t : s.totals.taken ≡ s.totals.taken + 0 = omega arith in
-      λ i. effect_of 0 none (e i) s.registry (t i) s.totals.answered s.totals.dropped s.totals.counts
+      λ i. effect_of 0 None (e i) s.registry (t i) s.totals.answered s.totals.dropped s.totals.counts
 
   module _ (s : State Reg Count) (b : ℕ) (chunk : List ℕ) where
     call_keeps : (c : Connection) → byte_rule J s b ≡ keep J s c
@@ -165,28 +165,28 @@ module _ {Reg Count Out : Type 0} (J : Judgement Reg Count Out) where
     call_answers size v c e =
         let t : suc s.totals.taken ≡ s.totals.taken + 1 = omega arith in
         call_responds J s b chunk v.response (ap (λ (x : Step (State Reg Count) Out). x.event) e)
-        ∙ ap (λ (x : Step (State Reg Count) Out). record { taken = 1; event = some v.response; kept = x.kept }) e
-        ∙ (λ i. effect_of 1 (some v.response) c v.registry (t i) (s.totals.answered + size) s.totals.dropped v.counts)
+        ∙ ap (λ (x : Step (State Reg Count) Out). record { taken = 1; event = Some v.response; kept = x.kept }) e
+        ∙ (λ i. effect_of 1 (Some v.response) c v.registry (t i) (s.totals.answered + size) s.totals.dropped v.counts)
 
   later_waiting : (s : State Reg Count) (c₀ c : Connection) (n : ℕ) → later (waiting (keep J s c₀).kept n c) ≡ waiting {Out = Out} s (suc n) c
   unfolding keep
   later_waiting s c₀ c n =
       let t : suc s.totals.taken + n ≡ s.totals.taken + suc n = omega arith in
-      λ i. effect_of (suc n) none c s.registry (t i) s.totals.answered s.totals.dropped s.totals.counts
+      λ i. effect_of (suc n) None c s.registry (t i) s.totals.answered s.totals.dropped s.totals.counts
 
   later_answering : (s : State Reg Count) (c₀ c : Connection) (n size : ℕ) (v : Verdict Reg Count Out)
       → later (answering (keep J s c₀).kept n size v c) ≡ answering s (suc n) size v c
   unfolding keep
   later_answering s c₀ c n size v =
       let t : suc s.totals.taken + n ≡ s.totals.taken + suc n = omega arith in
-      λ i. effect_of (suc n) (some v.response) c v.registry (t i) (s.totals.answered + size) s.totals.dropped v.counts
+      λ i. effect_of (suc n) (Some v.response) c v.registry (t i) (s.totals.answered + size) s.totals.dropped v.counts
 
   later_dropping : (s : State Reg Count) (n : ℕ) → later (dropping (drop_byte J s).kept n) ≡ dropping {Out = Out} s (suc n)
   unfolding drop_byte
   later_dropping s n =
       let t : suc s.totals.taken + n ≡ s.totals.taken + suc n = omega arith in
       let d : suc s.totals.dropped + n ≡ s.totals.dropped + suc n = omega arith in
-      λ i. effect_of (suc n) none closed s.registry (t i) s.totals.answered (d i) s.totals.counts
+      λ i. effect_of (suc n) None closed s.registry (t i) s.totals.answered (d i) s.totals.counts
 
   -- ---- LAW 1: a closed connection
 
@@ -196,7 +196,7 @@ module _ {Reg Count Out : Type 0} (J : Judgement Reg Count Out) where
   call_closed s [] e =
       let d : s.totals.dropped ≡ s.totals.dropped + 0 = omega arith in
       call_nothing s closed e
-      ∙ (λ i. effect_of 0 none closed s.registry (s.totals.taken + 0) s.totals.answered (d i) s.totals.counts)
+      ∙ (λ i. effect_of 0 None closed s.registry (s.totals.taken + 0) s.totals.answered (d i) s.totals.counts)
   call_closed s (b ∷ chunk) e =
       call_drops s b chunk (byte_closed s b e)
       ∙ ap later (call_closed (drop_byte J s).kept chunk refl)

@@ -1,8 +1,8 @@
 -- LIVENESS: a stream handed over chunk by chunk, what is left of a chunk again, is taken whole and no call is refused.
+use Rattle.std.proofs.Common.{Option, None}
 use mathlib.Core.Path.{◌≡◌, sym, ap, ap₂, ◌∙◌, subst}
 use Prim.Native.Nat.{ℕ, ◌+◌, ◌≤◌}
 use mathlib.Core.Bool.{true, ◌&&◌}
-use mathlib.Core.Option.{Option, none}
 use mathlib.Core.List.{List, [], ◌∷◌, ◌++◌, flatten}
 use native.Mathlib.Omega.{arith}
 use borrow.Author.Tests.{le-leb, leb-true}
@@ -54,13 +54,13 @@ module _ (streamMost chunk_most : ℕ) (seen chunk : List ℕ) (chunks : List (L
 module _ {Memory Reg Count Out Lent Given Code : Type 0} (J : Judgement Reg Count Out) (L : Layout Memory (State Reg Count) Out Lent Given) (lawful : Lawful L)
     (refusal : Memory → Call Lent → Option Code) (registry : Reg) (streamMost chunk_most : ℕ) (lent : ℕ → Lent)
     (accepts : (seen : List ℕ) (chunk : List ℕ) (k : ℕ) → length seen ≤ streamMost → length chunk ≤ chunk_most
-    → refusal (L.store (rules J registry seen).state) (record { chunk = chunk; lent = lent k }) ≡ none) where
+    → refusal (L.store (rules J registry seen).state) (record { chunk = chunk; lent = lent k }) ≡ None) where
   accepted : (seen chunk : List ℕ) (chunks : List (List ℕ)) (k : ℕ) → Fine streamMost chunk_most seen (chunk ∷ chunks)
-      → refusal (L.store (read (reader J) (fresh J registry) seen).kept) (record { chunk = chunk; lent = lent k }) ≡ none
+      → refusal (L.store (read (reader J) (fresh J registry) seen).kept) (record { chunk = chunk; lent = lent k }) ≡ None
   unfolding by_rules
   accepted seen chunk chunks k f =
       let short = f.short in
-      subst (λ (uncut : List ℕ → Reading (State Reg Count) Out). refusal (L.store (uncut seen).kept) (record { chunk = chunk; lent = lent k }) ≡ none) (sym (rules_read J registry))
+      subst (λ (uncut : List ℕ → Reading (State Reg Count) Out). refusal (L.store (uncut seen).kept) (record { chunk = chunk; lent = lent k }) ≡ None) (sym (rules_read J registry))
       (accepts seen chunk k (omega arith) (first_small chunk_most chunk chunks f.small))
 
   pub delivered : (most : ℕ) (chunks : List (List ℕ)) → enough chunks ≤ most → within chunk_most chunks ≡ true → length (flatten chunks) ≤ streamMost

@@ -1,9 +1,9 @@
 -- DEMAND 3 WITH A JOURNAL, for every judgement and every record of a request: calls write the responses and leave the memory that
 -- they would without the records, and the records that they write are those of the rules, joined.
+use Rattle.std.proofs.Common.{Option, Some, None}
 use mathlib.Core.Path.{◌≡◌, refl, sym, ap, ◌∙◌}
 use Prim.Native.Nat.{ℕ, suc, ◌-◌, ◌≤◌}
 use mathlib.Core.Bool.{Bool, true, false}
-use mathlib.Core.Option.{Option, none, some}
 use mathlib.Core.List.{List, [], ◌∷◌, ◌++◌, map, flatten}
 use lib.ListN.{length}
 use lib.Dec.{leb}
@@ -50,8 +50,8 @@ module _ {Reg Count : Type 0} (record_of : Reg → (request : List ℕ) → Verd
       go false e = rw (e, judge)
 
   abbrev pub bare_event : Option Handed → Option (List ℕ)
-  bare_event none = none
-  bare_event (some h) = some h.response
+  bare_event None = None
+  bare_event (Some h) = Some h.response
 
   abbrev bare_step : Step (State Reg Count) Handed → Step (State Reg Count) (List ℕ)
   bare_step t = record { kept = t.kept; event = bare_event t.event }
@@ -95,7 +95,7 @@ module _ {Reg Count : Type 0} (record_of : Reg → (request : List ℕ) → Verd
         go (skipping header to_go) e = rw (e, byte_rule) (skip_bare header to_go)
         go closed e = rw (e, byte_rule)
 
-  pub event_bare : (s : State Reg Count) (b : ℕ) (h : Handed) → (byte_rule K s b).event ≡ some h → (byte_rule J s b).event ≡ some h.response
+  pub event_bare : (s : State Reg Count) (b : ℕ) (h : Handed) → (byte_rule K s b).event ≡ Some h → (byte_rule J s b).event ≡ Some h.response
   event_bare s b h e = ap (λ (t : Step (State Reg Count) (List ℕ)). t.event) (sym (byte_bare s b)) ∙ ap bare_event e
 
   -- a call: what is proved of one without records stays, and the record is beside it
@@ -109,11 +109,11 @@ module _ {Reg Count : Type 0} (record_of : Reg → (request : List ℕ) → Verd
 
       go : bare_effect (call_rule (reader K) (byte_rule K s b).kept chunk) ≡ call_rule (reader J) (byte_rule K s b).kept chunk
           → (o : Option Handed) → (byte_rule K s b).event ≡ o → bare_effect (call_rule (reader K) s (b ∷ chunk)) ≡ call_rule (reader J) s (b ∷ chunk)
-      go ih (some h) e =
+      go ih (Some h) e =
           ap bare_effect (call_responds K s b chunk h e)
-          ∙ ap (λ (t : Step (State Reg Count) (List ℕ)). record { taken = 1; event = some h.response; kept = t.kept }) same
+          ∙ ap (λ (t : Step (State Reg Count) (List ℕ)). record { taken = 1; event = Some h.response; kept = t.kept }) same
           ∙ sym (call_responds J s b chunk h.response (ap (λ (t : Step (State Reg Count) (List ℕ)). t.event) (sym same) ∙ ap bare_event e))
-      go ih none e =
+      go ih None e =
           ap bare_effect (call_goes_on K s b chunk e)
           ∙ ap one_more ih
           ∙ ap (λ (t : Step (State Reg Count) (List ℕ)). one_more (call_rule (reader J) t.kept chunk)) same
@@ -125,8 +125,8 @@ module _ {Reg Count : Type 0} (record_of : Reg → (request : List ℕ) → Verd
 
   with_bare : (o : Option Handed) (hs : List Handed) → map (λ h. h.response) (with_event o hs) ≡ with_event (bare_event o) (map (λ h. h.response) hs)
   unfolding with_event
-  with_bare none hs = refl
-  with_bare (some h) hs = refl
+  with_bare None hs = refl
+  with_bare (Some h) hs = refl
 
   read_bare : (s : State Reg Count) (bytes : List ℕ) → bare_reading (read (reader K) s bytes) ≡ read (reader J) s bytes
   unfolding read
@@ -209,7 +209,7 @@ module _ {Memory Reg Count Code : Type 0} (record_of : Reg → (request : List �
   -- LIVENESS, with room in both buffers each time: what is asked of `refusal` is asked at the rules without records
   pub delivered_with_journal : Lawful layout → (streamMost chunk_most : ℕ) (lent : ℕ → Lent)
       → ((seen chunk : List ℕ) (k : ℕ) → length seen ≤ streamMost → length chunk ≤ chunk_most
-      → refusal (store (rules J registry seen).state) (record { chunk = chunk; lent = lent k }) ≡ none)
+      → refusal (store (rules J registry seen).state) (record { chunk = chunk; lent = lent k }) ≡ None)
       → (most : ℕ) (chunks : List (List ℕ)) → enough chunks ≤ most → within chunk_most chunks ≡ true → length (flatten chunks) ≤ streamMost
       → (let calls : List (Call Lent) = hand_over (reader (recording record_of J)) layout refusal most lent (store (fresh J registry)) chunks in TakenWhole chunks calls (run calls))
   unfolding fresh

@@ -1,7 +1,7 @@
 -- What holds of every verdict's response holds of every response that a byte or a call brings.
+use Rattle.std.proofs.Common.{Option, Some, None}
 use mathlib.Core.Path.{◌≡◌, refl, subst}
 use Prim.Native.Nat.{ℕ, ◌<◌}
-use mathlib.Core.Option.{Option, none, some}
 use mathlib.Core.List.{List, [], ◌∷◌, ◌++◌}
 use lib.ListN.{length}
 use lib.Dec.{leb}
@@ -15,8 +15,8 @@ use Rattle.stream.proofs.CallLaws.{call_responds, call_goes_on}
 
 -- the response, if there is one, has the property
 abbrev pub IfSome : {Out : Type 0} (P : Out → Type 0) → Option Out → Type 0
-IfSome P none = Unit {0}
-IfSome P (some r) = P r
+IfSome P None = Unit {0}
+IfSome P (Some r) = P r
 
 module _ {Reg Count Out : Type 0} (J : Judgement Reg Count Out) (Good : Reg → Type 0) (P : Out → Type 0) where
   -- a response with the property, and a good registry after it
@@ -70,7 +70,7 @@ module _ {Reg Count Out : Type 0} (J : Judgement Reg Count Out) (Good : Reg → 
           go (skipping header to_go) e = rw (e, byte_rule) (skip_fine header to_go)
           go closed e = rw (e, byte_rule) (record { response = tt; good = g })
 
-    pub every_event : (s : State Reg Count) → Good s.registry → (b : ℕ) (r : Out) → (byte_rule J s b).event ≡ some r → P r
+    pub every_event : (s : State Reg Count) → Good s.registry → (b : ℕ) (r : Out) → (byte_rule J s b).event ≡ Some r → P r
     every_event s g b r e = subst (IfSome P) e (byte_fine s g b).response
 
     pub call_every : (s : State Reg Count) → Good s.registry → (chunk : List ℕ) → IfSome P (call_rule (reader J) s chunk).event
@@ -83,8 +83,8 @@ module _ {Reg Count Out : Type 0} (J : Judgement Reg Count Out) (Good : Reg → 
 
         go : ((t : State Reg Count) → Good t.registry → IfSome P (call_rule (reader J) t chunk).event)
             → (o : Option Out) → (byte_rule J s b).event ≡ o → IfSome P (call_rule (reader J) s (b ∷ chunk)).event
-        go ih (some r) e = rw (call_responds J s b chunk r e) (subst (IfSome P) e fine.response)
-        go ih none e = rw (call_goes_on J s b chunk e) (ih (byte_rule J s b).kept fine.good)
+        go ih (Some r) e = rw (call_responds J s b chunk r e) (subst (IfSome P) e fine.response)
+        go ih None e = rw (call_goes_on J s b chunk e) (ih (byte_rule J s b).kept fine.good)
 
 -- ---- no response is empty
 

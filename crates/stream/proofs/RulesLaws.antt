@@ -1,8 +1,8 @@
 -- One byte more on the stream: the rules give what the byte rule gives after them.
+use Rattle.std.proofs.Common.{Option, Some, None}
 use mathlib.Core.Path.{◌≡◌, refl, sym, ap, ap₂, ◌∙◌}
 use Prim.Native.Nat.{ℕ, zero, suc, ◌-◌, ◌≤◌, ◌<◌}
 use mathlib.Core.Bool.{Bool, true, false}
-use mathlib.Core.Option.{Option, none, some}
 use mathlib.Core.List.{List, [], ◌∷◌, ◌++◌}
 use native.Mathlib.Omega.{arith}
 use native.Mathlib.Nat.{le_refl}
@@ -18,8 +18,8 @@ use Rattle.stream.proofs.FrameLaws.{Unfinished, Skipped, Shape, is_unfinished, i
 
 -- responses, and one more if there is one
 unfoldable pub with_response : {Out : Type 0} → List Out → Option Out → List Out
-with_response rs none = rs
-with_response rs (some r) = rs ++ (r ∷ [])
+with_response rs None = rs
+with_response rs (Some r) = rs ++ (r ∷ [])
 
 module _ {Reg Count Out : Type 0} (J : Judgement Reg Count Out) where
   -- ---- the equations of `rules_from`

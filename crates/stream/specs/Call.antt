@@ -1,6 +1,5 @@
 -- The rules byte by byte, as a reader of the stream: what calls on it do and say is crate `reading`'s.
-use Rattle.std.specs.Prelude.{ℕ, suc, ◌+◌, ◌-◌, Bool, true, false, ◌&&◌, List, [], ◌∷◌, ◌++◌, length, leb, eqb}
-use Rattle.std.proofs.Math.Option.{none, some}
+use Rattle.std.specs.Prelude.{ℕ, suc, ◌+◌, ◌-◌, Bool, true, false, ◌&&◌, List, [], ◌∷◌, ◌++◌, length, leb, eqb, Some, None}
 use Rattle.wire.specs.Choice.{when◌then◌else◌}
 use Rattle.wire.specs.Request.{content_length, auth_length, header_length, request_length}
 use Rattle.stream.specs.Frame.{legal_start, oversized, unfinished, bad_start, skipped, whole, next}
@@ -34,21 +33,21 @@ module _ {Reg Count Out : Type 0} (J : Judgement Reg Count Out) where
   keep s connection =
       let t = s.totals in
       let totals : Totals Count = record { taken = suc t.taken; answered = t.answered; dropped = t.dropped; counts = t.counts } in
-      record { kept = record { connection = connection; registry = s.registry; totals = totals }; event = none }
+      record { kept = record { connection = connection; registry = s.registry; totals = totals }; event = None }
 
   -- the byte is taken and is the last of a request of n bytes
   unfoldable pub respond : State Reg Count → (n : ℕ) → Verdict Reg Count Out → Connection → Step (State Reg Count) Out
   respond s n v connection =
       let t = s.totals in
       let totals : Totals Count = record { taken = suc t.taken; answered = t.answered + n; dropped = t.dropped; counts = v.counts } in
-      record { kept = record { connection = connection; registry = v.registry; totals = totals }; event = some v.response }
+      record { kept = record { connection = connection; registry = v.registry; totals = totals }; event = Some v.response }
 
   -- the byte is taken and dropped
   unfoldable pub drop_byte : State Reg Count → Step (State Reg Count) Out
   drop_byte s =
       let t = s.totals in
       let totals : Totals Count = record { taken = suc t.taken; answered = t.answered; dropped = suc t.dropped; counts = t.counts } in
-      record { kept = record { connection = closed; registry = s.registry; totals = totals }; event = none }
+      record { kept = record { connection = closed; registry = s.registry; totals = totals }; event = None }
 
   -- an open connection that now has these bytes of a request
   unfoldable pub open_rule : State Reg Count → (bytes : List ℕ) → Step (State Reg Count) Out

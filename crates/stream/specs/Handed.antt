@@ -1,6 +1,5 @@
 -- A judgement that hands out a record for the journal beside the response, and the two buffers that a call writes them to.
-use Rattle.std.specs.Prelude.{ℕ, List, []}
-use Rattle.std.proofs.Math.Option.{Option, none, some}
+use Rattle.std.specs.Prelude.{ℕ, List, [], Option, Some, None}
 use Rattle.reading.specs.Calls.{Answer, joined_out}
 use Rattle.reading.specs.Buffer.{Written, written, bytes_of, as_one}
 use Rattle.stream.specs.Rules.{Verdict, Judgement}
@@ -38,8 +37,8 @@ pub record Given : Type 0 where
   pub journal : Written
 
 unfoldable pub give : Option Handed → Lent → Given
-give none lent = record { response = written [] lent.response; journal = written [] lent.journal }
-give (some h) lent = record { response = written h.response lent.response; journal = written h.recorded lent.journal }
+give None lent = record { response = written [] lent.response; journal = written [] lent.journal }
+give (Some h) lent = record { response = written h.response lent.response; journal = written h.recorded lent.journal }
 
 -- the joined responses, they one by one, and the joined records
 module _ {Code : Type 0} where

@@ -13,6 +13,7 @@ pub const HEADER_MOST: u16 = 64;
 pub const AUTH_MOST: u16 = 256;
 
 // What bytes begin with; a skipped request has its header's length and how many bytes are missing.
+// Kept: four things that the rules tell apart, none of them an error of the reader.
 #[derive(Clone, Copy)]
 pub enum Frame {
     Unfinished,
@@ -22,29 +23,22 @@ pub enum Frame {
 }
 
 // Whether magic and H of six bytes or more are good.
+#[tactic(auto, unfolding(crate::specs::Frame::legal_start))]
 pub fn is_legal_start(bytes: &[u8]) -> bool
     requires { 6 ≤ length bytes.now }
     ensures { result ≡ legal_start bytes.now }
 {
-    if read_u32(bytes, 0) != MAGIC {
-        return false;
-    }
     let size = read_u16(bytes, 4);
-    if size < HEADER_LEAST {
-        return false;
-    }
-    size <= HEADER_MOST
+    read_u32(bytes, 0) == MAGIC && (HEADER_LEAST..=HEADER_MOST).contains(&size)
 }
 
 // Whether C or A of a whole header is too large.
+#[tactic(auto, unfolding(crate::specs::Frame::oversized))]
 pub fn is_oversized(bytes: &[u8]) -> bool
     requires { request_least ≤ length bytes.now }
     ensures { result ≡ oversized bytes.now }
 {
-    if CONTENT_MOST < read_u32(bytes, 20) {
-        return true;
-    }
-    AUTH_MOST < read_u16(bytes, 24)
+    CONTENT_MOST < read_u32(bytes, 20) || AUTH_MOST < read_u16(bytes, 24)
 }
 
 // How long the request of a whole header is.
@@ -52,9 +46,9 @@ pub fn request_length(bytes: &[u8]) -> u64
     requires { request_least ≤ length bytes.now }
     ensures { (result ≡ request_length bytes.now) × (result < 2 ^ 40) }
 {
-    let size = read_u16(bytes, 4) as u64;
-    let content = read_u32(bytes, 20) as u64;
-    let auth = read_u16(bytes, 24) as u64;
+    let size = u64::from(read_u16(bytes, 4));
+    let content = u64::from(read_u32(bytes, 20));
+    let auth = u64::from(read_u16(bytes, 24));
     6 + size + (content + auth)
 }
 

@@ -1,8 +1,8 @@
 -- What one request does to the counts of an application: a use adds one to one of them, and any other that destroys no key leaves
 -- them as they are.
+use Rattle.std.proofs.Common.{Option, Some, None, is_some, option_and_then}
 use mathlib.Core.Path.{◌≡◌, refl, sym, ap, ap₂, ◌∙◌, subst}
 use mathlib.Core.Bool.{Bool, true, false, true≢false, not, ◌&&◌}
-use mathlib.Core.Option.{Option, none, some, bind}
 use mathlib.Core.List.{List, [], ◌∷◌, map}
 use Prim.Native.Nat.{ℕ, ◌<◌}
 use native.Mathlib.Omega.{arith}
@@ -10,7 +10,7 @@ use borrow.Author.Tests.{eq-eqb, eqb-true}
 use lib.ListN.{length, get_or, set, length-map}
 use lib.Seq.{set-get_or}
 use lib.Dec.{ltb, eqb}
-use Rattle.wire.specs.Choice.{first_of, is_some}
+use Rattle.wire.specs.Choice.{first_of}
 use Rattle.wire.specs.Lists.{same}
 use Rattle.wire.specs.Request.{Request, request_of}
 use Rattle.wire.proofs.TestLaws.{some≢none, not_across, every_at, first_has, either}
@@ -25,8 +25,6 @@ use Rattle.registry.specs.Registry.{line_count, slots_of, uses_of, slot_named, C
 use Rattle.registry.specs.WellFormed.{well_formed_registry}
 use Rattle.registry.specs.declared.Line.{Line}
 use Rattle.registry.specs.declared.Slot.{Slot}
-use Rattle.registry.specs.declared.Found.{Found}
-use Rattle.registry.specs.declared.Found.TheVariants.{At, Nothing}
 use Rattle.registry.proofs.SlotLaws.{Legal}
 use Rattle.registry.proofs.RegistryLaws.{found_below, found_name, found_none, slot_below}
 use Rattle.registry.proofs.UseLaws.{length_uses, filled_uses, added_uses, free_unused}
@@ -52,7 +50,7 @@ use Rattle.uses.specs.Uses.{asked, key_used, key_destroyed, is_for, is_served, i
 -- ---- whose key a name stands for
 
 module _ (name : List ℕ) (slots : List Entry) where
-  found_own : (slot : Slot) → slot_named name slots ≡ At slot → is_own slots (some name) ≡ true
+  found_own : (slot : Slot) → slot_named name slots ≡ Some slot → is_own slots (Some name) ≡ true
   unfolding is_own
   found_own slot e = ap not (go (is_new name (map name_of slots)) refl)
     where
@@ -65,28 +63,28 @@ module _ (name : List ℕ) (slots : List Entry) where
           let below : slot.0 < length (map name_of slots) = rw (length-map slots name_of) (found_below name slots slot e) in
           absurd (true≢false (sym (all_at (λ y. not (same name y)) [] (map name_of slots) slot.0 below q) ∙ ap not there))
 
-  listed_other : (keys : List ListedKey) (key : Key) → key_named name slots keys ≡ some (listed key) → is_own slots (some name) ≡ false
+  listed_other : (keys : List ListedKey) (key : Key) → key_named name slots keys ≡ Some (listed key) → is_own slots (Some name) ≡ false
   unfolding is_own own_in
   listed_other keys key e = go (slot_named name slots) refl
     where
-      not_listed : (slot : Slot) (entry : Entry) → own_in slot entry ≡ some (listed key) → ⊥
+      not_listed : (slot : Slot) (entry : Entry) → own_in slot entry ≡ Some (listed key) → ⊥
       not_listed slot free w = some≢none (listed key) (sym w)
       not_listed slot (held k) w = true≢false cc
 
-      go : (f : Found) → slot_named name slots ≡ f → not (is_new name (map name_of slots)) ≡ false
-      go (At slot) q = absurd (not_listed slot (get_or slots slot.0 free) (sym (own_named name slots keys slot q) ∙ e))
-      go Nothing q = ap not (found_none name slots q)
+      go : (f : Option Slot) → slot_named name slots ≡ f → not (is_new name (map name_of slots)) ≡ false
+      go (Some slot) q = absurd (not_listed slot (get_or slots slot.0 free) (sym (own_named name slots keys slot q) ∙ e))
+      go None q = ap not (found_none name slots q)
 
 -- ---- how an operation ends
 
 data Ended (slots : List Entry) (operation : Option Operation) (x : Result) : Type 0 where
   refuses : eqb (status_number x.status) 0 ≡ false → Ended slots operation x
-  destroys : is_some (bind operation key_destroyed) ≡ true → Ended slots operation x
-  rests : x.change ≡ unchanged → is_own slots (bind operation key_used) ≡ false → Ended slots operation x
-  imports : (slot : Slot) (key : Key) → x.change ≡ fill slot key → Legal key → slot_named [] slots ≡ At slot
-      → is_own slots (bind operation key_used) ≡ false → Ended slots operation x
-  uses : (slot : Slot) (name : List ℕ) → x.change ≡ add_use slot → slot_named name slots ≡ At slot
-      → is_own slots (bind operation key_used) ≡ true → Ended slots operation x
+  destroys : is_some (option_and_then key_destroyed operation) ≡ true → Ended slots operation x
+  rests : x.change ≡ unchanged → is_own slots (option_and_then key_used operation) ≡ false → Ended slots operation x
+  imports : (slot : Slot) (key : Key) → x.change ≡ fill slot key → Legal key → slot_named [] slots ≡ Some slot
+      → is_own slots (option_and_then key_used operation) ≡ false → Ended slots operation x
+  uses : (slot : Slot) (name : List ℕ) → x.change ≡ add_use slot → slot_named name slots ≡ Some slot
+      → is_own slots (option_and_then key_used operation) ≡ true → Ended slots operation x
 
 Still : Result → Type 0
 Still x = x.change ≡ unchanged
@@ -109,53 +107,53 @@ verify_still hash signature key =
     by_outcome InvalidSignature = refl
 
 module _ (slots : List Entry) (keys : List ListedKey) where
-  by_source : (operation : Operation) (name : List ℕ) → key_used operation ≡ some name → (source : Source) → key_named name slots keys ≡ some source
-      → (x : Result) → Still x → Ended slots (some operation) (counted source x)
-  unfolding counted bind Still
+  by_source : (operation : Operation) (name : List ℕ) → key_used operation ≡ Some name → (source : Source) → key_named name slots keys ≡ Some source
+      → (x : Result) → Still x → Ended slots (Some operation) (counted source x)
+  unfolding counted Still
   by_source operation name k (own slot key) e x still =
       let there = own_there name slots keys slot key e in
-      either (Ended slots (some operation)) (eqb (status_number x.status) 0)
+      either (Ended slots (Some operation)) (eqb (status_number x.status) 0)
       (λ s. uses slot name refl there (ap (is_own slots) k ∙ found_own name slots slot there))
       (λ s. refuses s)
   by_source operation name k (listed key) e x still = rests still (ap (is_own slots) k ∙ listed_other name slots keys key e)
 
-  by_import : (key : Key) → Ended slots (some (import_key key)) (perform_import key slots keys)
-  unfolding perform_import success refuse bind key_used is_own
-  by_import key = import_ends import_bits slots keys key (Ended slots (some (import_key key))) (λ status z _. refuses z)
+  by_import : (key : Key) → Ended slots (Some (import_key key)) (perform_import key slots keys)
+  unfolding perform_import success refuse key_used is_own
+  by_import key = import_ends import_bits slots keys key (Ended slots (Some (import_key key))) (λ status z _. refuses z)
       (λ slot t n e. imports slot key refl (taken_legal key t) e refl)
 
-  by_export : (name : List ℕ) → Ended slots (some (export_public_key name)) (perform_export name slots keys)
+  by_export : (name : List ℕ) → Ended slots (Some (export_public_key name)) (perform_export name slots keys)
   unfolding perform_export status_number refuse key_used
   by_export name = go (legal_name key_name_most name) refl
     where
       second : legal_name key_name_most name ≡ true → (o : Option Source) → key_named name slots keys ≡ o
-          → Ended slots (some (export_public_key name)) (perform_export name slots keys)
-      second v none e = rw (v, e, perform_export) (refuses refl)
-      second v (some source) e = rw (v, e, perform_export) (by_source (export_public_key name) name refl source e _ (export_still (key_of source)))
+          → Ended slots (Some (export_public_key name)) (perform_export name slots keys)
+      second v None e = rw (v, e, perform_export) (refuses refl)
+      second v (Some source) e = rw (v, e, perform_export) (by_source (export_public_key name) name refl source e _ (export_still (key_of source)))
 
-      go : (t : Bool) → legal_name key_name_most name ≡ t → Ended slots (some (export_public_key name)) (perform_export name slots keys)
+      go : (t : Bool) → legal_name key_name_most name ≡ t → Ended slots (Some (export_public_key name)) (perform_export name slots keys)
       go false e = rw (e, perform_export) (refuses refl)
       go true e = second e (key_named name slots keys) refl
 
-  by_verify : (name hash signature : List ℕ) → Ended slots (some (verify_signature name hash signature)) (perform_verify name hash signature slots keys)
+  by_verify : (name hash signature : List ℕ) → Ended slots (Some (verify_signature name hash signature)) (perform_verify name hash signature slots keys)
   unfolding perform_verify status_number refuse key_used
   by_verify name hash signature = go (legal_name key_name_most name) refl
     where
       second : legal_name key_name_most name ≡ true → (o : Option Source) → key_named name slots keys ≡ o
-          → Ended slots (some (verify_signature name hash signature)) (perform_verify name hash signature slots keys)
-      second v none e = rw (v, e, perform_verify) (refuses refl)
-      second v (some source) e =
+          → Ended slots (Some (verify_signature name hash signature)) (perform_verify name hash signature slots keys)
+      second v None e = rw (v, e, perform_verify) (refuses refl)
+      second v (Some source) e =
           rw (v, e, perform_verify) (by_source (verify_signature name hash signature) name refl source e _ (verify_still hash signature (key_of source)))
 
-      go : (t : Bool) → legal_name key_name_most name ≡ t → Ended slots (some (verify_signature name hash signature)) (perform_verify name hash signature slots keys)
+      go : (t : Bool) → legal_name key_name_most name ≡ t → Ended slots (Some (verify_signature name hash signature)) (perform_verify name hash signature slots keys)
       go false e = rw (e, perform_verify) (refuses refl)
       go true e = second e (key_named name slots keys) refl
 
-  by_operation : (operation : Operation) → Ended slots (some operation) (perform operation slots keys)
-  unfolding perform perform_list_opcodes status_number success refuse bind key_used key_destroyed is_own is_some
+  by_operation : (operation : Operation) → Ended slots (Some operation) (perform operation slots keys)
+  unfolding perform perform_list_opcodes status_number success refuse key_used key_destroyed is_own
   by_operation ping = rests refl refl
   by_operation list_providers = rests refl refl
-  by_operation (list_opcodes provider) = either (Ended slots (some (list_opcodes provider))) (ltb 1 provider) (λ _. refuses refl) (λ _. rests refl refl)
+  by_operation (list_opcodes provider) = either (Ended slots (Some (list_opcodes provider))) (ltb 1 provider) (λ _. refuses refl) (λ _. rests refl refl)
   by_operation (import_key key) = by_import key
   by_operation (destroy_key name) = destroys refl
   by_operation (export_public_key name) = by_export name
@@ -177,8 +175,8 @@ ended list r request = go (first_of (refusals r q)) refl
     q = request_of request
 
     go : (o : Option Status) → first_of (refusals r q) ≡ o → Ended (askers_slots r (application_of r q)) (asked request) (result_of list r q)
-    go (some status) e = rw (e, result_of) (refuses (first_has Refusing (refusals r q) (all_refusing r q) status e))
-    go none e = rw (e, result_of) (by_body (askers_slots r (application_of r q)) (keys_in list) (format_of (format_for q.content_type)) q.opcode q.body)
+    go (Some status) e = rw (e, result_of) (refuses (first_has Refusing (refusals r q) (all_refusing r q) status e))
+    go None e = rw (e, result_of) (by_body (askers_slots r (application_of r q)) (keys_in list) (format_of (format_for q.content_type)) q.opcode q.body)
 
 -- ---- what it does to the counts
 
@@ -213,13 +211,13 @@ module _ (list r : List ℕ) (w : well_formed_registry r ≡ true) (line : Line)
     unfolding tests is_served
     test k = every_at tests k served
 
-    application : application_of r q ≡ some line
+    application : application_of r q ≡ Some line
     unfolding is_for tests
     application = go (application_of r q) (test 2)
       where
-        go : (o : Option Line) → is_for line o ≡ true → o ≡ some line
-        go none e = absurd (true≢false (sym e))
-        go (some l) e = ap some (λ i. record { 0 = eqb-true l.0 line.0 e i })
+        go : (o : Option Line) → is_for line o ≡ true → o ≡ Some line
+        go None e = absurd (true≢false (sym e))
+        go (Some l) e = ap Some (λ i. record { 0 = eqb-true l.0 line.0 e i })
 
     served_after_lem : after ≡ changed r line x.change
     unfolding registry_after tests
@@ -229,7 +227,7 @@ module _ (list r : List ℕ) (w : well_formed_registry r ≡ true) (line : Line)
     unfolding is_use destroys_key askers_slots tests changed
     served_step kept = go (subst (λ (o : Option Line). Ended (askers_slots r o) (asked request) x) application (ended list r request))
       where
-        use_own : (t : Bool) → is_own (slots_of r line) (bind (asked request) key_used) ≡ t → is_use list line r request ≡ t
+        use_own : (t : Bool) → is_own (slots_of r line) (option_and_then key_used (asked request)) ≡ t → is_use list line r request ≡ t
         use_own t e = ap₂ ◌&&◌ served e
 
         made : (c : Change) → x.change ≡ c → uses_of after line ≡ uses_of (changed r line c) line

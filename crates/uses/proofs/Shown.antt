@@ -1,11 +1,11 @@
 -- A stream, computed: application "a" imports the keys "k" and "m", exports "k" twice and "m" once, and the key "s" that we ship;
 -- a verify with "k", which isn't allowed, is refused, and so is an export of "k" by application "b". Three uses count.
+use Rattle.std.proofs.Common.{is_some, option_and_then}
 use mathlib.Core.Path.{◌≡◌, refl}
 use Prim.Native.Nat.{ℕ, ◌-◌}
-use mathlib.Core.Option.{bind}
 use mathlib.Core.List.{List, [], ◌∷◌, ◌++◌, flat_map, flatten}
 use lib.ListN.{length, replicate}
-use Rattle.wire.specs.Choice.{first_of, is_some}
+use Rattle.wire.specs.Choice.{first_of}
 use Rattle.wire.specs.Lists.{one_of}
 use Rattle.wire.specs.Numbers.{little_endian, little_endian_of, field}
 use Rattle.wire.specs.Scan.{scan_from, scan_at}
@@ -71,7 +71,7 @@ record Shown : Type 0 where
   destroyed : ℕ
 
 showing : Shown
-unfolding first_of is_some one_of little_endian little_endian_of field scan_from scan_at request_of response_header response_bytes varint_of number_at fixed_at span_at content_at field_at group_at with_value item_of step_at varint_within varint number_field bytes_field packed_field flat_map flatten legal_name legal_data legal_bits import_bits opcodes_of listed message_bytes read_message packed_of read_body input_fields asking_of asking operation_of format_for content_type_of output_bytes index_from key_bytes slot_bytes slot_of used used_slot application_named slots_of uses_of slot_named changed line_of registry_of is_whole record_turn read_records pair_step pairs_done list_of keys_in listed_named shipped_key key_of own_in listed_in key_named legal_start oversized next answer finish judge rules_within rules_from start rules and_before held_parts parts_within parts_of verdict_on status_number success refuse within_bounds place_key import_by perform_import counted export_of perform_export verify_with perform_verify perform refuse_at operated no_counts increment index_of count_refused count_served count application_of refusals askers_slots result_of changed_by verdict_of judgement asked key_used key_destroyed is_for is_served is_own is_use destroys_key registry_after count_if bind
+unfolding first_of one_of little_endian little_endian_of field scan_from scan_at request_of response_header response_bytes varint_of number_at fixed_at span_at content_at field_at group_at with_value item_of step_at varint_within varint number_field bytes_field packed_field flat_map flatten legal_name legal_data legal_bits import_bits opcodes_of listed message_bytes read_message packed_of read_body input_fields asking_of asking operation_of format_for content_type_of output_bytes index_from key_bytes slot_bytes slot_of used used_slot application_named slots_of uses_of slot_named changed line_of registry_of is_whole record_turn read_records pair_step pairs_done list_of keys_in listed_named shipped_key key_of own_in listed_in key_named legal_start oversized next answer finish judge rules_within rules_from start rules and_before held_parts parts_within parts_of verdict_on status_number success refuse within_bounds place_key import_by perform_import counted export_of perform_export verify_with perform_verify perform refuse_at operated no_counts increment index_of count_refused count_served count application_of refusals askers_slots result_of changed_by verdict_of judgement asked key_used key_destroyed is_for is_served is_own is_use destroys_key registry_after count_if
 showing =
     let registry = registry_of ((0x61 ∷ []) ∷ (0x62 ∷ []) ∷ []) in
     let line : Line = record { 0 = 0 } in

@@ -1,7 +1,6 @@
 -- Which requests of a stream use an application's own keys (document 02, "Use per key").
-use Rattle.std.specs.Prelude.{ℕ, ◌+◌, Bool, false, not, ◌&&◌, List, [], ◌∷◌, map, eqb}
-use Rattle.std.proofs.Math.Option.{Option, none, some, bind}
-use Rattle.wire.specs.Choice.{when◌then◌else◌, is_some}
+use Rattle.std.specs.Prelude.{ℕ, ◌+◌, Bool, false, not, ◌&&◌, List, [], ◌∷◌, map, eqb, Option, Some, None, is_some, option_and_then}
+use Rattle.wire.specs.Choice.{when◌then◌else◌}
 use Rattle.wire.specs.Lists.{every}
 use Rattle.wire.specs.Request.{request_of}
 use Rattle.messages.specs.Formats.{format_of, format_for}
@@ -25,30 +24,30 @@ asked request =
 
 -- the key that an operation uses
 unfoldable pub key_used : Operation → Option (List ℕ)
-key_used ping = none
-key_used list_providers = none
-key_used (list_opcodes provider) = none
-key_used (import_key key) = none
-key_used (destroy_key name) = none
-key_used (export_public_key name) = some name
-key_used (verify_signature name hash signature) = some name
+key_used ping = None
+key_used list_providers = None
+key_used (list_opcodes provider) = None
+key_used (import_key key) = None
+key_used (destroy_key name) = None
+key_used (export_public_key name) = Some name
+key_used (verify_signature name hash signature) = Some name
 
 -- and the one that it destroys
 unfoldable pub key_destroyed : Operation → Option (List ℕ)
-key_destroyed ping = none
-key_destroyed list_providers = none
-key_destroyed (list_opcodes provider) = none
-key_destroyed (import_key key) = none
-key_destroyed (destroy_key name) = some name
-key_destroyed (export_public_key name) = none
-key_destroyed (verify_signature name hash signature) = none
+key_destroyed ping = None
+key_destroyed list_providers = None
+key_destroyed (list_opcodes provider) = None
+key_destroyed (import_key key) = None
+key_destroyed (destroy_key name) = Some name
+key_destroyed (export_public_key name) = None
+key_destroyed (verify_signature name hash signature) = None
 
 -- ---- what becomes of it, on a registry and under the list of keys that we ship
 
 -- the application that asks, if there is one, is that of this line
 unfoldable pub is_for : Line → Option Line → Bool
-is_for line none = false
-is_for line (some l) = eqb l.0 line.0
+is_for line None = false
+is_for line (Some l) = eqb l.0 line.0
 
 -- of legal start and within bounds, asked by the application of this line, and answered with status 0
 unfoldable pub is_served : (list : List ℕ) → Line → (registry request : List ℕ) → Bool
@@ -62,16 +61,16 @@ is_served list line registry request =
 
 -- one of the application's slots has this name
 unfoldable pub is_own : (slots : List Entry) (name : Option (List ℕ)) → Bool
-is_own slots none = false
-is_own slots (some name) = not (is_new name (map name_of slots))
+is_own slots None = false
+is_own slots (Some name) = not (is_new name (map name_of slots))
 
 -- a served Export or verify of an own key
 unfoldable pub is_use : (list : List ℕ) → Line → (registry request : List ℕ) → Bool
-is_use list line registry request = is_served list line registry request && is_own (slots_of registry line) (bind (asked request) key_used)
+is_use list line registry request = is_served list line registry request && is_own (slots_of registry line) (option_and_then key_used (asked request))
 
 -- a served Destroy
 unfoldable pub destroys_key : (list : List ℕ) → Line → (registry request : List ℕ) → Bool
-destroys_key list line registry request = is_served list line registry request && is_some (bind (asked request) key_destroyed)
+destroys_key list line registry request = is_served list line registry request && is_some (option_and_then key_destroyed (asked request))
 
 -- ---- how many requests pass a test, each on the registry that those before it left
 

@@ -12,14 +12,14 @@ small : (n : ℕ) (fault : RosterFault) → n ≡ fault_number fault → n ≤ 5
 small n fault e = rw e (fault_small fault)
 
 pub overflow_add-result : goal.overflow_add-result
-overflow_add-result c = omega (arith, small _ _ c.fault_number.ensures)
+overflow_add-result c = omega (arith, small _ _ c.from.ensures)
 
-pub returns-in-Good : goal.returns-in-Good
+pub returns-in-Ok : goal.returns-in-Ok
 unfolding loaded_number
-returns-in-Good c =
-    rw (← ap loaded_with c.load_roster.ensures, c.in-Good.is)
+returns-in-Ok c =
+    rw (← ap loaded_with c.load_roster.ensures, c.in-Ok.is)
 
-pub returns-in-Faulty : goal.returns-in-Faulty
+pub returns-in-Err : goal.returns-in-Err
 unfolding loaded_number
-returns-in-Faulty c =
-    rw (← ap loaded_with c.load_roster.ensures, c.in-Faulty.is, c.fault_number.ensures)
+returns-in-Err c =
+    rw (← ap loaded_with c.load_roster.ensures, c.in-Err.is, c.from.ensures)

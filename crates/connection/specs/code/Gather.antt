@@ -21,12 +21,12 @@ pub record Holding (memory : List ℕ) (n : ℕ) : Type 0 where
   pub long : length (held_in n memory) ≡ n
   pub begun : next (held_in n memory) ≡ unfinished
 
--- k bytes of the chunk, from `used` on, stand behind those held: as many as are wanted or left
-pub record Filled (held chunk : List ℕ) (used : ℕ) (memory : List ℕ) (k : ℕ) : Type 0 where
-  pub left : used + k ≤ length chunk
+-- k bytes of the chunk stand behind those held: as many as are wanted or there
+pub record Filled (held chunk memory : List ℕ) (k : ℕ) : Type 0 where
+  pub left : k ≤ length chunk
   pub few : length held + k ≤ wanted_of held
-  pub memory_is : memory ≡ connection_bytes (opened (held ++ take k (drop used chunk)))
-  pub more : used + k < length chunk → length held + k ≡ wanted_of held
+  pub memory_is : memory ≡ connection_bytes (opened (held ++ take k chunk))
+  pub more : k < length chunk → length held + k ≡ wanted_of held
 
 -- the bytes of the chunk that were used stand behind those held: all of it, or up to where something can be said of the request
 pub record Gathers (held chunk memory : List ℕ) (r : Gathered) : Type 0 where

@@ -1,13 +1,11 @@
 -- The fields of a body as up to five values ("Operations and their fields").
-use Rattle.std.specs.Prelude.{ℕ, ◌+◌, ◌≤◌, eqb}
+use Rattle.std.specs.Prelude.{ℕ, ◌+◌, ◌≤◌, eqb, Result, Ok, Err}
 use Rattle.wire.specs.Choice.{when◌then◌else◌}
 use Rattle.fields.specs.declared.Kind.{Kind}
 use Rattle.fields.specs.declared.Kind.TheVariants.{Unlisted}
 use Rattle.fields.specs.declared.Schema.{Schema}
 use Rattle.fields.specs.declared.Value.{Value}
 use Rattle.fields.specs.declared.Values.{Values}
-use Rattle.fields.specs.declared.Body.{Body}
-use Rattle.fields.specs.declared.Body.TheVariants.{Message, Unreadable}
 
 -- what field number n stands for
 abbrev pub kind_of : Schema → (n : ℕ) → Kind
@@ -48,6 +46,6 @@ pub record ValuesIn (n : ℕ) (m : Values) : Type 0 where
   pub in4 : ValueIn n m.f4
   pub in5 : ValueIn n m.f5
 
-abbrev pub BodyIn : (n : ℕ) → Body → Type 0
-BodyIn n (Message m) = ValuesIn n m
-BodyIn n (Unreadable at) = at ≤ n
+abbrev pub BodyIn : (n : ℕ) → Result Values ℕ → Type 0
+BodyIn n (Ok m) = ValuesIn n m
+BodyIn n (Err at) = at ≤ n

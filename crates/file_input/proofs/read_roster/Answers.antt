@@ -9,4 +9,4 @@ returns-in_default c = roster_missing _ (ap argument_file c.in_default.is)
 
 pub returns : goal.returns
 unfolding argument_file
-returns c = roster_open (ap argument_file c.in-Open.is) _ _ c.requires _ _ c.load_front.ensures
+returns c = roster_open (ap argument_file c.in-Some.is) _ _ c.requires _ _ c.load_front.ensures

@@ -1,6 +1,5 @@
 -- What the code writes of a record before the name, and which record a change has. No part of the reading copy.
-use Rattle.std.specs.Prelude.{ℕ, ◌+◌, Bool, List, [], ◌∷◌, ◌++◌, get_or}
-use Rattle.std.proofs.Math.Option.{Option, none, some}
+use Rattle.std.specs.Prelude.{ℕ, ◌+◌, Bool, List, [], ◌∷◌, ◌++◌, get_or, Option, Some, None}
 use Rattle.wire.specs.Numbers.{little_endian_of}
 use Rattle.registry.specs.Slots.{Entry, free, name_of, flag}
 use Rattle.registry.specs.Registry.{Change, unchanged, fill, clear, add_use}
@@ -16,11 +15,11 @@ destroy_head line n = 3 ∷ (little_endian_of 2 (1 + n) ++ (line.0 ∷ []))
 
 -- the import or destroy that a change tells; of a slot that is cleared, the name that it had
 unfoldable pub act_of_change : (slots : List Entry) → Line → Change → Option Act
-act_of_change slots line unchanged = none
-act_of_change slots line (fill slot key) = some (importing line key)
-act_of_change slots line (clear slot) = some (destroying line (name_of (get_or slots slot.0 free)))
-act_of_change slots line (add_use slot) = none
+act_of_change slots line unchanged = None
+act_of_change slots line (fill slot key) = Some (importing line key)
+act_of_change slots line (clear slot) = Some (destroying line (name_of (get_or slots slot.0 free)))
+act_of_change slots line (add_use slot) = None
 
 unfoldable pub act_of_asker : (slots : List Entry) → Option Line → Change → Option Act
-act_of_asker slots none change = none
-act_of_asker slots (some line) change = act_of_change slots line change
+act_of_asker slots None change = None
+act_of_asker slots (Some line) change = act_of_change slots line change

@@ -1,6 +1,5 @@
 -- What the code decides of a request, in the reading copy's terms.
-use Rattle.std.specs.Prelude.{ℕ, ◌+◌, ◌≤◌, ◌<◌, ◌≡◌, Bool, false, List, [], ◌∷◌, length, get_or, take, ltb, eqb}
-use Rattle.std.proofs.Math.Option.{Option, none, some}
+use Rattle.std.specs.Prelude.{ℕ, ◌+◌, ◌≤◌, ◌<◌, ◌≡◌, Bool, false, List, [], ◌∷◌, length, get_or, take, ltb, eqb, Option, Some, None, Result as Tested, Ok, Err}
 use Rattle.wire.specs.Choice.{when◌then◌else◌}
 use Rattle.wire.specs.Request.{Request}
 use Rattle.wire.specs.declared.header.Header.{Header}
@@ -24,13 +23,7 @@ use Rattle.judgement.specs.Status.{status_number}
 use Rattle.judgement.specs.Operations.{Result}
 use Rattle.judgement.specs.Judgement.{refusals}
 use Rattle.judgement.specs.declared.Status.{Status}
-use Rattle.judgement.specs.declared.Status.TheVariants.{DeserializingBodyFailed}
-use Rattle.judgement.specs.declared.Checked.{Checked}
-use Rattle.judgement.specs.declared.Checked.TheVariants.{Passed, Refused}
-use Rattle.judgement.specs.declared.Asker.{Asker}
-use Rattle.judgement.specs.declared.Asker.TheVariants.{Nobody, Named}
-use Rattle.judgement.specs.declared.Auth.{Auth}
-use Rattle.judgement.specs.declared.Auth.TheVariants.{Refused as AuthRefused, Accepted}
+use Rattle.judgement.specs.declared.Status.TheVariants.{DeserializingBodyFailed, AuthenticationError}
 use Rattle.judgement.specs.declared.Output.{Output}
 use Rattle.judgement.specs.declared.Output.TheVariants.{Nothing, Version, Providers, Opcodes, Data, Offset}
 use Rattle.judgement.specs.declared.Edit.{Edit}
@@ -61,27 +54,23 @@ header_test_count = 7
 unfoldable pub header_tests : Header → List (Bool × Status)
 header_tests h = take header_test_count (refusals [] (bare_request h))
 
-unfoldable pub checked_of : Option Status → Checked
-checked_of none = Passed
-checked_of (some status) = Refused status
+unfoldable pub checked_of : Option Status → Tested (Unit {0}) Status
+checked_of None = Ok tt
+checked_of (Some status) = Err status
 
-unfoldable pub named_or : Option Line → Auth
-named_or none = AuthRefused
-named_or (some line) = Accepted (Named line)
+unfoldable pub named_or : Option Line → Tested (Option Line) Status
+named_or None = Err AuthenticationError
+named_or (Some line) = Ok (Some line)
 
 -- by the application that the auth bytes name
-unfoldable pub auth_of : (auth_type : ℕ) (auth : List ℕ) → Option Line → Auth
+unfoldable pub auth_of : (auth_type : ℕ) (auth : List ℕ) → Option Line → Tested (Option Line) Status
 auth_of auth_type auth named =
-    when eqb auth_type 0 then (when ltb 0 (length auth) then AuthRefused else Accepted Nobody) else named_or named
-
-unfoldable pub askers_line : Asker → Option Line
-askers_line Nobody = none
-askers_line (Named line) = some line
+    when eqb auth_type 0 then (when ltb 0 (length auth) then Err AuthenticationError else Ok None) else named_or named
 
 -- a line that there is
-abbrev pub AskerBelow : Asker → Type 0
-AskerBelow Nobody = Unit {0}
-AskerBelow (Named line) = line.0 < line_count
+abbrev pub AskerBelow : Option Line → Type 0
+AskerBelow None = Unit {0}
+AskerBelow (Some line) = line.0 < line_count
 
 -- ---- what an operation comes to
 

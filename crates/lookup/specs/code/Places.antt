@@ -1,14 +1,12 @@
 -- A key by the place where it lies, in the reading copy's terms.
-use Rattle.std.specs.Prelude.{ℕ, ◌+◌, ◌≤◌, ◌<◌, ◌≡◌, false, List, [], length, get_or}
-use Rattle.std.proofs.Math.Option.{Option, none, some}
+use Rattle.std.specs.Prelude.{ℕ, ◌+◌, ◌≤◌, ◌<◌, ◌≡◌, false, List, [], length, get_or, Option, Some, None}
 use Rattle.keys.specs.Key.{Key}
 use Rattle.registry.specs.Slots.{Entry, free, held}
 use Rattle.registry.specs.Registry.{slot_count, slots_of, slot_named}
 use Rattle.registry.specs.declared.Line.{Line}
-use Rattle.registry.specs.declared.Found.TheVariants.{At}
 use Rattle.shipped.specs.Shipped.{keys_in}
 use Rattle.shipped.specs.code.Pairs.{part_at}
-use Rattle.shipped.specs.declared.Span.{Span}
+use Rattle.wire.specs.declared.span.Span.{Span}
 use Rattle.lookup.specs.Lookup.{shipped_key, Source, listed, own_in, key_named}
 use Rattle.lookup.specs.declared.Place.{Place}
 use Rattle.lookup.specs.declared.Place.TheVariants.{Own, Listed, Nothing}
@@ -36,12 +34,12 @@ key_at registry list line Nothing = key_held free
 -- who holds the key with this name that lies at a place
 unfoldable pub source_at : (registry list : List ℕ) → Line → (name : List ℕ) → Place → Option Source
 source_at registry list line name (Own slot) = own_in slot (get_or (slots_of registry line) slot.0 free)
-source_at registry list line name (Listed span) = some (listed (listed_at name list span))
-source_at registry list line name Nothing = none
+source_at registry list line name (Listed span) = Some (listed (listed_at name list span))
+source_at registry list line name Nothing = None
 
 -- a slot was found by the name, so that it is free only for the empty one
 unfoldable pub SlotNamed : (registry : List ℕ) → Line → (name : List ℕ) → Place → Type 0
-SlotNamed registry line name (Own slot) = slot_named name (slots_of registry line) ≡ At slot
+SlotNamed registry line name (Own slot) = slot_named name (slots_of registry line) ≡ Some slot
 SlotNamed registry line name (Listed span) = Unit {0}
 SlotNamed registry line name Nothing = Unit {0}
 

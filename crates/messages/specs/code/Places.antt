@@ -1,22 +1,19 @@
 -- A schema and a message as the code has them: up to five kinds, and values by their places in the body.
-use Rattle.std.specs.Prelude.{ℕ, not, List, [], ◌∷◌, take, drop, eqb}
-use Rattle.std.proofs.Math.Option.{Option, none, some}
+use Rattle.std.specs.Prelude.{ℕ, not, List, [], ◌∷◌, take, drop, eqb, Option, Some, None, Result, Ok, Err}
 use Rattle.fields.specs.declared.Kind.{Kind as KindPlaced}
 use Rattle.fields.specs.declared.Kind.TheVariants.{Bytes, Uint32, Boolean, Unlisted}
 use Rattle.fields.specs.declared.Schema.{Schema as SchemaPlaced}
 use Rattle.fields.specs.declared.Value.{Value as Place}
 use Rattle.fields.specs.declared.Values.{Values as Places}
-use Rattle.fields.specs.declared.Body.{Body}
-use Rattle.fields.specs.declared.Body.TheVariants.{Message as Readable, Unreadable}
 use Rattle.messages.specs.Message.{Kind, uint32, bool, bytes, uint32s, Value, number, flag, octets, numbers, Schema, Message, kind_at, absent}
 use Rattle.messages.specs.Format.{Reading, read, broken}
 
 abbrev pub kind_placed : Option Kind → KindPlaced
-kind_placed none = Unlisted
-kind_placed (some uint32) = Uint32
-kind_placed (some bool) = Boolean
-kind_placed (some bytes) = Bytes
-kind_placed (some uint32s) = Unlisted
+kind_placed None = Unlisted
+kind_placed (Some uint32) = Uint32
+kind_placed (Some bool) = Boolean
+kind_placed (Some bytes) = Bytes
+kind_placed (Some uint32s) = Unlisted
 
 abbrev pub schema_placed : Schema → SchemaPlaced
 schema_placed schema = record {
@@ -49,6 +46,6 @@ values_of body (kind ∷ schema) (v ∷ vs) = value_of body kind v ∷ values_of
 abbrev pub five : Places → List Place
 five m = m.f1 ∷ m.f2 ∷ m.f3 ∷ m.f4 ∷ m.f5 ∷ []
 
-abbrev pub seen : (body : List ℕ) → Schema → Body → Reading
-seen body schema (Readable m) = read (values_of body schema (five m))
-seen body schema (Unreadable at) = broken at
+abbrev pub seen : (body : List ℕ) → Schema → Result Places ℕ → Reading
+seen body schema (Ok m) = read (values_of body schema (five m))
+seen body schema (Err at) = broken at

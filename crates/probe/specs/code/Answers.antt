@@ -1,6 +1,6 @@
 -- What the exported functions answer, by the leaves' definitions; where a leaf's `requires` does not hold, `refused` or
 -- false, and nothing is written.
-use Rattle.std.specs.Prelude.{ℕ, ◌≡◌, Bool, true, false, ◌&&◌, List, length, get_or, ltb, leb, eqb}
+use Rattle.std.specs.Prelude.{ℕ, ◌≡◌, Bool, true, false, ◌&&◌, List, length, get_or, ltb, leb, eqb, Option, Some, None, Result, Ok, Err}
 use Rattle.wire.specs.Choice.{when◌then◌else◌}
 use Rattle.wire.specs.Lists.{over}
 use Rattle.keys.specs.Key.{Key, data_most}
@@ -8,16 +8,13 @@ use Rattle.keys.specs.Names.{key_name_most}
 use Rattle.registry.specs.Slots.{Entry, free, flag}
 use Rattle.registry.specs.Registry.{line_count, slot_count, registry_size, application_named, slot_named, slots_of, changed, fill, clear}
 use Rattle.registry.specs.WellFormed.{well_formed_registry}
-use Rattle.registry.specs.code.Check.{application_found, bytes_in, export_in}
-use Rattle.registry.specs.declared.Application.{Application}
-use Rattle.registry.specs.declared.Application.TheVariants.{Named, Unknown}
-use Rattle.registry.specs.declared.Found.{Found}
-use Rattle.registry.specs.declared.Found.TheVariants.{At, Nothing}
+use Rattle.registry.specs.code.Check.{bytes_in, export_in}
 use Rattle.roster.specs.Roster.{fault_number}
-use Rattle.roster.specs.declared.Loaded.{Loaded}
-use Rattle.roster.specs.declared.Loaded.TheVariants.{Good, Faulty}
-use Rattle.connection.specs.declared.change.Opened.{Opened}
-use Rattle.connection.specs.declared.change.Opened.TheVariants.{Fresh, WrongSize}
+use Rattle.connection.specs.declared.change.OpenRefusal.{OpenRefusal}
+use Rattle.connection.specs.declared.change.OpenRefusal.TheVariants.{WrongSize}
+use Rattle.registry.specs.declared.Line.{Line}
+use Rattle.registry.specs.declared.Slot.{Slot}
+use Rattle.roster.specs.declared.RosterFault.{RosterFault}
 
 abbrev pub refused : ℕ
 refused = 18446744073709551615
@@ -38,17 +35,17 @@ pub record ChangedIf (fits : Bool) (s d e : List ℕ) (r : Bool) : Type 0 where
 
 -- ---- searches
 
-abbrev pub line_number : Application → ℕ
-line_number (Named line) = line.0
-line_number Unknown = line_count
+abbrev pub line_number : Option Line → ℕ
+line_number (Some line) = line.0
+line_number None = line_count
 
 abbrev pub line_found : (registry name : List ℕ) → ℕ
 line_found registry name =
-    when eqb (length registry) registry_size then line_number (application_found (application_named registry name)) else refused
+    when eqb (length registry) registry_size then line_number (application_named registry name) else refused
 
-abbrev pub slot_number : Found → ℕ
-slot_number (At slot) = slot.0
-slot_number Nothing = slot_count
+abbrev pub slot_number : Option Slot → ℕ
+slot_number (Some slot) = slot.0
+slot_number None = slot_count
 
 abbrev pub slot_found : (registry : List ℕ) (line : ℕ) (name : List ℕ) → ℕ
 slot_found registry line name =
@@ -89,12 +86,12 @@ exportable registry line slot = when is_readable registry line slot then flag (e
 -- ---- rosters
 
 -- R0 to R5, and 6 for a good file
-abbrev pub loaded_number : Loaded → ℕ
-loaded_number Good = 6
-loaded_number (Faulty fault) = fault_number fault
+abbrev pub loaded_number : Result (Unit {0}) RosterFault → ℕ
+loaded_number (Ok tt) = 6
+loaded_number (Err fault) = fault_number fault
 
 -- ---- connections
 
-abbrev pub is_fresh : Opened → Bool
-is_fresh Fresh = true
-is_fresh WrongSize = false
+abbrev pub is_fresh : Result (Unit {0}) OpenRefusal → Bool
+is_fresh (Ok tt) = true
+is_fresh (Err WrongSize) = false

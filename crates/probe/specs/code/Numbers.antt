@@ -1,19 +1,16 @@
 -- What the exported functions give back, as numbers.
-use Rattle.std.specs.Prelude.{ℕ, ◌+◌, ◌*◌, List, [], ◌∷◌, length, replicate, ltb, eqb}
+use Rattle.std.specs.Prelude.{ℕ, ◌+◌, ◌*◌, List, [], ◌∷◌, length, replicate, ltb, eqb, Option, Some, None, Result, Ok, Err}
 use Rattle.wire.specs.Choice.{when◌then◌else◌}
 use Rattle.wire.specs.Request.{request_least}
 use Rattle.wire.specs.code.Header.{header_of}
 use Rattle.wire.specs.declared.header.Header.{Header}
-use Rattle.protobuf.specs.declared.varint.Varint.{Varint}
-use Rattle.protobuf.specs.declared.varint.Varint.TheVariants.{Read, Unreadable as noVarint}
 use Rattle.fields.specs.declared.Schema.{Schema}
-use Rattle.fields.specs.declared.Body.{Body}
-use Rattle.fields.specs.declared.Body.TheVariants.{Message, Unreadable}
 use Rattle.rsa.specs.declared.verify.Outcome.{Outcome}
 use Rattle.rsa.specs.declared.verify.Outcome.TheVariants.{ValidSignature, InvalidSignature, InvalidKey}
 use Rattle.rsa.specs.declared.verify.Verification.{Verification}
 use Rattle.messages.specs.Operations.{input_fields}
 use Rattle.messages.specs.code.Places.{schema_placed}
+use Rattle.fields.specs.declared.Values.{Values}
 
 abbrev pub field_numbers : Header → List ℕ
 field_numbers h =
@@ -23,20 +20,20 @@ field_numbers h =
 abbrev pub header_numbers : List ℕ → List ℕ
 header_numbers bytes = when ltb (length bytes) request_least then replicate 12 0 else field_numbers (header_of bytes)
 
-abbrev pub varint_numbers : Varint → List ℕ
-varint_numbers (Read v next) = 1 ∷ v ∷ next ∷ []
-varint_numbers noVarint = 0 ∷ 0 ∷ 0 ∷ []
+abbrev pub varint_numbers : Option (ℕ × ℕ) → List ℕ
+varint_numbers (Some (v, next)) = 1 ∷ v ∷ next ∷ []
+varint_numbers None = 0 ∷ 0 ∷ 0 ∷ []
 
 -- the schemas of the operations: no fields, ListOpcodes, Import, Destroy and Export
 abbrev pub schema_of : ℕ → Schema
 schema_of n =
     schema_placed (input_fields (when eqb n 1 then 9 else when eqb n 2 then 6 else when eqb n 3 then 7 else 1))
 
-abbrev pub body_numbers : Body → List ℕ
-body_numbers (Message v) =
+abbrev pub body_numbers : Result Values ℕ → List ℕ
+body_numbers (Ok v) =
     1 ∷ v.f1.start ∷ v.f1.len ∷ v.f1.number ∷ v.f2.start ∷ v.f2.len ∷ v.f2.number ∷ v.f3.start ∷ v.f3.len
     ∷ v.f3.number ∷ v.f4.start ∷ v.f4.len ∷ v.f4.number ∷ v.f5.start ∷ v.f5.len ∷ v.f5.number ∷ []
-body_numbers (Unreadable at) = 0 ∷ at ∷ replicate 14 0
+body_numbers (Err at) = 0 ∷ at ∷ replicate 14 0
 
 abbrev pub outcome_number : Outcome → ℕ
 outcome_number ValidSignature = 0

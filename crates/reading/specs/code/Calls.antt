@@ -1,6 +1,5 @@
 -- The definition's own lists of calls, for proofs. No part of the reading copy.
-use Rattle.std.specs.Prelude.{ℕ, zero, suc, List, [], ◌∷◌, drop}
-use Rattle.std.proofs.Math.Option.{Option}
+use Rattle.std.specs.Prelude.{ℕ, zero, suc, List, [], ◌∷◌, drop, Option}
 use Rattle.reading.specs.Reader.{Reader}
 use Rattle.reading.specs.Calls.{Call, Layout, CallsOutcome, call_on, leaving}
 

@@ -1,7 +1,6 @@
 -- What the code says of a registry, in the reading copy's terms.
-use Rattle.std.specs.Prelude.{ℕ, Bool, false, List, [], ◌∷◌, map, get_or, drop, eqb}
-use Rattle.std.proofs.Math.Option.{Option, none, some}
-use Rattle.wire.specs.Lists.{every, blocks}
+use Rattle.std.specs.Prelude.{ℕ, Bool, false, List, [], ◌∷◌, get_or, eqb}
+use Rattle.wire.specs.Lists.{every}
 use Rattle.keys.specs.Names.{legal_name, application_name_most}
 use Rattle.keys.specs.code.Marks.{mixed, four_words}
 use Rattle.registry.specs.Names.{name_in, index_from}
@@ -9,13 +8,6 @@ use Rattle.keys.specs.Key.{Key}
 use Rattle.registry.specs.Slots.{Entry, free, held}
 use Rattle.registry.specs.Registry.{names_in}
 use Rattle.registry.specs.WellFormed.{slots_well_formed, zeros_behind_name, keys_distinct}
-use Rattle.registry.specs.declared.Line.{Line}
-use Rattle.registry.specs.declared.Application.{Application}
-use Rattle.registry.specs.declared.Application.TheVariants.{Named, Unknown}
-
--- the names of `count` blocks of `size` bytes behind `head` bytes
-unfoldable pub block_names : (head size count : ℕ) → List ℕ → List (List ℕ)
-block_names head size count s = map name_in (blocks count size (drop head s))
 
 -- the mark of a slot's name, by all bytes that there are for one
 unfoldable pub mark_in : (slot : List ℕ) → ℕ
@@ -36,10 +28,6 @@ well_formed_line line = every (line_tests line)
 -- how many lines stand before the first that has no name
 unfoldable pub used_lines : (registry : List ℕ) → ℕ
 used_lines registry = index_from [] (names_in registry) 0
-
-unfoldable pub application_found : Option Line → Application
-application_found none = Unknown
-application_found (some line) = Named line
 
 abbrev pub key_from : (name bytes : List ℕ) (bits : ℕ) (export_allowed verify_allowed : Bool) → Key
 key_from n b k e v = record { name = n; bytes = b; bits = k; export_allowed = e; verify_allowed = v }

@@ -1,6 +1,5 @@
 -- What a taken call leaves in the memory that it was lent, in the reading copy's terms.
-use Rattle.std.specs.Prelude.{ℕ, ◌+◌, ◌-◌, ◌≤◌, ◌<◌, ◌^◌, true, ◌≡◌, List, [], length, take, drop, ltb}
-use Rattle.std.proofs.Math.Option.{Option, none, some}
+use Rattle.std.specs.Prelude.{ℕ, ◌+◌, ◌-◌, ◌≤◌, ◌<◌, ◌^◌, true, ◌≡◌, List, [], length, take, drop, ltb, Option, Some, None}
 use Rattle.wire.specs.Choice.{when◌then◌else◌}
 use Rattle.wire.specs.Request.{request_least, header_length, request_length}
 use Rattle.wire.specs.code.Wrote.{Wrote}
@@ -18,10 +17,8 @@ use Rattle.answer.specs.declared.Answered.{Answered}
 use Rattle.counters.specs.Counters.{totals_of, counters_of}
 use Rattle.counters.specs.code.Counted.{event_of, counted, EventBelow}
 use Rattle.counters.specs.declared.Counters.{Counters}
-use Rattle.counters.specs.declared.Event.TheVariants.{NoRequest}
 use Rattle.counters.specs.declared.Increments.{Increments}
 use Rattle.service.specs.Call.{Memory, state_in, buffer_least, journal_least, chunk_most}
-use Rattle.service.specs.declared.Code.TheVariants.{Taken}
 use Rattle.service.specs.declared.Handled.{Handled}
 
 -- none of C1 to C4, C6 and C7 applies
@@ -35,19 +32,16 @@ pub record Ready (connection registry list chunk buffer journal : List ℕ) : Ty
 
 -- ---- what a call comes to
 
-abbrev pub waited : (n : ℕ) → Handled
-waited n = record { code = Taken; written = 0; recorded = 0; added = record { taken = n; answered = 0; dropped = 0; event = NoRequest } }
+-- no response is written; of so many bytes taken so many came after closing
+abbrev pub unanswered : (taken dropped : ℕ) → Handled
+unanswered taken dropped = record { written = 0; recorded = 0; added = record { taken = taken; answered = 0; dropped = dropped; event = None } }
 
 abbrev pub finished : (n size : ℕ) → Answered → Handled
 finished n size a = record {
-  code = Taken;
   written = a.written;
   recorded = a.recorded;
-  added = record { taken = n; answered = size; dropped = 0; event = event_of a.asker a.status };
+  added = record { taken = n; answered = size; dropped = 0; event = Some (event_of a.asker a.status) };
 }
-
-abbrev pub dropped_all : (n : ℕ) → Handled
-dropped_all n = record { code = Taken; written = 0; recorded = 0; added = record { taken = n; answered = 0; dropped = n; event = NoRequest } }
 
 -- so little that counters of at most 2^62 have room for it
 pub record Modest (by : Increments) : Type 0 where
@@ -59,12 +53,11 @@ pub record Modest (by : Increments) : Type 0 where
 -- the response and the record, if there is one, were written over the front of `before`, which is now `after`, and of `journal`,
 -- which is now `journal'`; n and m say how many bytes
 abbrev pub WroteAny : Option Handed → (before after journal journal' : List ℕ) → (n m : ℕ) → Type 0
-WroteAny none before after journal journal' n m = (n ≡ 0) × (after ≡ before) × (m ≡ 0) × (journal' ≡ journal)
-WroteAny (some h) before after journal journal' n m = Wrote h.response before after n × Wrote h.recorded journal journal' m
+WroteAny None before after journal journal' n m = (n ≡ 0) × (after ≡ before) × (m ≡ 0) × (journal' ≡ journal)
+WroteAny (Some h) before after journal journal' n m = Wrote h.response before after n × Wrote h.recorded journal journal' m
 
 -- the effect was carried out, but that the counters c have still to be counted up
 pub record Carried (c : Counters) (e : Effect (State (List ℕ) Counts) Handed) (connection registry before after journal journal' : List ℕ) (r : Handled) : Type 0 where
-  pub code_is : r.code ≡ Taken
   pub taken_is : r.added.taken ≡ e.taken
   pub written_is : WroteAny e.event before after journal journal' r.written r.recorded
   pub connection_is : connection ≡ connection_bytes e.kept.connection

@@ -1,16 +1,12 @@
 -- What the system's answers come to when a file is opened and read.
-use Rattle.std.specs.Prelude.{ℕ, zero, suc, min, Bool, true, false, ℤ, pos, negsuc}
-use Rattle.starting.specs.declared.files.File.{File}
-use Rattle.starting.specs.declared.files.File.TheVariants.{Open, Missing}
+use Rattle.std.specs.Prelude.{ℕ, zero, suc, min, Bool, true, false, ℤ, pos, negsuc, Option, Some, None}
 use Rattle.starting.specs.declared.files.Input.{Input}
 use Rattle.starting.specs.declared.files.Input.TheVariants.{Bytes, End, Failed}
-use Rattle.starting.specs.declared.files.Front.{Front}
-use Rattle.starting.specs.declared.files.Front.TheVariants.{Kept, Unreadable}
 
 -- of opening: the file's number, or -1
-unfoldable pub file_of : ℤ → File
-file_of (pos fd) = Open (pos fd)
-file_of (negsuc k) = Missing
+unfoldable pub file_of : ℤ → Option ℤ
+file_of (pos fd) = Some (pos fd)
+file_of (negsuc k) = None
 
 -- of reading: how many bytes, 0 at the end, or -1
 unfoldable pub size_input : ℕ → Input
@@ -28,6 +24,6 @@ is_end (Bytes n) = false
 is_end Failed = false
 
 -- what was kept of a file, by whether it was read to its end
-unfoldable pub front_of : (n : ℕ) (is_whole : Bool) → Front
-front_of n true = Kept n
-front_of n false = Unreadable
+unfoldable pub front_of : (n : ℕ) (is_whole : Bool) → Option ℕ
+front_of n true = Some n
+front_of n false = None

@@ -1,23 +1,16 @@
 -- What becomes of the files, by what was read of them.
-use Rattle.std.specs.Prelude.{ℕ, ◌≡◌, Bool, true, false, List, take}
-use Rattle.std.proofs.Math.Option.{Option, some}
+use Rattle.std.specs.Prelude.{ℕ, ◌≡◌, Bool, true, false, List, take, ℤ, Option, Some, None, Result, Ok, Err}
 use Rattle.connection.specs.Connection.{well_formed_connection}
 use Rattle.registry.specs.Registry.{registry_of}
 use Rattle.registry.specs.WellFormed.{well_formed_registry}
 use Rattle.roster.specs.Roster.{applications, roster_of, RosterOutcome, load_roster}
-use Rattle.roster.specs.declared.Loaded.{Loaded}
-use Rattle.roster.specs.declared.Loaded.TheVariants as loaded
 use Rattle.shipped.specs.Shipped.{well_formed_list}
 use Rattle.counters.specs.Counters.{counter_most}
 use Rattle.service.specs.Call.{Memory}
-use Rattle.starting.specs.Start.{MayGive, roster_start, start_of, is_good}
+use Rattle.starting.specs.Start.{Source, MayGive, roster_start, start_of, is_good}
 use Rattle.starting.specs.code.Stream.{KeptWithin, After}
-use Rattle.starting.specs.declared.files.File.{File}
-use Rattle.starting.specs.declared.files.File.TheVariants.{Open, Missing}
-use Rattle.starting.specs.declared.files.Front.{Front}
-use Rattle.starting.specs.declared.files.Front.TheVariants as front
-use Rattle.starting.specs.declared.start.Source.{Source}
-use Rattle.starting.specs.declared.start.Source.TheVariants.{Good, Faulty, Unreadable}
+use Rattle.starting.specs.declared.start.StartRefusal.TheVariants.{Faulty, Unreadable}
+use Rattle.roster.specs.declared.RosterFault.{RosterFault}
 
 -- ---- what was kept of a roster file, loaded
 
@@ -28,39 +21,39 @@ pub record SourceOutcome : Type 0 where
 abbrev pub source_with : (answer : Source) (registry : List ℕ) → SourceOutcome
 source_with answer registry = record { answer = answer; registry = registry }
 
-unfoldable pub source_for : Loaded → Source
-source_for loaded.Good = Good
-source_for (loaded.Faulty fault) = Faulty fault
+unfoldable pub source_for : Result (Unit {0}) RosterFault → Source
+source_for (Ok tt) = Ok tt
+source_for (Err fault) = Err (Faulty fault)
 
 unfoldable pub source_of : RosterOutcome → SourceOutcome
 source_of o = source_with (source_for o.answer) o.registry
 
-unfoldable pub load_front : (bytes : List ℕ) → Front → (memory : List ℕ) → SourceOutcome
-load_front bytes (front.Kept n) memory = source_of (load_roster (take n bytes) memory)
-load_front bytes front.Unreadable memory = source_with Unreadable memory
+unfoldable pub load_front : (bytes : List ℕ) → Option ℕ → (memory : List ℕ) → SourceOutcome
+load_front bytes (Some n) memory = source_of (load_roster (take n bytes) memory)
+load_front bytes None memory = source_with (Err Unreadable) memory
 
 -- ---- files that were read: which bytes they have no contract can say, so that they are some bytes
 
 -- the registry of a good roster file has its names, and no keys
 unfoldable pub Starts : (roster : Option (List ℕ)) (registry : List ℕ) → Type 0
 Starts roster registry =
-    (file : List ℕ) (names : List (List ℕ)) → roster ≡ some file → roster_of file ≡ applications names → registry ≡ registry_of names
+    (file : List ℕ) (names : List (List ℕ)) → roster ≡ Some file → roster_of file ≡ applications names → registry ≡ registry_of names
 
-pub record RosterRead (file : File) (registry : List ℕ) (source : Source) : Type 0 where
+pub record RosterRead (file : Option ℤ) (registry : List ℕ) (source : Source) : Type 0 where
   pub roster : Option (List ℕ)
   pub given : MayGive file roster
   pub is : source ≡ roster_start roster
   pub registered : Starts roster registry
 
-unfoldable pub ListRead : File → (most : ℕ) → Front → Type 0
-ListRead (Open fd) most read = KeptWithin most read
-ListRead Missing most read = read ≡ front.Unreadable
+unfoldable pub ListRead : Option ℤ → (most : ℕ) → Option ℕ → Type 0
+ListRead (Some fd) most read = KeptWithin most read
+ListRead None most read = read ≡ None
 
 -- roster and list
-pub record StartRead (file : File) (registry list : List ℕ) (source : Source) : Type 0 where
+pub record StartRead (file : Option ℤ) (registry list : List ℕ) (source : Source) : Type 0 where
   pub roster : Option (List ℕ)
   pub given : MayGive file roster
-  pub is : source ≡ start_of roster (some list)
+  pub is : source ≡ start_of roster (Some list)
   pub registered : Starts roster registry
 
 -- a good start, on which a stream can be run
@@ -73,9 +66,9 @@ Ready registry list source = is_good source ≡ true → (well_formed_registry r
 unfoldable pub StreamTaken : Source → (registry list : List ℕ) → Memory → Type 0
 StreamTaken source registry list m = is_good source ≡ true → After list registry counter_most m
 
-unfoldable pub StreamRead : File → Source → (registry list : List ℕ) → (is_whole : Bool) → Memory → Type 0
-StreamRead (Open fd) source registry list is_whole m = StreamTaken source registry list m
-StreamRead Missing source registry list is_whole m = is_whole ≡ false
+unfoldable pub StreamRead : Option ℤ → Source → (registry list : List ℕ) → (is_whole : Bool) → Memory → Type 0
+StreamRead (Some fd) source registry list is_whole m = StreamTaken source registry list m
+StreamRead None source registry list is_whole m = is_whole ≡ false
 
 -- memory that has a bill, where a bill is printed
 unfoldable pub Billable : Source → Memory → Type 0

@@ -1,5 +1,5 @@
 -- What a program keeps while it reads a stream.
-use Rattle.std.specs.Prelude.{ℕ, ◌+◌, ◌/◌, ◌≤◌, ◌≡◌, Bool, true, List, ◌++◌, length}
+use Rattle.std.specs.Prelude.{ℕ, ◌+◌, ◌/◌, ◌≤◌, ◌≡◌, Bool, true, List, ◌++◌, length, Option, Some, None}
 use Rattle.stream.specs.Rules.{rules}
 use Rattle.registry.specs.WellFormed.{well_formed_registry}
 use Rattle.shipped.specs.Shipped.{well_formed_list}
@@ -10,8 +10,6 @@ use Rattle.counters.specs.declared.Counters.{Counters}
 use Rattle.starting.specs.declared.feed.Taken.{Taken}
 use Rattle.starting.specs.declared.files.Input.{Input}
 use Rattle.starting.specs.declared.files.Input.TheVariants.{Bytes, End, Failed}
-use Rattle.starting.specs.declared.files.Front.{Front}
-use Rattle.starting.specs.declared.files.Front.TheVariants.{Kept, Unreadable}
 
 -- what reading into a buffer of so many bytes gives: some of them, or none
 unfoldable pub ReadWithin : (most : ℕ) → Input → Type 0
@@ -20,9 +18,9 @@ ReadWithin most End = Unit {0}
 ReadWithin most Failed = Unit {0}
 
 -- how much of a file was kept
-unfoldable pub KeptWithin : (most : ℕ) → Front → Type 0
-KeptWithin most (Kept n) = n ≤ most
-KeptWithin most Unreadable = Unit {0}
+unfoldable pub KeptWithin : (most : ℕ) → Option ℕ → Type 0
+KeptWithin most (Some n) = n ≤ most
+KeptWithin most None = Unit {0}
 
 -- so many chunks have at most as many bytes as a counter may count
 abbrev pub turns_most : ℕ

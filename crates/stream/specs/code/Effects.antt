@@ -1,6 +1,5 @@
 -- The three kinds of effect that a call has.
-use Rattle.std.specs.Prelude.{ℕ, ◌+◌}
-use Rattle.std.proofs.Math.Option.{none, some}
+use Rattle.std.specs.Prelude.{ℕ, ◌+◌, Some, None}
 use Rattle.reading.specs.Call.{Effect}
 use Rattle.stream.specs.Rules.{Verdict, Connection, closed, State}
 
@@ -9,7 +8,7 @@ module _ {Reg Count Out : Type 0} where
   abbrev pub waiting : State Reg Count → ℕ → Connection → Effect (State Reg Count) Out
   waiting s n connection = record {
     taken = n;
-    event = none;
+    event = None;
     kept = record {
       connection = connection;
       registry = s.registry;
@@ -26,7 +25,7 @@ module _ {Reg Count Out : Type 0} where
   abbrev pub answering : State Reg Count → (n size : ℕ) → Verdict Reg Count Out → Connection → Effect (State Reg Count) Out
   answering s n size v connection = record {
     taken = n;
-    event = some v.response;
+    event = Some v.response;
     kept = record {
       connection = connection;
       registry = v.registry;
@@ -43,7 +42,7 @@ module _ {Reg Count Out : Type 0} where
   abbrev pub dropping : State Reg Count → ℕ → Effect (State Reg Count) Out
   dropping s n = record {
     taken = n;
-    event = none;
+    event = None;
     kept = record {
       connection = closed;
       registry = s.registry;

@@ -23,4 +23,4 @@ pub returns : goal.returns
 returns c =
     let stepped = c in
     let progressed = stepped in
-    numbered _ _ _ _ _ _ _ _ _ _ _ _ progressed.progress_of-progress.ensures stepped.step.ensures c.number_stepped.ensures
+    numbered _ _ _ _ _ _ _ _ _ _ _ _ progressed.progress_of.ensures stepped.step.ensures c.number_stepped.ensures

@@ -1,3 +1,4 @@
+use Rattle.std.proofs.Common.{None}
 use mathlib.Core.Path.{refl}
 use mathlib.Core.List.{[]}
 use native.Mathlib.Omega.{arith}
@@ -7,7 +8,6 @@ use Rattle.messages.proofs.FormatsLaws.{nothing_bytes}
 use Rattle.registry.specs.Registry.{slots_of}
 use Rattle.shipped.specs.Shipped.{keys_in}
 use Rattle.judgement.specs.Operations.{refuse}
-use Rattle.judgement.specs.declared.Asker.TheVariants.{Nobody}
 use Rattle.judgement.proofs.AskerLaws.{core_alone}
 use Rattle.answer.specs.code.Answers.{result_for_nobody}
 use Rattle.answer.proofs.AnswerLaws.{core_opcode, provider_small, decided_answered}
@@ -23,11 +23,8 @@ returns-then-h-eq1 c =
 pub returns : goal.returns
 unfolding result_for_nobody
 returns c =
-    let p = c in
-    let l = p in
-    let s = l in
-    let a = s.args in
-    let core = core_opcode a.h s.requires.0 (omega (arith, provider_small a.h s.requires.0, l.if-h-eq1.false)) in
+    let a = c.args in
+    let core = core_opcode a.h c.requires.0 (omega (arith, provider_small a.h c.requires.0, c.if-h-eq1.false)) in
     let keys = keys_in a.list.now in
-    rw (ne_eqb _ _ l.if-h-eq1.false, core_alone (format_of (format_for a.h.content_type)) a.h.opcode a.body.now [] (slots_of a.registry.now (record { 0 = 0 })) keys keys core)
-    (decided_answered a.h Nobody (rw p.format_for.ensures at p.perform_operation-d.ensures) c.write_response-written.ensures 0, refl)
+    rw (ne_eqb _ _ c.if-h-eq1.false, core_alone (format_of (format_for a.h.content_type)) a.h.opcode a.body.now [] (slots_of a.registry.now (record { 0 = 0 })) keys keys core)
+    (decided_answered a.h None (rw c.format_for-format.ensures at c.perform_operation-status.ensures) c.write_response-written.ensures 0, refl)

@@ -11,17 +11,13 @@ use Rattle.answer.proofs.request.answer_oversized.Goals as goal
 pub returns-then-h-gt-CONTENT_MOST : goal.returns-then-h-gt-CONTENT_MOST
 unfolding header_of status_number content_type_of
 returns-then-h-gt-CONTENT_MOST c =
-    let t = c in
-    let h = t in
-    let header = h.args.header.now in
-    let large : content_most < content_length header = rw h.read_header-h.ensures at t.if-h-gt-CONTENT_MOST.true in
-    answered_oversized header _ (oversized_content header large) (omega arith) (rw h.read_header-h.ensures at c.refuse_as.ensures)
+    let header = c.args.header.now in
+    let large : content_most < content_length header = rw c.read_header-h.ensures at c.if-h-gt-CONTENT_MOST.true in
+    answered_oversized header _ (oversized_content header large) (omega arith) (rw c.read_header-h.ensures at c.refuse_as.ensures)
 
 pub returns : goal.returns
 unfolding header_of status_number content_type_of
 returns c =
-    let t = c in
-    let h = t in
-    let header = h.args.header.now in
-    let small : content_length header ≤ content_most = rw h.read_header-h.ensures at t.if-h-gt-CONTENT_MOST.false in
-    answered_oversized header _ (oversized_auth header small) (omega arith) (rw h.read_header-h.ensures at c.refuse_as-2.ensures)
+    let header = c.args.header.now in
+    let small : content_length header ≤ content_most = rw c.read_header-h.ensures at c.if-h-gt-CONTENT_MOST.false in
+    answered_oversized header _ (oversized_auth header small) (omega arith) (rw c.read_header-h.ensures at c.refuse_as-2.ensures)

@@ -1,6 +1,5 @@
 use Prim.Native.Nat.{ℕ, ◌<◌}
 use mathlib.Core.Path.{◌≡◌, subst}
-use native.Mathlib.Nat.{add-sub_cancel_left}
 use native.Mathlib.Omega.{arith}
 use lib.ListN.{length-take}
 use Rattle.registry.specs.Registry.{slot_count, changed}
@@ -15,17 +14,11 @@ use Rattle.answer.proofs.request.make_edit.Goals as goal
 fills : (n : ℕ) {e : Edit} {slot : Slot} {key : KeyPlaces} → e ≡ Fills slot key → SafeEdit n e → (slot.0 < slot_count) × KeyParts n key
 fills n is safe = subst (SafeEdit n) is safe
 
-pub overflow_add-b : goal.overflow_add-b
-overflow_add-b c = omega (arith, (fills _ c.in-Fills.is c.requires.2).1.within.0)
+pub of-requires : goal.of-requires
+of-requires c = (fills _ c.in-Fills.is c.requires.2).1.within.0
 
-pub overflow_add-f : goal.overflow_add-f
-overflow_add-f c = omega (arith, (fills _ c.in-Fills.is c.requires.2).1.within.1)
-
-pub slice_bounds-fill_slot-end : goal.slice_bounds-fill_slot-end
-slice_bounds-fill_slot-end c = (fills _ c.in-Fills.is c.requires.2).1.within.0
-
-pub slice_bounds-fill_slot-end-in-Fills : goal.slice_bounds-fill_slot-end-in-Fills
-slice_bounds-fill_slot-end-in-Fills c = (fills _ c.in-Fills.is c.requires.2).1.within.1
+pub of-requires-in-Fills : goal.of-requires-in-Fills
+of-requires-in-Fills c = (fills _ c.in-Fills.is c.requires.2).1.within.1
 
 pub overflow_cast-key : goal.overflow_cast-key
 overflow_cast-key c = omega (arith, (fills _ c.in-Fills.is c.requires.2).1.bits)
@@ -33,7 +26,7 @@ overflow_cast-key c = omega (arith, (fills _ c.in-Fills.is c.requires.2).1.bits)
 pub fill_slot-requires : goal.fill_slot-requires
 fill_slot-requires c =
     let f = fills _ c.in-Fills.is c.requires.2 in
-    (c.requires.0, c.requires.1, f.0, rw (add-sub_cancel_left, length-take) (omega (arith, f.1.name)), rw (add-sub_cancel_left, length-take) (omega (arith, f.1.bytes)))
+    (c.requires.0, c.requires.1, f.0, rw (c.of.ensures, length-take) (omega (arith, f.1.name)), rw (c.of-in-Fills.ensures, length-take) (omega (arith, f.1.bytes)))
 
 pub clear_slot-requires : goal.clear_slot-requires
 clear_slot-requires c =
@@ -49,7 +42,7 @@ returns-in-Stays c = rw c.in-Stays.is
 
 pub returns-in-Fills : goal.returns-in-Fills
 unfolding change_of
-returns-in-Fills c = rw c.in-Fills.is (simp add-sub_cancel_left at c.fill_slot.ensures)
+returns-in-Fills c = rw (c.in-Fills.is, ← c.of.ensures, ← c.of-in-Fills.ensures) c.fill_slot.ensures
 
 pub returns-in-Clears : goal.returns-in-Clears
 unfolding change_of

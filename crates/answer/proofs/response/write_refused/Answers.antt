@@ -5,5 +5,4 @@ use Rattle.answer.proofs.response.write_refused.Goals as goal
 pub returns : goal.returns
 unfolding response_bytes
 returns c =
-    let h = c in
-    rw (append-nil, ← h.status_number.ensures, ← h.response_header-head.ensures) c.copy_into.ensures
+    rw (append-nil, ← c.content_type_of.ensures, ← c.status_number.ensures, ← c.response_header-head.ensures) c.copy_into.ensures

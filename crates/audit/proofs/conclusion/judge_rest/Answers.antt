@@ -1,36 +1,28 @@
-use native.Mathlib.Omega.{arith}
-use borrow.Author.Rules.{rules}
+use Rattle.std.proofs.Common.{arith}
 use Rattle.audit.specs.Step.{verdict_at}
-use Rattle.audit.proofs.StepLaws.{Good, good, within, verdict_inside, verdict_behind, verdict_accepted}
+use Rattle.audit.proofs.StepLaws.{good, within, verdict_inside, verdict_behind, verdict_accepted}
 use Rattle.audit.proofs.conclusion.judge_rest.Goals as goal
-use Rattle.audit.proofs.conclusion.judge_rest.Goals.{Else-p}
-
-fine : (c : Else-p) → (let a = c.args in Good a.p a.pending.now)
-fine c = good c.args.p c.args.pending.now c.requires
 
 pub returns-then-p : goal.returns-then-p
 unfolding verdict_at
 returns-then-p c = rw c.if-p.true
 
 pub slice_bounds-left-count : goal.slice_bounds-left-count
-slice_bounds-left-count c = (fine c).placed
+slice_bounds-left-count c = (good c.args.p c.args.pending.now c.requires).placed
 
 pub slice_bounds-left-start : goal.slice_bounds-left-start
-slice_bounds-left-start c = (fine c).placed
+slice_bounds-left-start c = (good c.args.p c.args.pending.now c.requires).placed
 
 pub slice_bounds-left-end : goal.slice_bounds-left-end
-slice_bounds-left-end c = (fine c).held
+slice_bounds-left-end c = (good c.args.p c.args.pending.now c.requires).held
 
-pub overflow_add-byte : goal.overflow_add-byte
-overflow_add-byte c =
-    let w = (goal.at.overflow_add-byte c).Else-p in
+pub overflow_add-result : goal.overflow_add-result
+overflow_add-result c =
     let a = c.args in
-    omega (arith, within a.p a.pending.now (fine w) a.rest.now c.count_alike-n.result c.count_alike-n.ensures)
+    omega (arith, within a.p a.pending.now (good a.p a.pending.now c.requires) a.rest.now c.count_alike-n.result c.count_alike-n.ensures)
 
-pub overflow_add-next : goal.overflow_add-next
-overflow_add-next c =
-    let w = (goal.at.overflow_add-next c).Else-p in
-    omega (arith, (fine w).numbered)
+pub overflow_add-result-then-n-rest : goal.overflow_add-result-then-n-rest
+overflow_add-result-then-n-rest c = omega (arith, (good c.args.p c.args.pending.now c.requires).numbered)
 
 pub returns-then-n-left : goal.returns-then-n-left
 returns-then-n-left c =

@@ -1,7 +1,14 @@
-use Rattle.std.proofs.Common.{◌∙◌, arith}
+use Rattle.std.proofs.Common.{sym, arith}
+use Rattle.std.proofs.Math.Seq.{length-take-le}
+use Rattle.starting.proofs.FeedLaws.{read_bytes}
 use Rattle.audit_program.proofs.restore.take_journal.Goals as goal
 
-pub loop-turns-preserved : goal.loop-turns-preserved
-loop-turns-preserved c =
-    let (registered, stated, long) = c.loop-turns.invariant in
-    (c.read_journal-answer.auto.registry ∙ registered, c.read_journal-answer.auto.state ∙ stated, c.read_some-input.auto.buffer ∙ long)
+pub slice_bounds-read_journal-end : goal.slice_bounds-read_journal-end
+slice_bounds-read_journal-end c =
+    let input = c.read_some-input in
+    omega (arith, (read_bytes input.ensures c.in-Bytes.is).1, input.auto.buffer)
+
+pub slice_bounds-read_journal-end-in-loop : goal.slice_bounds-read_journal-end-in-loop
+slice_bounds-read_journal-end-in-loop c =
+    let input = c.read_some-input in
+    sym (length-take-le _ input.new.buffer (omega (arith, (read_bytes input.ensures c.in-Bytes.is).1, input.auto.buffer)))

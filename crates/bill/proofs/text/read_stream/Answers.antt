@@ -11,21 +11,17 @@ returns-in_default c = stream_missing _ _ _ _ _ (ap argument_file c.in_default.i
 
 pub take_stream-requires : goal.take_stream-requires
 take_stream-requires c =
-    let (good, listed) = ready_good _ _ c.in-Good.is c.requires.1 in
+    let (good, listed) = ready_good _ _ c.in-Ok.is c.requires.1 in
     (c.requires.0, good, listed)
 
-pub returns-in-Good : goal.returns-in-Good
+pub returns-in-Ok : goal.returns-in-Ok
 unfolding argument_file
-returns-in-Good c = stream_good _ _ _ _ _ (ap argument_file c.in-Open.is) c.take_stream.ensures
+returns-in-Ok c = stream_good _ _ _ _ _ (ap argument_file c.in-Some.is) c.take_stream.ensures
 
-pub returns-in-Faulty : goal.returns-in-Faulty
-unfolding argument_file is_good
-returns-in-Faulty c = stream_refused _ _ _ _ _ (ap argument_file c.in-Open.is) (ap is_good c.in-Faulty.is)
-
-pub returns-in-BadList : goal.returns-in-BadList
-unfolding argument_file is_good
-returns-in-BadList c = stream_refused _ _ _ _ _ (ap argument_file c.in-Open.is) (ap is_good c.in-BadList.is)
+pub returns-in-Err-Unreadable : goal.returns-in-Err-Unreadable
+unfolding argument_file
+returns-in-Err-Unreadable c = stream_refused _ _ _ _ _ (ap argument_file c.in-Some.is) (ap is_good c.in-Err-Unreadable.is)
 
 pub returns : goal.returns
-unfolding argument_file is_good
-returns c = stream_refused _ _ _ _ _ (ap argument_file c.in-Open.is) (ap is_good c.in-Unreadable.is)
+unfolding argument_file
+returns c = stream_refused _ _ _ _ _ (ap argument_file c.in-Some.is) (ap is_good c.in-Err.is)

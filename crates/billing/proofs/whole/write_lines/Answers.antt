@@ -49,7 +49,7 @@ pub returns : goal.returns
 unfolding bill_in bill_of state_in totals_of ascii
 returns c =
     let w = (goal.at.returns c).After-write_count-dropped in
-    let end = rw c.held_bytes-held.ensures at c.write_count.ensures.0 in
+    let end = rw c.held_bytes.ensures at c.write_count.ensures.0 in
     let statuses = placed_on c.write_refusals-statuses.ensures.0 (placed_on c.write_count-dropped.ensures.0 end) in
     let behind = placed_on c.write_keys-keyed.ensures.0 (placed_on c.write_count-open.ensures.0 statuses) in (
       placed_front (placed_on c.write_count-taken.ensures.0 (placed_on c.write_applications-named.ensures.0 behind)),

@@ -1,60 +1,22 @@
-use mathlib.Core.Path.{◌≡◌, sym, ◌∙◌}
+use mathlib.Core.Path.{sym}
+use borrow.Author.Rules.{rules}
 use native.Mathlib.Omega.{arith}
-use Rattle.wire.specs.Choice.{first_of}
-use Rattle.keys.specs.Names.{key_name_most}
-use Rattle.keys.proofs.NameLaws.{legal_short}
-use Rattle.messages.specs.Operations.{Operation, export_public_key, operation_body}
-use Rattle.client_requests.specs.Writing.{Sender, sender_of, body_format, write_tests}
-use Rattle.client_requests.specs.code.Judged.{judged_as}
-use Rattle.client_requests.specs.declared.judge.Judged.TheVariants.{Legal}
-use Rattle.client_requests.proofs.JudgeLaws.{Passed, passed, name_passed}
-use Rattle.client_requests.proofs.WritingLaws.{written_short, refused_outcome, body_outcome}
+use Rattle.messages.specs.Operations.{export_public_key, operation_body}
+use Rattle.client_requests.specs.Writing.{write_tests}
+use Rattle.client_requests.proofs.WritingLaws.{room_passed, name_short, short_passed, refused_outcome, body_outcome}
 use Rattle.client_requests.proofs.write.write_export.Goals as goal
-use Rattle.client_requests.proofs.write.write_export.Goals.{In-Legal}
 
-abbrev operation : In-Legal → Operation
-operation s = export_public_key s.args.name.now
-
-abbrev sender : In-Legal → Sender
-sender s = sender_of s.args.named s.args.application.now
-
-legal : (c : In-Legal) → judged_as (first_of (write_tests c.args.out.now c.args.types (sender c) (operation c))) ≡ Legal
+pub returns-in_err-judge_name : goal.returns-in_err-judge_name
 unfolding write_tests
-legal c = sym c.judge_name.ensures ∙ c.in-Legal.is
-
-passes : (c : In-Legal) → Passed c.args.out.now c.args.types (sender c) (operation c)
-passes c = passed _ _ _ _ (legal c)
-
-pub slice_bounds-write_bytes_body-count : goal.slice_bounds-write_bytes_body-count
-slice_bounds-write_bytes_body-count c =
-    let w = (goal.at.slice_bounds-write_bytes_body-count c).In-Legal in
-    omega (arith, (passes w).room)
-
-pub slice_bounds-write_bytes_body-start : goal.slice_bounds-write_bytes_body-start
-slice_bounds-write_bytes_body-start c =
-    let w = (goal.at.slice_bounds-write_bytes_body-start c).In-Legal in
-    omega (arith, (passes w).room)
+returns-in_err-judge_name c = let r = refused_outcome _ c.args.client.session _ _ (export_public_key c.args.name.now) _ (sym c.in_err-judge_name.ensures) in search rules
 
 pub write_bytes_body-size-requires : goal.write_bytes_body-size-requires
-write_bytes_body-size-requires c =
-    let w = (goal.at.write_bytes_body-size-requires c).In-Legal in
-    let p = passes w in
-    let a = c.args in
-    omega (arith, p.room, legal_short key_name_most a.name.now (name_passed (body_format a.types) a.name.now p.fields))
+write_bytes_body-size-requires c = omega (arith, room_passed _ _ _ _ (sym c.in_ok-judge_name.ensures), name_short _ _ _ _ (sym c.in_ok-judge_name.ensures))
 
-pub write_around-length-requires : goal.write_around-length-requires
-unfolding operation_body
-write_around-length-requires c =
-    let w = (goal.at.write_around-length-requires c).In-Legal in
-    let p = passes w in
-    (omega (arith, p.room), p.legal, written_short p (rw c.format_for.ensures at c.write_bytes_body-size.ensures))
+pub write_around-requires-clause-few : goal.write_around-requires-clause-few
+unfolding write_tests operation_body
+write_around-requires-clause-few c = omega (arith, short_passed _ _ _ (export_public_key c.args.name.now) (sym c.in_ok-judge_name.ensures), rw c.format_for-format.ensures at c.write_bytes_body-size.ensures.count)
 
-pub returns-in-Refused : goal.returns-in-Refused
-unfolding write_tests
-returns-in-Refused c = refused_outcome _ _ _ _ _ _ (sym c.judge_name.ensures ∙ c.in-Refused.is)
-
-pub returns-in-Legal : goal.returns-in-Legal
-unfolding operation_body
-returns-in-Legal c =
-    let w = (goal.at.returns-in-Legal c).In-Legal in
-    body_outcome _ _ _ _ _ (legal w) (omega (arith, (passes w).room)) (rw c.format_for.ensures at c.write_bytes_body-size.ensures) c.write_around-length.ensures
+pub returns : goal.returns
+unfolding write_tests operation_body
+returns c = body_outcome _ _ _ _ (export_public_key c.args.name.now) (sym c.in_ok-judge_name.ensures) (rw c.format_for-format.ensures at c.write_bytes_body-size.ensures) c.write_around.ensures

@@ -1,56 +1,21 @@
-use mathlib.Core.Path.{◌≡◌, sym, ◌∙◌}
+use mathlib.Core.Path.{sym}
+use borrow.Author.Rules.{rules}
 use native.Mathlib.Omega.{arith}
-use Rattle.wire.specs.Choice.{first_of}
-use Rattle.messages.specs.Operations.{Operation, verify_signature}
 use Rattle.messages.specs.Formats.{format_for}
 use Rattle.messages.proofs.FormatsLaws.{verify_body_least}
-use Rattle.client_requests.specs.Writing.{Sender, sender_of, write_tests}
-use Rattle.client_requests.specs.code.Judged.{judged_as}
-use Rattle.client_requests.specs.declared.judge.Judged.TheVariants.{Legal}
-use Rattle.client_requests.proofs.JudgeLaws.{Passed, passed}
-use Rattle.client_requests.proofs.WritingLaws.{passed_short, written_short, refused_outcome, body_outcome}
+use Rattle.client_requests.proofs.WritingLaws.{room_passed, short_passed, refused_outcome, body_outcome}
 use Rattle.client_requests.proofs.write.write_verify.Goals as goal
-use Rattle.client_requests.proofs.write.write_verify.Goals.{In-Legal}
 
-abbrev operation : In-Legal → Operation
-operation s = verify_signature s.args.name.now s.args.hash.now s.args.signature.now
-
-abbrev sender : In-Legal → Sender
-sender s = sender_of s.args.named s.args.application.now
-
-legal : (c : In-Legal) → judged_as (first_of (write_tests c.args.out.now c.args.types (sender c) (operation c))) ≡ Legal
-legal c = sym c.judge_verify.ensures ∙ c.in-Legal.is
-
-passes : (c : In-Legal) → Passed c.args.out.now c.args.types (sender c) (operation c)
-passes c = passed _ _ _ _ (legal c)
-
-pub slice_bounds-write_verify_body-count : goal.slice_bounds-write_verify_body-count
-slice_bounds-write_verify_body-count c =
-    let w = (goal.at.slice_bounds-write_verify_body-count c).In-Legal in
-    omega (arith, (passes w).room)
-
-pub slice_bounds-write_verify_body-start : goal.slice_bounds-write_verify_body-start
-slice_bounds-write_verify_body-start c =
-    let w = (goal.at.slice_bounds-write_verify_body-start c).In-Legal in
-    omega (arith, (passes w).room)
+pub returns-in_err-judge_verify : goal.returns-in_err-judge_verify
+returns-in_err-judge_verify c = let r = refused_outcome _ c.args.client.session _ _ _ _ (sym c.in_err-judge_verify.ensures) in search rules
 
 pub write_verify_body-size-requires : goal.write_verify_body-size-requires
 write_verify_body-size-requires c =
-    let w = (goal.at.write_verify_body-size-requires c).In-Legal in
     let a = c.args in
-    let p = passes w in
-    omega (arith, p.room, passed_short p, verify_body_least (format_for a.types.content) a.name.now a.hash.now a.signature.now)
+    omega (arith, room_passed _ _ _ _ (sym c.in_ok-judge_verify.ensures), short_passed _ _ _ _ (sym c.in_ok-judge_verify.ensures), verify_body_least (format_for a.client.types.content) a.signed.name.now a.signed.hash.now a.signed.signature.now)
 
-pub write_around-length-requires : goal.write_around-length-requires
-write_around-length-requires c =
-    let w = (goal.at.write_around-length-requires c).In-Legal in
-    let p = passes w in
-    (omega (arith, p.room), p.legal, written_short p (rw c.format_for.ensures at c.write_verify_body-size.ensures))
+pub write_around-requires-clause-few : goal.write_around-requires-clause-few
+write_around-requires-clause-few c = omega (arith, short_passed _ _ _ _ (sym c.in_ok-judge_verify.ensures), rw c.format_for-format.ensures at c.write_verify_body-size.ensures.count)
 
-pub returns-in-Refused : goal.returns-in-Refused
-returns-in-Refused c = refused_outcome _ _ _ _ _ _ (sym c.judge_verify.ensures ∙ c.in-Refused.is)
-
-pub returns-in-Legal : goal.returns-in-Legal
-returns-in-Legal c =
-    let w = (goal.at.returns-in-Legal c).In-Legal in
-    body_outcome _ _ _ _ _ (legal w) (omega (arith, (passes w).room)) (rw c.format_for.ensures at c.write_verify_body-size.ensures) c.write_around-length.ensures
+pub returns : goal.returns
+returns c = body_outcome _ _ _ _ _ (sym c.in_ok-judge_verify.ensures) (rw c.format_for-format.ensures at c.write_verify_body-size.ensures) c.write_around.ensures

@@ -24,7 +24,7 @@ pub returns : goal.returns
 unfolding begin_state
 returns c =
     let a = c.args in
-    let asked : Asked = record { opcode = a.opcode; session = a.session; accept_type = a.accept_type } in
+    let asked : Asked = a.asked in
     let size = c.if-memory-ne-STATE_SIZE.false in
     let put = begun_put asked _ _ _ _ _ c.bytes_of_u16-first.ensures c.bytes_of_u64-second.ensures (c.clear.ensures ∙ ap (λ (n : ℕ). replicate n 0) size) c.copy_into.ensures.bytes c.copy_into-2.ensures.bytes in
     rw (eq-eqb _ _ size, sym c.is_listed.ensures ∙ c.if-not-is_listed.false, sym c.is_content_type.ensures ∙ c.if-not-is_content_type.false, begin_state, put)

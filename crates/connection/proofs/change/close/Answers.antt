@@ -9,5 +9,4 @@ use Rattle.connection.proofs.change.close.Goals as goal
 pub returns : goal.returns
 unfolding connection_bytes
 returns c =
-    let k = c in
-    ap (λ (l : List ℕ). set l 0 2) (k.clear.ensures ∙ ap (λ (n : ℕ). replicate n 0) k.requires) ∙ sym (blank 2)
+    ap (λ (l : List ℕ). set l 0 2) (c.clear.ensures ∙ ap (λ (n : ℕ). replicate n 0) c.requires) ∙ sym (blank 2)

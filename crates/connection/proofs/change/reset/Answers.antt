@@ -8,5 +8,4 @@ use Rattle.connection.proofs.change.reset.Goals as goal
 pub returns : goal.returns
 unfolding connection_bytes
 returns c =
-    let k = c in
-    k.clear.ensures ∙ ap (λ (n : ℕ). replicate n 0) k.requires ∙ sym (blank 0)
+    c.clear.ensures ∙ ap (λ (n : ℕ). replicate n 0) c.requires ∙ sym (blank 0)

@@ -12,7 +12,7 @@ skipped : (c : In-Skipping)
     → (let memory = c.args.memory.now in
     Skipped (drop 9 memory) (connection_of memory) c.in-Skipping.to_go)
 skipped c =
-    skipped_held _ c.requires _ (sym c.read_state-state.ensures ∙ c.in-Skipping.is)
+    skipped_held _ c.requires _ (sym c.read_state.ensures ∙ c.in-Skipping.is)
 
 -- the header stands at the front of the part that is lent
 length_read : (c : After-request_length)
@@ -37,7 +37,7 @@ overflow_sub-result c =
 
 pub returns-in-Open : goal.returns-in-Open
 returns-in-Open c =
-    held_open _ _ (sym c.read_state-state.ensures ∙ c.in-Open.is)
+    held_open _ _ (sym c.read_state.ensures ∙ c.in-Open.is)
 
 pub returns-in-Skipping : goal.returns-in-Skipping
 returns-in-Skipping c =
@@ -45,4 +45,4 @@ returns-in-Skipping c =
     rw (length_read c) (skipped w).held
 
 pub returns-in-Closed : goal.returns-in-Closed
-returns-in-Closed c = held_closed _ (sym c.read_state-state.ensures ∙ c.in-Closed.is)
+returns-in-Closed c = held_closed _ (sym c.read_state.ensures ∙ c.in-Closed.is)

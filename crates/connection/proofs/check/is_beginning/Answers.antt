@@ -34,14 +34,12 @@ pub returns-in-Unfinished : goal.returns-in-Unfinished
 unfolding is_unfinished
 returns-in-Unfinished c = ap is_unfinished (sym c.in-Unfinished.is) ∙ told _ _ c.read_frame.ensures
 
-pub returns-in-BadStart : goal.returns-in-BadStart
+pub returns-in_default : goal.returns-in_default
 unfolding is_unfinished
-returns-in-BadStart c = ap is_unfinished (sym c.in-BadStart.is) ∙ told _ _ c.read_frame.ensures
-
-pub returns-in-Skipped : goal.returns-in-Skipped
-unfolding is_unfinished
-returns-in-Skipped c = ap is_unfinished (sym c.in-Skipped.is) ∙ told _ _ c.read_frame.ensures
-
-pub returns-in-Whole : goal.returns-in-Whole
-unfolding is_unfinished
-returns-in-Whole c = ap is_unfinished (sym c.in-Whole.is) ∙ told _ _ c.read_frame.ensures
+returns-in_default c = other _ c.in_default.not-Unfinished ∙ told _ _ c.read_frame.ensures
+  where
+    other : (f : Frame) → (f ≡ Unfinished → ⊥) → false ≡ is_unfinished f
+    other Unfinished n = absurd (n refl)
+    other BadStart n = refl
+    other (Skipped header missing) n = refl
+    other (Whole n) m = refl

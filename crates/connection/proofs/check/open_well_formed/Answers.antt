@@ -29,15 +29,15 @@ returns-then-number c =
     let w = (goal.at.returns-then-number c).After-read_u64-number in
     rw (tests w, lt-leb _ _ c.if-number.true)
 
-pub returns-then-not-is_zero_from : goal.returns-then-not-is_zero_from
-returns-then-not-is_zero_from c =
-    let w = (goal.at.returns-then-not-is_zero_from c).After-read_u64-number in
-    rw (tests w, le-leb _ _ c.if-number.false, sym c.is_zero_from.ensures ∙ c.if-not-is_zero_from.true)
-
-pub returns : goal.returns
-returns c =
-    let w = (goal.at.returns c).After-read_u64-number in
+pub returns-then-is_zero_from : goal.returns-then-is_zero_from
+returns-then-is_zero_from c =
+    let w = (goal.at.returns-then-is_zero_from c).After-read_u64-number in
     let n = c.read_u64-number.result in
     let same : 9 + n - 9 ≡ n = omega arith in
-    rw (tests w, le-leb _ _ c.if-number.false, sym c.is_zero_from.ensures ∙ c.if-not-is_zero_from.false)
+    rw (tests w, le-leb _ _ c.if-number.false, sym c.is_zero_from.ensures ∙ c.if-is_zero_from.true)
     (c.is_beginning.ensures ∙ rw same)
+
+pub returns-else-is_zero_from : goal.returns-else-is_zero_from
+returns-else-is_zero_from c =
+    let w = (goal.at.returns-else-is_zero_from c).After-read_u64-number in
+    rw (tests w, le-leb _ _ c.if-number.false, sym c.is_zero_from.ensures ∙ c.if-is_zero_from.false) c.if-is_zero_from.false

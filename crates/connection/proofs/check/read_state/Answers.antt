@@ -21,12 +21,12 @@ read_u64-number-requires c =
     let w = (goal.at.read_u64-number-requires c).Start in
     omega (arith, size w)
 
-pub returns-then-kind-eq-OPEN : goal.returns-then-kind-eq-OPEN
-returns-then-kind-eq-OPEN c =
-    sym (ap state_of (of_open _ c.if-kind-eq-OPEN.true) ∙ ap Open (sym (c.read_u64-number.ensures ∙ open_number _ c.requires c.if-kind-eq-OPEN.true)))
+pub returns-in-0 : goal.returns-in-0
+returns-in-0 c =
+    sym (ap state_of (of_open _ c.in-0.is) ∙ ap Open (sym (c.read_u64-number.ensures ∙ open_number _ c.requires c.in-0.is)))
 
-pub returns-then-kind-eq-SKIPPING : goal.returns-then-kind-eq-SKIPPING
-returns-then-kind-eq-SKIPPING c = sym (ap state_of (of_skipping _ c.if-kind-eq-SKIPPING.true) ∙ ap Skipping (sym c.read_u64-number.ensures))
+pub returns-in-1 : goal.returns-in-1
+returns-in-1 c = sym (ap state_of (of_skipping _ c.in-1.is) ∙ ap Skipping (sym c.read_u64-number.ensures))
 
-pub returns : goal.returns
-returns c = sym (ap state_of (of_closed _ c.if-kind-eq-OPEN.false c.if-kind-eq-SKIPPING.false))
+pub returns-in_default : goal.returns-in_default
+returns-in_default c = sym (ap state_of (of_closed _ (λ e. omega arith) (λ e. omega arith)))

@@ -1,9 +1,10 @@
-use mathlib.Core.Path.{◌≡◌, sym, ◌∙◌}
-use mathlib.Core.Bool.{true, ◌&&◌}
+use Rattle.std.proofs.Common.{is_le, is_lt, nat_cmp}
+use Rattle.std.proofs.lemmas.Bool.Decides.{nat_tests}
+use mathlib.Core.Path.{◌≡◌, refl, sym, ◌∙◌}
+use mathlib.Core.Bool.{Bool, true, false, ◌&&◌}
 use mathlib.Core.List.{List}
-use Prim.Native.Nat.{ℕ, ◌+◌, ◌-◌, ◌<◌, ◌≤◌}
+use Prim.Native.Nat.{ℕ, ◌+◌, ◌-◌, ◌≤◌}
 use native.Mathlib.Omega.{arith}
-use borrow.Author.Tests.{le-leb, lt-leb}
 use lib.ListN.{length, take, drop}
 use lib.Dec.{leb}
 use Rattle.wire.proofs.NumberLaws.{all_bytes}
@@ -11,12 +12,13 @@ use Rattle.wire.specs.Lists.{all, is_zero}
 use Rattle.wire.specs.Numbers.{field}
 use Rattle.wire.specs.Request.{content_length, auth_length, header_length}
 use Rattle.wire.proofs.BufferLaws.{lent}
+use Rattle.wire.proofs.TestLaws.{and_left}
 use Rattle.stream.specs.Frame.{legal_start, oversized}
 use Rattle.connection.specs.Connection.{held_most, well_formed_connection}
 use Rattle.connection.proofs.ConnectionLaws.{legal_most}
 use Rattle.connection.proofs.CheckLaws.{skipping_tests_lem}
 use Rattle.connection.proofs.check.skipping_well_formed.Goals as goal
-use Rattle.connection.proofs.check.skipping_well_formed.Goals.{After-header_length, After-held-1, Else-not-is_legal_start, Else-not-is_oversized}
+use Rattle.connection.proofs.check.skipping_well_formed.Goals.{After-held-1, Joined-is_oversized, then-is_legal_start, else-is_legal_start, then-is_oversized, else-is_oversized}
 
 -- the part that is lent
 abbrev behind : List ℕ → List ℕ
@@ -35,68 +37,64 @@ tests c =
     rw (lent 9 memory)
     (skipping_tests_lem memory c.requires.0 (all_bytes memory (λ i. (c.shared_slice_known-1.given i).fits)) c.requires.1)
 
-legal : (c : Else-not-is_legal_start) → legal_start (behind c.args.memory.now) ≡ true
-legal c = sym c.is_legal_start.ensures ∙ c.if-not-is_legal_start.false
+-- as the code joins the tests
+joined : (a b c d e : Bool) → a && (b && (c && (d && e))) ≡ ((a && b) && (c && d)) && e
+joined false b c d e = refl
+joined true false c d e = refl
+joined true true false d e = refl
+joined true true true d e = refl
 
-legal_2 : (c : After-header_length) → legal_start (behind c.args.memory.now) ≡ true
-legal_2 c = sym c.is_legal_start.ensures ∙ c.if-not-is_legal_start.false
+passed : {v a b : Bool} → a ≡ true → v ≡ b → v ≡ a && b
+passed e w = w ∙ rw e
 
-large : (c : Else-not-is_oversized) → oversized (behind c.args.memory.now) ≡ true
-large c = sym c.is_oversized.ensures ∙ c.if-not-is_oversized.false
+failed : {v a : Bool} (b : Bool) → a ≡ false → v ≡ a → v ≡ a && b
+failed b e w = rw e (w ∙ e)
 
-pub returns-then-not-is_legal_start : goal.returns-then-not-is_legal_start
-returns-then-not-is_legal_start c =
-    let w = (goal.at.returns-then-not-is_legal_start c).After-held-1 in
-    rw (tests w, sym c.is_legal_start.ensures ∙ c.if-not-is_legal_start.true)
+between : (n s p : ℕ) → p ≡ 1 + s → is_le (nat_cmp 1 n) && is_lt (nat_cmp n p) ≡ leb 1 n && leb n s
+between n s p e = grind (arith, nat_tests)
 
-pub returns-then-not-is_oversized : goal.returns-then-not-is_oversized
-returns-then-not-is_oversized c =
-    let w = (goal.at.returns-then-not-is_oversized c).After-held-1 in
-    let w' = (goal.at.returns-then-not-is_oversized c).Else-not-is_legal_start in
-    rw (tests w, legal w', sym c.is_oversized.ensures ∙ c.if-not-is_oversized.true)
+-- the tests but the last
+abbrev Front : List ℕ → Bool
+Front memory =
+    (legal_start (behind memory) && oversized (behind memory))
+    && (leb 1 (field 1 8 memory) && leb (field 1 8 memory) (content_length (behind memory) + auth_length (behind memory)))
 
-pub returns-then-to_go-lt1 : goal.returns-then-to_go-lt1
-returns-then-to_go-lt1 c =
-    let w = (goal.at.returns-then-to_go-lt1 c).After-held-1 in
-    let w' = (goal.at.returns-then-to_go-lt1 c).Else-not-is_legal_start in
-    let w2 = (goal.at.returns-then-to_go-lt1 c).Else-not-is_oversized in
-    let none : c.read_u64-to_go.result < 1 = omega arith in
-    rw (tests w, legal w', large w2, ← c.read_u64-to_go.ensures, lt-leb _ _ none)
-
-pub returns-then-past-to_go : goal.returns-then-past-to_go
-returns-then-past-to_go c =
-    let w = (goal.at.returns-then-past-to_go c).After-held-1 in
-    let w' = (goal.at.returns-then-past-to_go c).Else-not-is_legal_start in
-    let w2 = (goal.at.returns-then-past-to_go c).Else-not-is_oversized in
-    let n = c.read_u64-to_go.result in
+front : (c : Joined-is_oversized) → c.if-is_oversized.value ≡ Front c.args.memory.now
+front c =
     let memory : List ℕ = c.args.memory.now in
-    let least : 1 ≤ n = omega (arith, c.if-to_go-lt1.false) in
-    let many : content_length (behind memory) + auth_length (behind memory) < n
-    = omega (arith, c.read_u32.ensures, c.read_u16.ensures) in
-    rw (tests w, legal w', large w2, ← c.read_u64-to_go.ensures, le-leb _ _ least, lt-leb _ _ many)
+    let most : c.from.result + c.from-2.result ≡ content_length (behind memory) + auth_length (behind memory) = omega (arith, c.read_u32.ensures, c.read_u16.ensures) in
+    let first : c.if-is_legal_start.value ≡ legal_start (behind memory) && oversized (behind memory) = elim c.if-is_legal_start.branch [
+      | then-is_legal_start w ↦ passed (sym c.is_legal_start.ensures ∙ w.if-is_legal_start.true) (w.value-is ∙ w.is_oversized.ensures)
+      | else-is_legal_start w ↦ failed _ (sym c.is_legal_start.ensures ∙ w.if-is_legal_start.false) (w.value-is ∙ c.is_legal_start.ensures)
+    ] in
+    rw (← c.read_u64-to_go.ensures, ← most, ← first) (elim c.if-is_oversized.branch [
+      | then-is_oversized w ↦ passed w.if-is_oversized.true (w.value-is ∙ w.contains.ensures.value ∙ between c.read_u64-to_go.result (c.from.result + c.from-2.result) _ (omega arith))
+      | else-is_oversized w ↦ failed _ w.if-is_oversized.false w.value-is
+    ])
 
 -- there is room for the header
-room : (c : After-header_length) → c.header_length.result ≤ held_most
-room c =
-    let memory : List ℕ = c.args.memory.now in
-    omega (arith, legal_most (behind memory) (legal_2 c), c.header_length.ensures)
+room : (memory : List ℕ) → Front memory ≡ true → header_length (behind memory) ≤ held_most
+room memory e = omega (arith, legal_most (behind memory) (and_left _ _ (and_left _ _ e)))
 
 pub overflow_add-header_length : goal.overflow_add-header_length
-overflow_add-header_length c = omega (arith, room c)
+overflow_add-header_length c =
+    let w = (goal.at.overflow_add-header_length c).Joined-is_oversized in
+    omega (arith, room c.args.memory.now (sym (front w) ∙ c.if-contains.true), c.header_length.ensures)
 
 pub is_zero_from-requires : goal.is_zero_from-requires
 is_zero_from-requires c =
-    omega (arith, room c, c.requires.0)
+    let w = (goal.at.is_zero_from-requires c).Joined-is_oversized in
+    omega (arith, room c.args.memory.now (sym (front w) ∙ c.if-contains.true), c.header_length.ensures, c.requires.0)
 
-pub returns : goal.returns
-returns c =
-    let w = (goal.at.returns c).After-held-1 in
-    let w' = (goal.at.returns c).After-header_length in
-    let w2 = (goal.at.returns c).Else-not-is_oversized in
-    let n = c.read_u64-to_go.result in
-    let memory : List ℕ = c.args.memory.now in
-    let least : 1 ≤ n = omega (arith, c.if-to_go-lt1.false) in
-    let few : n ≤ content_length (behind memory) + auth_length (behind memory)
-    = omega (arith, c.read_u32.ensures, c.read_u16.ensures) in
-    rw (tests w, legal_2 w', large w2, ← c.read_u64-to_go.ensures, le-leb _ _ least, le-leb _ _ few)
+pub returns-then-contains : goal.returns-then-contains
+returns-then-contains c =
+    let w = (goal.at.returns-then-contains c).Joined-is_oversized in
+    let h = (goal.at.returns-then-contains c).After-held-1 in
+    rw (tests h, joined (legal_start (behind c.args.memory.now)), sym (front w) ∙ c.if-contains.true)
     (c.is_zero_from.ensures ∙ rw c.header_length.ensures)
+
+pub returns-else-contains : goal.returns-else-contains
+returns-else-contains c =
+    let w = (goal.at.returns-else-contains c).Joined-is_oversized in
+    let h = (goal.at.returns-else-contains c).After-held-1 in
+    rw (tests h, joined (legal_start (behind c.args.memory.now)), sym (front w) ∙ c.if-contains.false) c.if-contains.false

@@ -1,136 +1,91 @@
-use Prim.Native.Nat.{ℕ, ◌+◌, ◌<◌}
+use Prim.Native.Nat.{ℕ, ◌+◌, ◌-◌}
 use mathlib.Core.Path.{◌≡◌, sym, ap, ◌∙◌}
-use mathlib.Core.List.{List}
+use mathlib.Core.Bool.{true≢false}
+use mathlib.Core.List.{List, ◌++◌}
 use native.Mathlib.Omega.{arith}
-use lib.ListN.{length}
+use lib.ListN.{take, drop}
 use borrow.Author.Rules.{rules}
-use Rattle.stream.specs.Frame.{unfinished, next}
+use Rattle.wire.proofs.BufferLaws.{lent}
+use Rattle.stream.specs.Frame.{next}
 use Rattle.stream.specs.declared.frame.Frame.{Frame}
-use Rattle.stream.specs.declared.frame.Frame.TheVariants.{Unfinished}
 use Rattle.stream.specs.code.Framed.{frame_of}
 use Rattle.stream.proofs.FramedLaws.{frame_unfinished}
 use Rattle.connection.specs.code.Gather.{held_in}
-use Rattle.connection.proofs.GatherLaws.{part_none, part_holds, part_again, holding_few, holding_size, after_few, after_size, after_in, after_some, gathers}
+use Rattle.connection.proofs.GatherLaws.{More, part_none, part_holds, part_again, holding_few, holding_size, after_left, after_few, after_size, after_in, after_some, gathers}
 use Rattle.connection.proofs.gather.gather.Goals as goal
+use Rattle.connection.proofs.gather.gather.Goals.{After-fill, then-used-chunk-via-then-used-chunk, then-used-chunk-via-else-used-chunk+then-not-matches, in-Unfinished, in_default}
 
--- a frame said to be unfinished is one
-told : (s t : List ℕ) (f : Frame) → s ≡ t → f ≡ frame_of (next s) → f ≡ Unfinished → next t ≡ unfinished
-told s t f same e u = ap next (sym same) ∙ frame_unfinished (next s) (sym e ∙ u)
+-- what `fill` has done
+more : (c : After-fill) → More (held_in c.args.held c.args.memory.now) c.args.chunk.now c.loop-used.memory c.args.held c.loop-used.used c.fill.new.memory c.fill.result
+more c = record {
+  long = c.requires.long;
+  part = c.loop-used.invariant;
+  filled = rw (lent c.loop-used.used c.args.chunk.now) at c.fill.ensures;
+}
+
+-- what the bytes held then begin with
+read : {held chunk memory : List ℕ} {n used : ℕ} {after : List ℕ} {k : ℕ} → More held chunk memory n used after k → (f : Frame)
+    → f ≡ frame_of (next (take (9 + n + (used + k) - 9) (drop 9 after))) → f ≡ frame_of (next (held ++ take (used + k) chunk))
+read r f e = e ∙ ap (λ x. frame_of (next x)) (after_in r)
 
 pub loop-used-init : goal.loop-used-init
 loop-used-init c = part_none _ _ _ c.requires
 
-pub overflow_add-before : goal.overflow_add-before
-overflow_add-before c =
+pub overflow_add-held : goal.overflow_add-held
+overflow_add-held c =
     let l = c.loop-used in
-    let m : List ℕ = c.args.memory.now in
-    let chunk : List ℕ = c.args.chunk.now in
-    let h : ℕ = c.args.held in
-    let long = c.requires.long in
-    let few = holding_few l.memory (h + l.used) (part_holds (held_in h m) chunk l.memory h l.used long l.invariant) in
+    let few = holding_few l.memory (c.args.held + l.used) (part_holds c.requires.long l.invariant) in
     search rules
 
-pub fill-used-requires : goal.fill-used-requires
-fill-used-requires c =
-    let l = c.loop-used in
-    let m : List ℕ = c.args.memory.now in
-    let chunk : List ℕ = c.args.chunk.now in
-    let h : ℕ = c.args.held in
-    let long = c.requires.long in
-    (part_holds (held_in h m) chunk l.memory h l.used long l.invariant, l.invariant.left)
+pub fill-requires : goal.fill-requires
+fill-requires c = part_holds c.requires.long c.loop-used.invariant
 
 pub overflow_add-end : goal.overflow_add-end
-overflow_add-end c =
-    let l = c.loop-used in
-    let m : List ℕ = c.args.memory.now in
-    let chunk : List ℕ = c.args.chunk.now in
-    let h : ℕ = c.args.held in
-    let long = c.requires.long in
-    let f = c.fill-used in
-    let few = after_few (held_in h m) chunk l.memory h l.used long l.invariant f.new.memory f.result f.ensures in
-    search rules
+overflow_add-end c = let few = after_few (more (goal.at.overflow_add-end c).After-fill) in search rules
+
+pub overflow_add-used : goal.overflow_add-used
+overflow_add-used c = let few = after_few (more (goal.at.overflow_add-used c).After-fill) in search rules
 
 pub overflow_add-end-in-loop-used : goal.overflow_add-end-in-loop-used
-overflow_add-end-in-loop-used c =
-    let l = c.loop-used in
-    let m : List ℕ = c.args.memory.now in
-    let chunk : List ℕ = c.args.chunk.now in
-    let h : ℕ = c.args.held in
-    let long = c.requires.long in
-    let f = c.fill-used in
-    let few = after_few (held_in h m) chunk l.memory h l.used long l.invariant f.new.memory f.result f.ensures in
-    search rules
+overflow_add-end-in-loop-used c = let few = after_few (more (goal.at.overflow_add-end-in-loop-used c).After-fill) in search rules
 
 pub slice_bounds-read_frame-end : goal.slice_bounds-read_frame-end
 slice_bounds-read_frame-end c =
-    let l = c.loop-used in
-    let m : List ℕ = c.args.memory.now in
-    let chunk : List ℕ = c.args.chunk.now in
-    let h : ℕ = c.args.held in
-    let long = c.requires.long in
-    let f = c.fill-used in
-    let few = after_few (held_in h m) chunk l.memory h l.used long l.invariant f.new.memory f.result f.ensures in
-    let size = after_size (held_in h m) chunk l.memory h l.used long l.invariant f.new.memory f.result f.ensures in
+    let r = more (goal.at.slice_bounds-read_frame-end c).After-fill in
+    let few = after_few r in
+    let size = after_size r in
     search rules
 
 pub returns-then-used-chunk : goal.returns-then-used-chunk
 returns-then-used-chunk c =
-    let l = c.loop-used in
-    let m : List ℕ = c.args.memory.now in
-    let chunk : List ℕ = c.args.chunk.now in
-    let h : ℕ = c.args.held in
-    let long = c.requires.long in
-    let f = c.fill-used in
-    gathers (held_in h m) chunk l.memory h l.used long l.invariant f.new.memory f.result f.ensures c.read_frame-frame.result (c.read_frame-frame.ensures ∙ ap (λ (x : List ℕ). frame_of (next x)) (after_in (held_in h m) chunk l.memory h l.used long l.invariant f.new.memory f.result f.ensures)) (λ _. c.if-used-chunk.true)
+    let r = more (goal.at.returns-then-used-chunk c).After-fill in
+    let e = read r _ c.read_frame-frame.ensures in
+    gathers r _ e (elim c.then-used-chunk.branch [
+      | then-used-chunk-via-then-used-chunk w ↦ λ _. w.if-used-chunk.true
+      | then-used-chunk-via-else-used-chunk+then-not-matches w ↦ λ u. absurd (elim w.match-matches.branch [
+        | in-Unfinished w' ↦ true≢false (sym w'.matches-is ∙ w.if-not-matches.true)
+        | in_default w' ↦ w'.in_default.not-Unfinished (e ∙ ap frame_of u)
+      ])
+    ])
 
 pub loop-used-smaller : goal.loop-used-smaller
 loop-used-smaller c =
-    let l = c.loop-used in
-    let m : List ℕ = c.args.memory.now in
-    let chunk : List ℕ = c.args.chunk.now in
-    let h : ℕ = c.args.held in
-    let long = c.requires.long in
-    let f = c.fill-used in
-    let left = f.ensures.left in
-    let some = after_some (held_in h m) chunk l.memory h l.used long l.invariant f.new.memory f.result f.ensures (let x : l.used + f.result < length chunk = omega arith in x) in
+    let r = more (goal.at.loop-used-smaller c).After-fill in
+    let left = after_left r in
+    let some = after_some r (omega arith) in
     omega arith
 
 pub loop-used-preserved : goal.loop-used-preserved
 loop-used-preserved c =
-    let l = c.loop-used in
-    let m : List ℕ = c.args.memory.now in
-    let chunk : List ℕ = c.args.chunk.now in
-    let h : ℕ = c.args.held in
-    let long = c.requires.long in
-    let f = c.fill-used in
-    part_again (held_in h m) chunk l.memory h l.used long l.invariant f.new.memory f.result f.ensures (told _ _ c.read_frame-frame.result (after_in (held_in h m) chunk l.memory h l.used long l.invariant f.new.memory f.result f.ensures) c.read_frame-frame.ensures c.in-Unfinished.is)
-
-pub returns-in-loop-used : goal.returns-in-loop-used
-returns-in-loop-used c =
-    let l = c.loop-used in
-    let m : List ℕ = c.args.memory.now in
-    let chunk : List ℕ = c.args.chunk.now in
-    let h : ℕ = c.args.held in
-    let long = c.requires.long in
-    let f = c.fill-used in
-    gathers (held_in h m) chunk l.memory h l.used long l.invariant f.new.memory f.result f.ensures c.read_frame-frame.result (c.read_frame-frame.ensures ∙ ap (λ (x : List ℕ). frame_of (next x)) (after_in (held_in h m) chunk l.memory h l.used long l.invariant f.new.memory f.result f.ensures)) (λ u. absurd (c.in_default.not-Unfinished ((c.read_frame-frame.ensures ∙ ap (λ (x : List ℕ). frame_of (next x)) (after_in (held_in h m) chunk l.memory h l.used long l.invariant f.new.memory f.result f.ensures)) ∙ ap frame_of u)))
+    let r = more (goal.at.loop-used-preserved c).After-fill in
+    let e = read r _ c.read_frame-frame.ensures in
+    part_again r (elim c.match-matches.branch [
+      | in-Unfinished w ↦ frame_unfinished _ (sym e ∙ w.in-Unfinished.is)
+      | in_default w ↦ absurd (true≢false (sym c.if-not-matches.false ∙ w.matches-is))
+    ])
 
 pub shape_of-memory-then-used-chunk : goal.shape_of-memory-then-used-chunk
 shape_of-memory-then-used-chunk c =
-    let l = c.loop-used in
-    let m : List ℕ = c.args.memory.now in
-    let h : ℕ = c.args.held in
-    let f = c.fill-used in
-    let size = after_size (held_in h m) c.args.chunk.now l.memory h l.used c.requires.long l.invariant f.new.memory f.result f.ensures in
-    let start = holding_size m h c.requires in
-    search rules
-
-pub shape_of-memory-in-loop-used : goal.shape_of-memory-in-loop-used
-shape_of-memory-in-loop-used c =
-    let l = c.loop-used in
-    let m : List ℕ = c.args.memory.now in
-    let h : ℕ = c.args.held in
-    let f = c.fill-used in
-    let size = after_size (held_in h m) c.args.chunk.now l.memory h l.used c.requires.long l.invariant f.new.memory f.result f.ensures in
-    let start = holding_size m h c.requires in
+    let size = after_size (more (goal.at.shape_of-memory-then-used-chunk c).After-fill) in
+    let start = holding_size c.args.memory.now c.args.held c.requires in
     search rules

@@ -17,37 +17,33 @@ long b (in_body l k m o) six past = omega (arith, legal_size b l)
 
 pub returns-then-bytes-lt6 : goal.returns-then-bytes-lt6
 returns-then-bytes-lt6 c =
-    let s = c in
-    (sym (wanted_short s.args.bytes.now c.if-bytes-lt6.true), c.if-bytes-lt6.true, omega arith)
+    (sym (wanted_short c.args.bytes.now c.if-bytes-lt6.true), c.if-bytes-lt6.true, omega arith)
 
 pub returns-then-bytes-header : goal.returns-then-bytes-header
 returns-then-bytes-header c =
-    let s = c in
-    let b : List ℕ = s.args.bytes.now in
+    let b : List ℕ = c.args.bytes.now in
     let size : c.header_length-header.result ≡ header_length b = c.header_length-header.ensures in
     let six : 6 ≤ length b = omega arith in
     let short : length b < header_length b = omega arith in
     let w = wanted_header b six short in
-    let f = wanted_few b s.requires in
+    let f = wanted_few b c.requires in
     (omega arith, omega arith, omega arith)
 
 pub request_length-requires : goal.request_length-requires
 request_length-requires c =
-    let s = c in
-    let b : List ℕ = s.args.bytes.now in
+    let b : List ℕ = c.args.bytes.now in
     let size : c.header_length-header.result ≡ header_length b = c.header_length-header.ensures in
     let six : 6 ≤ length b = omega arith in
-    long b (unfinished_held b s.requires) six (let x : header_length b ≤ length b = omega arith in x)
+    long b (unfinished_held b c.requires) six (let x : header_length b ≤ length b = omega arith in x)
 
 pub returns : goal.returns
 returns c =
-    let s = c in
-    let b : List ℕ = s.args.bytes.now in
+    let b : List ℕ = c.args.bytes.now in
     let size : c.header_length-header.result ≡ header_length b = c.header_length-header.ensures in
     let six : 6 ≤ length b = omega arith in
     let past : header_length b ≤ length b = omega arith in
     let w = wanted_body b six past in
-    let m = wanted_more b s.requires in
-    let f = wanted_few b s.requires in
+    let m = wanted_more b c.requires in
+    let f = wanted_few b c.requires in
     let r = c.request_length.ensures.0 in
     (omega arith, omega arith, omega arith)

@@ -1,15 +1,15 @@
-use borrow.Author.Tests.{eq-eqb, ne_eqb}
+use Rattle.judgement.proofs.StatusLaws.{refused_number, served_number}
 use Rattle.counters.specs.code.Counted.{served_for, event_of}
 use Rattle.counters.proofs.events.event_of.Goals as goal
 
-pub returns-then-status_number-ne0 : goal.returns-then-status_number-ne0
+pub returns-then-ne : goal.returns-then-ne
 unfolding event_of
-returns-then-status_number-ne0 c = rw (← c.status_number.ensures, ne_eqb _ _ c.if-status_number-ne0.true)
+returns-then-ne c = rw (refused_number _ c.if-ne.ensures)
 
-pub returns-in-Nobody : goal.returns-in-Nobody
+pub returns-in-None : goal.returns-in-None
 unfolding event_of served_for
-returns-in-Nobody c = rw (← c.status_number.ensures, eq-eqb _ _ c.if-status_number-ne0.false, c.in-Nobody.is)
+returns-in-None c = rw (served_number _ c.if-ne.ensures, c.in-None.is)
 
-pub returns-in-Named : goal.returns-in-Named
+pub returns-in-Some : goal.returns-in-Some
 unfolding event_of served_for
-returns-in-Named c = rw (← c.status_number.ensures, eq-eqb _ _ c.if-status_number-ne0.false, c.in-Named.is)
+returns-in-Some c = rw (served_number _ c.if-ne.ensures, c.in-Some.is)

@@ -1,12 +1,17 @@
+use Prim.Native.Nat.{max}
+use mathlib.Core.Path.{◌≡◌}
 use native.Mathlib.Omega.{arith}
+use lib.ListN.{get_or}
+use borrow.Author.Rules.{rules}
 use Rattle.counters.proofs.CountersLaws.{maximum_next, maximum_end}
 use Rattle.counters.proofs.limit.largest.Goals as goal
-use Rattle.counters.proofs.limit.largest.Goals.{then-most-counters, else-most-counters}
 
-pub loop-i-preserved : goal.loop-i-preserved
-loop-i-preserved c =
-    let next = maximum_next c.args.counters.now c.loop-i.i (omega arith) in
-    (omega arith, elim c.if-most-counters.branch [ then-most-counters w ↦ omega arith | else-most-counters w ↦ omega arith ])
+pub loop-counter-preserved : goal.loop-counter-preserved
+loop-counter-preserved c =
+    let i = c.loop-counter.counter-index in
+    let next = maximum_next c.args.counters.now i (omega arith) in
+    let more : c.max-most.result ≡ max c.loop-counter.most (get_or c.args.counters.now i 0) = search rules in
+    omega arith
 
 pub returns : goal.returns
-returns c = omega (arith, maximum_end c.args.counters.now c.loop-i.i c.loop-i-test.false)
+returns c = omega (arith, maximum_end c.args.counters.now c.loop-counter.counter-index c.loop-counter-test.false)

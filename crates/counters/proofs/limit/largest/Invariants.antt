@@ -1,11 +1,8 @@
-use Prim.Native.Nat.{◌≤◌, ◌-◌, max}
+use Prim.Native.Nat.{max}
 use mathlib.Core.Path.{◌≡◌}
-use lib.ListN.{length, drop}
+use lib.ListN.{drop}
 use Rattle.counters.specs.Counters.{maximum}
 use Rattle.counters.proofs.limit.largest.Given as goal
 
-abbrev pub invariant-loop-i : goal.invariant-loop-i
-invariant-loop-i l = (l.i ≤ length l.counters) × (max l.most (maximum (drop l.i l.counters)) ≡ maximum l.counters)
-
-abbrev pub decreases-loop-i : goal.decreases-loop-i
-decreases-loop-i l = length l.counters - l.i
+abbrev pub invariant-loop-counter : goal.invariant-loop-counter
+invariant-loop-counter l = max l.most (maximum (drop l.counter-index l.counters)) ≡ maximum l.counters

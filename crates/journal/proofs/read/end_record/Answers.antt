@@ -1,19 +1,29 @@
-use mathlib.Core.Path.{ap, ◌∙◌}
-use Prim.Native.Nat.{ℕ, ◌+◌}
+use mathlib.Core.Path.{sym, ap, ap₂, ◌∙◌}
+use mathlib.Core.List.{List}
+use Prim.Native.Nat.{ℕ}
+use Rattle.std.proofs.Common.{Result}
 use lib.ListN.{replicate}
-use Rattle.crc.specs.Crc.{all_ones}
-use Rattle.journal.specs.code.Done.{compact_with}
-use Rattle.journal.proofs.StepLaws.{record_bad, record_good}
+use Rattle.journal.specs.declared.Fault.{Fault}
+use Rattle.journal.specs.declared.Progress.{Progress}
+use Rattle.journal.specs.Compact.{Compact}
+use Rattle.journal.specs.code.Done.{fault_code, compact_with}
+use Rattle.journal.proofs.StepLaws.{ended_by, record_ended}
 use Rattle.journal.proofs.read.end_record.Goals as goal
 
-pub returns-then-fault-ne0 : goal.returns-then-fault-ne0
-returns-then-fault-ne0 c =
-    let cleared = c.clear.ensures ∙ ap (λ (n : ℕ). replicate n 0) c.requires.0 in
-    ap (compact_with c.judge-fault.new.registry (record { fault = c.judge-fault.result; kept = c.args.p.kept; count = 0; register = all_ones })) cleared
-    ∙ record_bad (compact_with c.args.registry.now c.args.p c.args.front.now) _ (record { fault = c.judge-fault.result; registry = c.judge-fault.new.registry }) c.judge-fault.ensures c.if-fault-ne0.true
+pub returns-in-Ok : goal.returns-in-Ok
+unfolding fault_code
+returns-in-Ok c =
+    let s : Compact = compact_with c.args.registry.now c.args.p c.args.front.now in
+    let registry : List ℕ = c.judge-judged.new.registry in
+    ap₂ (λ (p : Progress) (front : List ℕ). compact_with registry p front) c.between.ensures (c.clear.ensures ∙ ap (λ (n : ℕ). replicate n 0) c.requires.0)
+    ∙ ap (λ (t : Result (Unit {0}) Fault). ended_by s t registry) (sym c.in-Ok.is)
+    ∙ record_ended s _ (record { judged = c.judge-judged.result; registry = registry }) c.judge-judged.ensures
 
-pub returns : goal.returns
-returns c =
-    let cleared = c.clear.ensures ∙ ap (λ (n : ℕ). replicate n 0) c.requires.0 in
-    ap (compact_with c.judge-fault.new.registry (record { fault = 0; kept = c.args.p.kept + c.args.p.count; count = 0; register = all_ones })) cleared
-    ∙ record_good (compact_with c.args.registry.now c.args.p c.args.front.now) _ (record { fault = c.judge-fault.result; registry = c.judge-fault.new.registry }) c.judge-fault.ensures c.if-fault-ne0.false
+pub returns-in-Err : goal.returns-in-Err
+unfolding fault_code
+returns-in-Err c =
+    let s : Compact = compact_with c.args.registry.now c.args.p c.args.front.now in
+    let registry : List ℕ = c.judge-judged.new.registry in
+    ap₂ (λ (p : Progress) (front : List ℕ). compact_with registry p front) c.between-in-Err.ensures (c.clear.ensures ∙ ap (λ (n : ℕ). replicate n 0) c.requires.0)
+    ∙ ap (λ (t : Result (Unit {0}) Fault). ended_by s t registry) (sym c.in-Err.is)
+    ∙ record_ended s _ (record { judged = c.judge-judged.result; registry = registry }) c.judge-judged.ensures

@@ -1,5 +1,4 @@
 use mathlib.Core.Path.{◌≡◌}
-use Prim.Native.Nat.{◌-◌}
 use lib.ListN.{length}
 use Rattle.registry.specs.Registry.{registry_size}
 use Rattle.journal.specs.Compact.{front_most}
@@ -8,7 +7,6 @@ use Rattle.journal.proofs.ReadLaws.{Part}
 use Rattle.journal.proofs.read.read_on.Given as goal
 
 abbrev pub invariant-loop-i : goal.invariant-loop-i
-invariant-loop-i l = Part (compact_with l.initial.registry l.initial.p l.initial.front) l.chunk (compact_with l.registry l.p l.front) l.i × (length l.front ≡ front_most) × (length l.registry ≡ registry_size)
-
-abbrev pub decreases-loop-i : goal.decreases-loop-i
-decreases-loop-i l = length l.chunk - l.i
+invariant-loop-i l =
+    Part (compact_with l.initial.registry l.initial.progress l.initial.front) l.chunk (compact_with l.registry l.progress l.front) l.i
+    × (length l.front ≡ front_most) × (length l.registry ≡ registry_size)

@@ -1,29 +1,11 @@
-use Rattle.journal.proofs.OutcomeLaws.{say_border, say_waiting, say_crc, say_layout, say_other}
+use Rattle.journal.proofs.OutcomeLaws.{say_border, say_waiting, say_refused}
 use Rattle.journal.proofs.read.say.Goals as goal
 
-pub returns-then-p-eq0-2 : goal.returns-then-p-eq0-2
-returns-then-p-eq0-2 c =
-    let t = c in
-    say_border _ _ t.if-p-eq0.true c.if-p-eq0-2.true
+pub returns-in-Some : goal.returns-in-Some
+returns-in-Some c = rw c.in-Some.is (say_refused c.in-Some.fault c.args.p.count)
 
-pub returns-then-p-eq0 : goal.returns-then-p-eq0
-returns-then-p-eq0 c =
-    let t = c in
-    say_waiting _ _ t.if-p-eq0.true c.if-p-eq0-2.false
+pub returns-in-None : goal.returns-in-None
+returns-in-None c = rw c.in-None.is (say_border c.args.p.count c.if-p-eq0.true)
 
-pub returns-then-p-eq1 : goal.returns-then-p-eq1
-returns-then-p-eq1 c =
-    let e = c in
-    say_crc _ _ e.if-p-eq0.false c.if-p-eq1.true
-
-pub returns-then-p-eq2 : goal.returns-then-p-eq2
-returns-then-p-eq2 c =
-    let f = c in
-    let e = f in
-    say_layout _ _ e.if-p-eq0.false f.if-p-eq1.false c.if-p-eq2.true
-
-pub returns : goal.returns
-returns c =
-    let f = c in
-    let e = f in
-    say_other _ _ e.if-p-eq0.false f.if-p-eq1.false c.if-p-eq2.false
+pub returns-in-None-2 : goal.returns-in-None-2
+returns-in-None-2 c = rw c.in-None-2.is (say_waiting c.args.p.count c.if-p-eq0.false)

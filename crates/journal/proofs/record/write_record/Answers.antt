@@ -1,7 +1,6 @@
 use Prim.Native.Nat.{ℕ, ◌<◌}
 use mathlib.Core.Path.{◌≡◌, ap, subst}
 use mathlib.Core.List.{List}
-use native.Mathlib.Nat.{add-sub_cancel_left}
 use native.Mathlib.Omega.{arith}
 use lib.ListN.{length, length-take}
 use Rattle.wire.specs.code.Wrote.{Wrote}
@@ -26,17 +25,11 @@ fills n is safe = (subst (SafeEdit n) is safe).1
 clears : (n : ℕ) {e : Edit} {slot : Slot} → e ≡ Clears slot → SafeEdit n e → slot.0 < slot_count
 clears n is safe = subst (SafeEdit n) is safe
 
-pub overflow_add-b : goal.overflow_add-b
-overflow_add-b c = omega (arith, (fills _ c.in-Fills.is c.requires.2).within.0)
+pub of-requires : goal.of-requires
+of-requires c = (fills _ c.in-Fills.is c.requires.2).within.0
 
-pub overflow_add-f : goal.overflow_add-f
-overflow_add-f c = omega (arith, (fills _ c.in-Fills.is c.requires.2).within.1)
-
-pub slice_bounds-write_import-end : goal.slice_bounds-write_import-end
-slice_bounds-write_import-end c = (fills _ c.in-Fills.is c.requires.2).within.0
-
-pub slice_bounds-write_import-end-in-Fills : goal.slice_bounds-write_import-end-in-Fills
-slice_bounds-write_import-end-in-Fills c = (fills _ c.in-Fills.is c.requires.2).within.1
+pub of-requires-in-Fills : goal.of-requires-in-Fills
+of-requires-in-Fills c = (fills _ c.in-Fills.is c.requires.2).within.1
 
 pub overflow_cast-key : goal.overflow_cast-key
 overflow_cast-key c = omega (arith, (fills _ c.in-Fills.is c.requires.2).bits)
@@ -44,7 +37,7 @@ overflow_cast-key c = omega (arith, (fills _ c.in-Fills.is c.requires.2).bits)
 pub write_import-requires : goal.write_import-requires
 write_import-requires c =
     let f = fills _ c.in-Fills.is c.requires.2 in
-    (c.requires.1, rw (add-sub_cancel_left, length-take) (omega (arith, f.name)), rw (add-sub_cancel_left, length-take) (omega (arith, f.bytes)), c.requires.3)
+    (c.requires.1, rw (c.of.ensures, length-take) (omega (arith, f.name)), rw (c.of-in-Fills.ensures, length-take) (omega (arith, f.bytes)), c.requires.3)
 
 pub name_there-requires : goal.name_there-requires
 name_there-requires c =
@@ -60,8 +53,7 @@ returns-in-Stays c = rw c.in-Stays.is (wrote_none c.args.out.now)
 
 pub returns-in-Fills : goal.returns-in-Fills
 unfolding change_of act_of_change record_for
-returns-in-Fills c =
-    rw c.in-Fills.is (simp add-sub_cancel_left at c.write_import.ensures)
+returns-in-Fills c = rw c.in-Fills.is (rw (c.of.ensures, c.of-in-Fills.ensures) at c.write_import.ensures)
 
 pub returns-in-Clears : goal.returns-in-Clears
 unfolding change_of act_of_change record_for

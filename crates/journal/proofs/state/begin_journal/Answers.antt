@@ -1,15 +1,17 @@
+use mathlib.Core.Path.{ap, ◌∙◌}
+use Rattle.journal.specs.Memory.{front_at, state_bytes}
+use Rattle.journal.specs.declared.Progress.{Progress}
+use Rattle.journal.specs.code.Done.{compact_with}
+use mathlib.Core.List.{[]}
+use lib.ListN.{drop}
 use Rattle.journal.proofs.StateLaws.{begun_not, begun_fresh}
 use Rattle.journal.proofs.state.begin_journal.Goals as goal
 
 pub returns-then-state-ne-STATE_SIZE : goal.returns-then-state-ne-STATE_SIZE
 returns-then-state-ne-STATE_SIZE c =
-    let s = c in
-    begun_not s.args.state.now c.if-state-ne-STATE_SIZE.true
+    begun_not c.args.state.now c.if-state-ne-STATE_SIZE.true
 
 pub returns : goal.returns
 returns c =
-    let w = c in
-    let k = w in
-    let l = k in
-    let s = l in
-    begun_fresh s.args.state.now _ _ l.if-state-ne-STATE_SIZE.false k.clear.ensures w.store.ensures
+    begun_fresh c.args.state.now c.clear.new.dst _ c.if-state-ne-STATE_SIZE.false c.clear.ensures
+    (c.store.ensures ∙ ap (λ (p : Progress). state_bytes (compact_with [] p (drop front_at c.clear.new.dst))) c.between.ensures)

@@ -1,9 +1,10 @@
+use mathlib.Core.Path.{◌∙◌}
 use Rattle.journal.proofs.StateLaws.{stored}
 use Rattle.journal.proofs.state.store.Goals as goal
 
 pub returns : goal.returns
 returns c =
-    let w = c in
-    let h = w in
-    let s = h in
-    stored s.args.p s.args.state.now _ _ h.head_of-head.ensures w.copy_into.ensures
+    stored c.args.p c.args.state.now _ _ _ _ c.requires c.fault_code.ensures
+    (c.copy_from_slice.ensures.after ∙ c.bytes_of_u64.ensures)
+    (c.copy_from_slice-2.ensures.after ∙ c.bytes_of_u64-2.ensures)
+    (c.copy_from_slice-3.ensures.after ∙ c.bytes_of_u32.ensures)

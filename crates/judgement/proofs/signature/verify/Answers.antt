@@ -62,4 +62,4 @@ returns c body =
     let somewhere = c.in_default.not-Nothing in
     rw (c.counted.ensures, verified_by_lem s.registry.now s.list.now s.line s.name.now _ at (legal w) somewhere s.hash.now s.signature.now, ← c.is_verifiable-allowed.ensures, ← c.key_bits-bits.ensures, ← c.key_bytes-key.ensures)
     (counting s.registry.now s.list.now s.line s.name.now _ at (legal w) somewhere body _
-    (c.verify_with-d.ensures (slots_of s.registry.now s.line) s.list.now body))
+    (c.verify_with.ensures (slots_of s.registry.now s.line) s.list.now body))

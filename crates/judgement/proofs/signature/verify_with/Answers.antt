@@ -23,5 +23,5 @@ returns-then-not-are_import_bits c slots list body =
 pub returns : goal.returns
 returns c slots list body =
     let key = key_from [] c.args.key.now c.args.bits false c.args.allowed in
-    rw (verifying c.args.hash.now c.args.signature.now key c.if-not-allowed.false c.if-hash-ne-HASH_SIZE.false (sym c.are_import_bits.ensures ∙ c.if-not-are_import_bits.false), ← c.verify-verification.ensures)
+    rw (verifying c.args.hash.now c.args.signature.now key c.if-not-allowed.false c.if-hash-ne-HASH_SIZE.false (sym c.are_import_bits.ensures ∙ c.if-not-are_import_bits.false), ← c.verify.ensures)
     (c.judge_outcome.ensures slots list body)

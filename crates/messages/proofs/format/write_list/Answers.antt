@@ -5,7 +5,7 @@ use Rattle.messages.proofs.format.write_list.Goals as goal
 
 pub returns-in-Protobuf : goal.returns-in-Protobuf
 returns-in-Protobuf c =
-    let w = c.write_bytes_field.ensures in
+    let w = rw c.from.ensures at c.write_bytes_field.ensures in
     rw (c.in-Protobuf.is, list_field _ _ c.requires.0) (w, omega (arith, bytes_short _ _ w))
 
 pub returns-in-Tagged : goal.returns-in-Tagged

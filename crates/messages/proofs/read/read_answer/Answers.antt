@@ -1,24 +1,27 @@
-use mathlib.Core.Path.{sym, ◌∙◌}
+use Rattle.std.proofs.Common.{refl, ◌∙◌, sym}
+use native.Mathlib.Omega.{arith}
+use mathlib.Core.List.{[], ◌∷◌}
+use Rattle.messages.specs.Message.{uint32, number_of, value_at}
 use Rattle.messages.specs.Formats.{format_of}
-use Rattle.messages.proofs.PlacedLaws.{with_status_0, with_status_7, with_no_body, with_a_body}
+use Rattle.messages.specs.Operations.{offset, offset_of}
+use Rattle.messages.proofs.PlacedLaws.{body_broken, body_made, with_status_7}
 use Rattle.messages.proofs.read.read_answer.Goals as goal
 
-pub returns-then-status-eq0 : goal.returns-then-status-eq0
-returns-then-status-eq0 c =
+pub returns-in_err-m-in-7 : goal.returns-in_err-m-in-7
+unfolding offset_of
+returns-in_err-m-in-7 c =
     let a = c.args in
-    (c.read_output.ensures.0 ∙ sym (with_status_0 (format_of a.format) a.opcode a.status a.body.now c.if-status-eq0.true), c.read_output.ensures.1)
+    rw c.from_residual.ensures (
+      body_broken (format_of a.format) (uint32 ∷ []) a.body.now (λ m. offset (number_of (value_at m 1))) c.read_fields.result (c.read_fields.ensures.0 (uint32 ∷ []) refl (omega arith) tt) c.in_err-m-in-7.ensures.value
+          ∙ sym (with_status_7 (format_of a.format) a.opcode a.status a.body.now c.in-7.is),
+      tt,
+    )
 
-pub returns-then-status-eq7 : goal.returns-then-status-eq7
-returns-then-status-eq7 c =
-    let a = c.args in
-    (c.read_offset.ensures.0 ∙ sym (with_status_7 (format_of a.format) a.opcode a.status a.body.now c.if-status-eq7.true), c.read_offset.ensures.1)
-
-pub returns-then-body-eq0 : goal.returns-then-body-eq0
-returns-then-body-eq0 c =
-    let a = c.args in
-    (sym (with_no_body (format_of a.format) a.opcode a.status a.body.now c.if-status-eq0.false c.if-status-eq7.false c.if-body-eq0.true), tt)
-
-pub returns : goal.returns
-returns c =
-    let a = c.args in
-    (sym (with_a_body (format_of a.format) a.opcode a.status a.body.now c.if-status-eq0.false c.if-status-eq7.false c.if-body-eq0.false), tt)
+pub returns-in_ok-m-in-7 : goal.returns-in_ok-m-in-7
+unfolding offset_of
+returns-in_ok-m-in-7 c =
+    let a = c.args in (
+      body_made (format_of a.format) (uint32 ∷ []) a.body.now (λ m. offset (number_of (value_at m 1))) c.read_fields.result (c.read_fields.ensures.0 (uint32 ∷ []) refl (omega arith) tt) c.in_ok-m-in-7.m c.in_ok-m-in-7.ensures.value
+          ∙ sym (with_status_7 (format_of a.format) a.opcode a.status a.body.now c.in-7.is),
+      tt,
+    )

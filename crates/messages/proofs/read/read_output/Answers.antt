@@ -1,83 +1,104 @@
-use mathlib.Core.Path.{sym, ap, subst, ◌∙◌}
-use mathlib.Core.List.{List}
-use Prim.Native.Nat.{ℕ}
-use lib.ListN.{length}
-use Rattle.messages.specs.Message.{Message, numbers_of, value_at}
+use Rattle.std.proofs.Common.{◌≡◌, ℕ, refl, sym, ◌∙◌}
+use native.Mathlib.Omega.{arith}
+use mathlib.Core.List.{List, [], ◌∷◌}
+use Rattle.messages.specs.Message.{Message, uint32, bytes, number_of, octets_of, numbers_of, value_at}
 use Rattle.messages.specs.Formats.{format_of}
-use Rattle.messages.specs.Operations.{providers, opcodes}
-use Rattle.messages.specs.code.ListBody.{list_schema, entries_in, ListWithin}
-use Rattle.messages.proofs.PlacedLaws.{body_then, of_ping_lem, of_list_providers_lem, of_list_opcodes_lem, of_import_lem, of_destroy_lem, of_export_lem, of_verify_lem, of_other}
+use Rattle.messages.specs.Operations.{version, exported, nothing, providers, opcodes, read_body, output_of}
+use Rattle.messages.specs.code.ListBody.{list_schema}
+use Rattle.messages.proofs.PlacedLaws.{body_then, body_broken, body_made, values_in, of_ping_lem, of_list_providers_lem, of_list_opcodes_lem, of_nothing, of_export_lem, of_other}
 use Rattle.messages.proofs.read.read_output.Goals as goal
+use Rattle.messages.proofs.read.read_output.Goals.{in-3-1, in_default+else-this-lt5+then-this-lt7}
 
 abbrev list : Message → List ℕ
 list m = numbers_of (value_at m 1)
 
-pub returns-then-opcode-eq-PING : goal.returns-then-opcode-eq-PING
-returns-then-opcode-eq-PING c =
+pub returns-in_err-m-in-1 : goal.returns-in_err-m-in-1
+returns-in_err-m-in-1 c =
     let a = c.args in
-    (c.read_version.ensures.0 ∙ sym (of_ping_lem (format_of a.format) a.opcode a.body.now c.if-opcode-eq-PING.true), c.read_version.ensures.1)
-
-pub returns-in-List : goal.returns-in-List
-returns-in-List c =
-    let r = c in
-    let a = r.args in
-    let e = c.in-List.is in (
-      body_then (format_of a.format) list_schema a.body.now list providers _ (ap (entries_in a.format a.body.now) (sym e) ∙ r.read_list_body.ensures.0)
-          ∙ sym (of_list_providers_lem (format_of a.format) a.opcode a.body.now r.if-opcode-eq-LIST_PROVIDERS.true),
-      subst (ListWithin (length a.body.now)) e r.read_list_body.ensures.1,
-    )
-
-pub returns-in-Unreadable : goal.returns-in-Unreadable
-returns-in-Unreadable c =
-    let r = c in
-    let a = r.args in (
-      body_then (format_of a.format) list_schema a.body.now list providers _ (ap (entries_in a.format a.body.now) (sym c.in-Unreadable.is) ∙ r.read_list_body.ensures.0)
-          ∙ sym (of_list_providers_lem (format_of a.format) a.opcode a.body.now r.if-opcode-eq-LIST_PROVIDERS.true),
+    rw c.from_residual.ensures (
+      body_broken (format_of a.format) (uint32 ∷ uint32 ∷ []) a.body.now (λ m. version (number_of (value_at m 1)) (number_of (value_at m 2))) c.read_fields.result (c.read_fields.ensures.0 (uint32 ∷ uint32 ∷ []) refl (omega arith) tt) c.in_err-m-in-1.ensures.value
+          ∙ sym (of_ping_lem (format_of a.format) a.opcode a.body.now c.in-1.is),
       tt,
     )
 
-pub returns-in-List-read_list_body : goal.returns-in-List-read_list_body
-returns-in-List-read_list_body c =
-    let r = c in
-    let a = r.args in
-    let e = c.in-List-read_list_body.is in (
-      body_then (format_of a.format) list_schema a.body.now list opcodes _ (ap (entries_in a.format a.body.now) (sym e) ∙ r.read_list_body-then-opcode-eq-LIST_OPCODES.ensures.0)
-          ∙ sym (of_list_opcodes_lem (format_of a.format) a.opcode a.body.now r.if-opcode-eq-LIST_OPCODES.true),
-      subst (ListWithin (length a.body.now)) e r.read_list_body-then-opcode-eq-LIST_OPCODES.ensures.1,
-    )
-
-pub returns-in-Unreadable-read_list_body : goal.returns-in-Unreadable-read_list_body
-returns-in-Unreadable-read_list_body c =
-    let r = c in
-    let a = r.args in (
-      body_then (format_of a.format) list_schema a.body.now list opcodes _ (ap (entries_in a.format a.body.now) (sym c.in-Unreadable-read_list_body.is) ∙ r.read_list_body-then-opcode-eq-LIST_OPCODES.ensures.0)
-          ∙ sym (of_list_opcodes_lem (format_of a.format) a.opcode a.body.now r.if-opcode-eq-LIST_OPCODES.true),
+pub returns-in_ok-m-in-1 : goal.returns-in_ok-m-in-1
+returns-in_ok-m-in-1 c =
+    let a = c.args in (
+      body_made (format_of a.format) (uint32 ∷ uint32 ∷ []) a.body.now (λ m. version (number_of (value_at m 1)) (number_of (value_at m 2))) c.read_fields.result (c.read_fields.ensures.0 (uint32 ∷ uint32 ∷ []) refl (omega arith) tt) c.in_ok-m-in-1.m c.in_ok-m-in-1.ensures.value
+          ∙ sym (of_ping_lem (format_of a.format) a.opcode a.body.now c.in-1.is),
       tt,
     )
 
-pub returns-then-opcode-eq-PSA_IMPORT_KEY : goal.returns-then-opcode-eq-PSA_IMPORT_KEY
-returns-then-opcode-eq-PSA_IMPORT_KEY c =
+pub returns-in_err-read_list_body-in-8 : goal.returns-in_err-read_list_body-in-8
+returns-in_err-read_list_body-in-8 c =
     let a = c.args in
-    (c.read_nothing.ensures.0 ∙ sym (of_import_lem (format_of a.format) a.opcode a.body.now c.if-opcode-eq-PSA_IMPORT_KEY.true), c.read_nothing.ensures.1)
+    rw c.from_residual-in_err-read_list_body-in-8.ensures
+    (body_then (format_of a.format) list_schema a.body.now list providers _ c.in_err-read_list_body-in-8.ensures.0 ∙ sym (of_list_providers_lem (format_of a.format) a.opcode a.body.now c.in-8.is), tt)
 
-pub returns-then-opcode-eq-PSA_DESTROY_KEY : goal.returns-then-opcode-eq-PSA_DESTROY_KEY
-returns-then-opcode-eq-PSA_DESTROY_KEY c =
+pub returns-in_ok-read_list_body-in-8 : goal.returns-in_ok-read_list_body-in-8
+returns-in_ok-read_list_body-in-8 c =
     let a = c.args in
-    (c.read_nothing-then-opcode-eq-PSA_DESTROY_KEY.ensures.0 ∙ sym (of_destroy_lem (format_of a.format) a.opcode a.body.now c.if-opcode-eq-PSA_DESTROY_KEY.true), c.read_nothing-then-opcode-eq-PSA_DESTROY_KEY.ensures.1)
+    let v = c.in_ok-read_list_body-in-8 in
+    (body_then (format_of a.format) list_schema a.body.now list providers _ v.ensures.0 ∙ sym (of_list_providers_lem (format_of a.format) a.opcode a.body.now c.in-8.is), v.ensures.1)
 
-pub returns-then-opcode-eq-PSA_EXPORT_PUBLIC_KEY : goal.returns-then-opcode-eq-PSA_EXPORT_PUBLIC_KEY
-returns-then-opcode-eq-PSA_EXPORT_PUBLIC_KEY c =
+pub returns-in_err-read_list_body-in-9 : goal.returns-in_err-read_list_body-in-9
+returns-in_err-read_list_body-in-9 c =
     let a = c.args in
-    (c.read_data.ensures.0 ∙ sym (of_export_lem (format_of a.format) a.opcode a.body.now c.if-opcode-eq-PSA_EXPORT_PUBLIC_KEY.true), c.read_data.ensures.1)
+    rw c.from_residual-in_err-read_list_body-in-9.ensures
+    (body_then (format_of a.format) list_schema a.body.now list opcodes _ c.in_err-read_list_body-in-9.ensures.0 ∙ sym (of_list_opcodes_lem (format_of a.format) a.opcode a.body.now c.in-9.is), tt)
 
-pub returns-then-opcode-eq-PSA_ASYMMETRIC_VERIFY : goal.returns-then-opcode-eq-PSA_ASYMMETRIC_VERIFY
-returns-then-opcode-eq-PSA_ASYMMETRIC_VERIFY c =
+pub returns-in_ok-read_list_body-in-9 : goal.returns-in_ok-read_list_body-in-9
+returns-in_ok-read_list_body-in-9 c =
     let a = c.args in
-    (c.read_nothing-then-opcode-eq-PSA_ASYMMETRIC_VERIFY.ensures.0 ∙ sym (of_verify_lem (format_of a.format) a.opcode a.body.now c.if-opcode-eq-PSA_ASYMMETRIC_VERIFY.true), c.read_nothing-then-opcode-eq-PSA_ASYMMETRIC_VERIFY.ensures.1)
+    let v = c.in_ok-read_list_body-in-9 in
+    (body_then (format_of a.format) list_schema a.body.now list opcodes _ v.ensures.0 ∙ sym (of_list_opcodes_lem (format_of a.format) a.opcode a.body.now c.in-9.is), v.ensures.1)
 
-pub returns : goal.returns
-returns c =
-    let d = c in
-    let e = d in
-    let a = e.args in
-    (sym (of_other (format_of a.format) a.opcode a.body.now e.if-opcode-eq-PING.false e.if-opcode-eq-LIST_PROVIDERS.false d.if-opcode-eq-LIST_OPCODES.false d.if-opcode-eq-PSA_IMPORT_KEY.false c.if-opcode-eq-PSA_DESTROY_KEY.false c.if-opcode-eq-PSA_EXPORT_PUBLIC_KEY.false c.if-opcode-eq-PSA_ASYMMETRIC_VERIFY.false), tt)
+pub returns-in_err-m-in-7 : goal.returns-in_err-m-in-7
+returns-in_err-m-in-7 c =
+    let a = c.args in
+    rw c.from_residual-in_err-m-in-7.ensures (
+      body_broken (format_of a.format) (bytes ∷ []) a.body.now (λ m. exported (octets_of (value_at m 1))) c.read_fields-in-7.result (c.read_fields-in-7.ensures.0 (bytes ∷ []) refl (omega arith) tt) c.in_err-m-in-7.ensures.value
+          ∙ sym (of_export_lem (format_of a.format) a.opcode a.body.now c.in-7.is),
+      tt,
+    )
+
+pub returns-in_ok-m-in-7 : goal.returns-in_ok-m-in-7
+returns-in_ok-m-in-7 c =
+    let a = c.args in
+    let v = c.in_ok-m-in-7 in
+    rw c.span_of.ensures (
+      body_made (format_of a.format) (bytes ∷ []) a.body.now (λ m. exported (octets_of (value_at m 1))) c.read_fields-in-7.result (c.read_fields-in-7.ensures.0 (bytes ∷ []) refl (omega arith) tt) v.m v.ensures.value
+          ∙ sym (of_export_lem (format_of a.format) a.opcode a.body.now c.in-7.is),
+      (values_in _ _ v.m c.read_fields-in-7.ensures.1 v.ensures.value).in1,
+    )
+
+pub returns-in_err-ok-in-6 : goal.returns-in_err-ok-in-6
+returns-in_err-ok-in-6 c =
+    let a = c.args in
+    let is : output_of (format_of a.format) a.opcode a.body.now ≡ read_body (format_of a.format) [] a.body.now (λ m. nothing) =
+    elim c.in-6-1.branch [
+      | in-3-1 w ↦ of_nothing _ _ _ (omega arith) (omega arith) (λ z. omega arith)
+      | in_default+else-this-lt5+then-this-lt7 w ↦ of_nothing _ _ _ (omega arith) (omega arith) (λ z. omega arith)
+    ] in
+    rw c.from_residual-in_err-ok-in-6.ensures
+    (body_broken (format_of a.format) [] a.body.now (λ m. nothing) c.read_fields-in-6.result (c.read_fields-in-6.ensures.0 [] refl (omega arith) tt) c.in_err-ok-in-6.ensures.value ∙ sym is, tt)
+
+pub returns-in_ok-ok-in-6 : goal.returns-in_ok-ok-in-6
+returns-in_ok-ok-in-6 c =
+    let a = c.args in
+    let is : output_of (format_of a.format) a.opcode a.body.now ≡ read_body (format_of a.format) [] a.body.now (λ m. nothing) =
+    elim c.in-6-1.branch [
+      | in-3-1 w ↦ of_nothing _ _ _ (omega arith) (omega arith) (λ z. omega arith)
+      | in_default+else-this-lt5+then-this-lt7 w ↦ of_nothing _ _ _ (omega arith) (omega arith) (λ z. omega arith)
+    ] in
+    (body_made (format_of a.format) [] a.body.now (λ m. nothing) c.read_fields-in-6.result (c.read_fields-in-6.ensures.0 [] refl (omega arith) tt) c.in_ok-ok-in-6.field-0 c.in_ok-ok-in-6.ensures.value ∙ sym is, tt)
+
+pub returns-in_default : goal.returns-in_default
+returns-in_default c =
+    let a = c.args in
+    (sym (of_other (format_of a.format) a.opcode a.body.now (λ z. omega arith) (λ z. omega arith) (λ z. omega arith) (λ z. omega arith) (λ z. omega arith) (λ z. omega arith) (λ z. omega arith)), tt)
+
+pub returns-in_default-2 : goal.returns-in_default-2
+returns-in_default-2 c =
+    let a = c.args in
+    (sym (of_other (format_of a.format) a.opcode a.body.now (λ z. omega arith) (λ z. omega arith) (λ z. omega arith) (λ z. omega arith) (λ z. omega arith) (λ z. omega arith) (λ z. omega arith)), tt)

@@ -1,25 +1,17 @@
-use mathlib.Core.Path.{sym, ◌∙◌}
+use Rattle.std.proofs.Common.{sym, ◌∙◌}
 use native.Mathlib.Omega.{arith}
-use Rattle.messages.proofs.PackedLaws.{listing_none, listing_size, listing_on, listing_full, listing_end, listing_cut}
+use Rattle.messages.proofs.PackedLaws.{listing_none, listing_on, listing_full, listing_out}
 use Rattle.messages.proofs.read.read_packed.Goals as goal
 
 pub loop-count-init : goal.loop-count-init
 loop-count-init c = listing_none _ _
 
-pub returns-then-packed-at : goal.returns-then-packed-at
-returns-then-packed-at c = listing_end _ c.loop-count.invariant c.if-packed-at.true
-
 pub returns-in_default : goal.returns-in_default
-returns-in_default c = listing_cut _ c.loop-count.invariant c.if-packed-at.false (sym c.read_varint.ensures ∙ c.in_default.is)
-
-pub loop-count-smaller : goal.loop-count-smaller
-loop-count-smaller c = let size = listing_size _ c.loop-count.invariant in omega arith
+returns-in_default c = listing_out _ c.loop-count.invariant (sym c.read_varint.ensures ∙ c.in_default.is)
 
 pub loop-count-preserved : goal.loop-count-preserved
 loop-count-preserved c =
-    let l = c.loop-count in
-    let size = listing_size _ l.invariant in
-    listing_on _ l.invariant c.in-Read.value c.in-Read.next (omega arith) c.if-packed-at.false (sym c.read_varint.ensures ∙ c.in-Read.is)
+    listing_on _ c.loop-count.invariant c.in-Some.value c.in-Some.next c.loop-count-test.true (sym c.read_varint.ensures ∙ c.in-Some.is)
 
 pub returns : goal.returns
-returns c = let size = listing_size _ c.loop-count.invariant in listing_full _ c.loop-count.invariant (omega arith)
+returns c = listing_full _ c.loop-count.invariant (omega arith)

@@ -8,10 +8,10 @@ use Rattle.wire.proofs.BufferLaws.{wrote_none, wrote_on}
 use Rattle.messages.proofs.TaggedLaws.{list_length, tagged_field_lem, tagged_none}
 use Rattle.messages.proofs.tagged.write_tagged_list.Goals as goal
 
-pub returns-then-len-lt1 : goal.returns-then-len-lt1
-returns-then-len-lt1 c =
+pub returns-then-len-eq0 : goal.returns-then-len-eq0
+returns-then-len-eq0 c =
     let s = c.args in
-    let none : length (flat_map (little_endian_of 4) s.list.now) ≡ 0 = omega (arith, list_length s.list.now, c.if-len-lt1.true) in
+    let none : length (flat_map (little_endian_of 4) s.list.now) ≡ 0 = omega (arith, list_length s.list.now, c.if-len-eq0.true) in
     rw (tagged_none s.number (flat_map (little_endian_of 4) s.list.now) none) (wrote_none s.out.now)
 
 pub overflow_add-result : goal.overflow_add-result
@@ -21,10 +21,8 @@ overflow_add-result c =
 
 pub returns : goal.returns
 returns c =
-    let k = c in
-    let l = k in
-    let s = l.args in
+    let s = c.args in
     let long = list_length s.list.now in
-    let some : 1 ≤ length (flat_map (little_endian_of 4) s.list.now) = omega (arith, long, l.if-len-lt1.false) in
+    let some : 1 ≤ length (flat_map (little_endian_of 4) s.list.now) = omega (arith, long, c.if-len-eq0.false) in
     rw (tagged_field_lem s.number (flat_map (little_endian_of 4) s.list.now) some, long)
-    (wrote_on (rw k.record_head-head.ensures at k.copy_into-start.ensures) c.write_entries-size.ensures)
+    (wrote_on (rw c.record_head-head.ensures at c.copy_into-start.ensures) c.write_entries-size.ensures)

@@ -5,13 +5,11 @@ use Rattle.messages.proofs.write.verify_body_size.Goals as goal
 
 pub returns : goal.returns
 returns c =
-    let second = c in
-    let first = second in
-    let a = first.args in
+    let a = c.args in
     omega (
       arith,
       verify_body_length a.format a.name.now a.hash.now a.signature.now,
-      first.bytes_size-name_size.ensures.0 a.name.now refl,
-      second.bytes_size-hash_size.ensures.0 a.hash.now refl,
+      c.bytes_size-name_size.ensures.0 a.name.now refl,
+      c.bytes_size-hash_size.ensures.0 a.hash.now refl,
       c.bytes_size-signature_size.ensures.0 a.signature.now refl,
     )

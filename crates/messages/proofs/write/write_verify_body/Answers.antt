@@ -3,8 +3,4 @@ use Rattle.messages.proofs.WriteLaws.{verify_body}
 use Rattle.messages.proofs.write.write_verify_body.Goals as goal
 
 pub returns : goal.returns
-returns c =
-    let third = c in
-    let second = third in
-    let first = second in
-    rw verify_body (wrote_on (wrote_on first.write_bytes-name_size.ensures.0 second.write_bytes-hash_size.ensures.0) third.write_bytes-signature_size.ensures.0)
+returns c = rw verify_body (wrote_on (wrote_on c.write_bytes-name_size.ensures.0 c.write_bytes-hash_size.ensures.0) c.write_bytes-signature_size.ensures.0)

@@ -3,7 +3,4 @@ use Rattle.messages.proofs.WriteLaws.{version_body}
 use Rattle.messages.proofs.write.write_version_body.Goals as goal
 
 pub returns : goal.returns
-returns c =
-    let second = c in
-    let first = second in
-    rw version_body (wrote_on first.write_number-first.ensures.0 second.write_number-second.ensures.0)
+returns c = rw version_body (wrote_on c.write_number-first.ensures.0 c.write_number-second.ensures.0)

@@ -7,7 +7,7 @@ abbrev pub decreases-skip_within : goal.decreases-skip_within
 decreases-skip_within l = l.depth
 
 abbrev pub invariant-loop-p : goal.invariant-loop-p
-invariant-loop-p l = group_at l.depth l.s l.number l.p ≡ group_at l.depth l.s l.number l.at
+invariant-loop-p l = group_at l.depth l.body l.number l.p ≡ group_at l.depth l.body l.number l.at
 
 abbrev pub decreases-loop-p : goal.decreases-loop-p
-decreases-loop-p l = length l.s - l.p
+decreases-loop-p l = length l.body - l.p

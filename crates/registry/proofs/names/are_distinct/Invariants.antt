@@ -1,12 +1,12 @@
-use Rattle.registry.specs.Names.{distinct}
-use Rattle.registry.specs.code.Check.{block_names}
-use mathlib.Core.Path.{◌≡◌}
-use Prim.Native.Nat.{◌-◌, ◌≤◌}
-use lib.ListN.{drop}
+use Rattle.std.proofs.Common.{◌≡◌, ℕ, ◌*◌, length, map}
+use Rattle.wire.specs.Lists.{blocks}
+use Rattle.registry.specs.Names.{name_in, distinct}
 use Rattle.registry.proofs.names.are_distinct.Given as goal
 
-abbrev pub invariant-loop-i : goal.invariant-loop-i
-invariant-loop-i l = (l.i ≤ l.count) × (distinct (block_names l.head l.size l.count l.s) ≡ distinct (drop l.i (block_names l.head l.size l.count l.s)))
+-- the names of what is left decide
+abbrev pub invariant-loop-block : goal.invariant-loop-block
+invariant-loop-block l = (count : ℕ) → length l.bytes ≡ count * l.size
+    → (n : ℕ) × (length l.rest ≡ n * l.size) × (distinct (map name_in (blocks count l.size l.bytes)) ≡ distinct (map name_in (blocks n l.size l.rest)))
 
-abbrev pub decreases-loop-i : goal.decreases-loop-i
-decreases-loop-i l = l.count - l.i
+abbrev pub decreases-loop-block : goal.decreases-loop-block
+decreases-loop-block l = length l.rest

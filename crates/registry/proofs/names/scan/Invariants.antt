@@ -1,19 +1,19 @@
-use Rattle.wire.specs.Lists.{same}
-use Rattle.registry.specs.Names.{name_in, index_from}
-use Rattle.registry.specs.code.Check.{block_names}
-use mathlib.Core.Path.{◌≡◌}
-use Prim.Native.Nat.{◌+◌, ◌-◌, ◌≤◌}
-use lib.ListN.{length, take, drop}
+use Rattle.std.proofs.Common.{◌≡◌, ℕ, ◌+◌, ◌*◌, ◌≤◌, length, drop, option_map}
+use Rattle.std.specs.List.{position}
+use Rattle.wire.specs.Lists.{same, blocks}
+use Rattle.registry.specs.Names.{name_in}
+use Rattle.registry.proofs.PlaceLaws.{has}
 use Rattle.registry.proofs.names.scan.Given as goal
 
+-- what is left of the two names decides
 abbrev pub invariant-loop-k : goal.invariant-loop-k
-invariant-loop-k l = (l.k ≤ length l.name) × (same l.name (name_in (take l.size (drop l.at l.s))) ≡ same (drop l.k l.name) (take (l.begin + length l.name - (l.begin + l.k)) (drop (l.begin + l.k) l.s)))
+invariant-loop-k l = has l.name l.block ≡ same (drop l.k l.name) (drop l.k (name_in l.block))
 
-abbrev pub decreases-loop-k : goal.decreases-loop-k
-decreases-loop-k l = length l.name - l.k
-
+-- the blocks that are left decide
 abbrev pub invariant-scan : goal.invariant-scan
-invariant-scan l = (l.next ≤ l.count) × (index_from l.name (drop l.from (block_names l.head l.size l.count l.s)) l.from ≡ index_from l.name (drop l.next (block_names l.head l.size l.count l.s)) l.next)
+invariant-scan l = (l.next + length l.rest ≤ length l.bytes)
+    × ((count : ℕ) → length l.bytes ≡ count * l.size
+    → (n : ℕ) × (length l.rest ≡ n * l.size) × (position (has l.name) (blocks count l.size l.bytes) ≡ option_map (λ k. l.next + k) (position (has l.name) (blocks n l.size l.rest))))
 
 abbrev pub decreases-scan : goal.decreases-scan
-decreases-scan l = l.count - l.next
+decreases-scan l = length l.rest

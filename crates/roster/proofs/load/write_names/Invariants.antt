@@ -1,4 +1,3 @@
-use Prim.Native.Nat.{◌-◌, ◌≤◌}
 use mathlib.Core.Path.{◌≡◌}
 use lib.ListN.{length}
 use Rattle.wire.specs.Lists.{over}
@@ -7,7 +6,4 @@ use Rattle.roster.proofs.LoadLaws.{lines_of}
 use Rattle.roster.proofs.load.write_names.Given as goal
 
 abbrev pub invariant-loop-i : goal.invariant-loop-i
-invariant-loop-i l = (l.i ≤ l.names.count) × ((l.registry ≡ over (lines_of (names_at l.file l.names) l.i) l.initial.registry) × (length l.registry ≡ length l.initial.registry))
-
-abbrev pub decreases-loop-i : goal.decreases-loop-i
-decreases-loop-i l = l.names.count - l.i
+invariant-loop-i l = (l.registry ≡ over (lines_of (names_at l.file l.names) l.i) l.initial.registry) × (length l.registry ≡ length l.initial.registry)

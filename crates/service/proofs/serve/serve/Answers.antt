@@ -87,5 +87,5 @@ returns-in-Closed c =
     let a = c.args in
     let shut = state_closed (connection_of a.connection.now) (sym c.read_state.ensures ∙ c.in-Closed.is) in
     λ counters.
-    serves_drop a.list.now a.connection.now a.registry.now counters a.chunk.now a.out.now a.journal.now a.connection.now a.out.now a.journal.now c.drop_all.result shut c.requires.chunk_good c.drop_all.ensures
+    serves_drop a.list.now a.connection.now a.registry.now counters a.chunk.now a.out.now a.journal.now a.connection.now a.out.now a.journal.now c.unanswered.result shut c.requires.chunk_good c.unanswered.ensures
     (memory_is a.connection.now c.requires.connection_good closed shut) refl refl

@@ -100,10 +100,10 @@ returns-in-Unfinished c =
     let k : List ℕ = a.connection.now in
     let begun = frame_unfinished (next chunk) (sym c.read_frame.ensures ∙ c.in-Unfinished.is) in
     λ counters.
-    serves_wait a.list.now k a.registry.now counters chunk a.out.now a.journal.now (length chunk) (opened chunk) c.append.new.memory a.out.now a.journal.now c.wait.result
+    serves_wait a.list.now k a.registry.now counters chunk a.out.now a.journal.now (length chunk) (opened chunk) c.append.new.memory a.out.now a.journal.now c.unanswered.result
     (call_unfinished (journalling a.list.now) (state_with (connection_of k) a.registry.now counters) [] chunk c.requires.1 nothing begun)
     c.requires.0.chunk_good
-    c.wait.ensures
+    c.unanswered.ensures
     (c.append.ensures [] refl (memory_is k c.requires.0.connection_good (opened []) c.requires.1))
     refl
     refl
@@ -135,10 +135,10 @@ returns-in-Skipped c =
     let part : take c.in-Skipped.header chunk ≡ f.header = ap (λ (n : ℕ). take n chunk) (sym f.long) ∙ (header_part chunk f.header _ f.is).1 in
     let held = c.append-in-Skipped.ensures [] refl (memory_is k c.requires.0.connection_good (opened []) c.requires.1) in
     λ counters.
-    serves_wait a.list.now k a.registry.now counters chunk a.out.now a.journal.now (length chunk) (skipping f.header c.in-Skipped.missing) c.set_skipping.new.memory a.out.now a.journal.now c.wait-in-Skipped.result
+    serves_wait a.list.now k a.registry.now counters chunk a.out.now a.journal.now (length chunk) (skipping f.header c.in-Skipped.missing) c.set_skipping.new.memory a.out.now a.journal.now c.unanswered-in-Skipped.result
     (call_large (journalling a.list.now) (state_with (connection_of k) a.registry.now counters) [] chunk c.requires.1 nothing f.header _ f.is)
     c.requires.0.chunk_good
-    c.wait-in-Skipped.ensures
+    c.unanswered-in-Skipped.ensures
     (laid_skipping c.append-in-Skipped.new.memory c.set_skipping.new.memory f.header _ (held ∙ ap (λ (x : List ℕ). connection_bytes (opened x)) part) c.set_skipping.ensures)
     refl
     refl

@@ -171,9 +171,9 @@ returns-in-Unfinished c =
     let g = c.gather-g in
     let begun = frame_unfinished _ (sym g.ensures.frame ∙ c.in-Unfinished.is) in
     λ counters.
-    serves_wait a.list.now k a.registry.now counters chunk a.out.now a.journal.now g.result.used (opened (held_in a.held k ++ take g.result.used chunk)) g.new.memory a.out.now a.journal.now c.wait.result
+    serves_wait a.list.now k a.registry.now counters chunk a.out.now a.journal.now g.result.used (opened (held_in a.held k ++ take g.result.used chunk)) g.new.memory a.out.now a.journal.now c.unanswered.result
     (after_unfinished (journalling a.list.now) (state_with (connection_of k) a.registry.now counters) (held_in a.held k) chunk (held_is a.list.now k a.registry.now chunk a.out.now a.journal.now a.held c.requires.0 c.requires.1) (holds a.list.now k a.registry.now chunk a.out.now a.journal.now a.held c.requires.0 c.requires.1).begun g.result.used g.ensures.used begun (g.ensures.all begun))
-    (used_few a.list.now k a.registry.now chunk a.out.now a.journal.now a.held c.requires.0 c.requires.1 g.new.memory g.result g.ensures) c.wait.ensures g.ensures.memory_is refl refl
+    (used_few a.list.now k a.registry.now chunk a.out.now a.journal.now a.held c.requires.0 c.requires.1 g.new.memory g.result g.ensures) c.unanswered.ensures g.ensures.memory_is refl refl
 
 pub returns-in-BadStart : goal.returns-in-BadStart
 returns-in-BadStart c =

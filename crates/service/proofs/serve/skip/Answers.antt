@@ -34,9 +34,9 @@ returns-then-here-to_go c =
     let m : List ℕ = a.connection.now in
     let less : a.here < a.to_go = omega arith in
     λ list registry journal counters.
-    subst (λ (e : Effect (State (List ℕ) Counts) Handed). Carried counters e c.set_skipping.new.memory registry a.out.now a.out.now journal journal c.wait.result)
+    subst (λ (e : Effect (State (List ℕ) Counts) Handed). Carried counters e c.set_skipping.new.memory registry a.out.now a.out.now journal journal c.unanswered.result)
     (sym (skip_waits list registry counters (header_at m) a.used a.here a.to_go less))
-    (carried_wait closed registry counters (a.used + a.here) (skipping (header_at m) (a.to_go - a.here)) _ _ _ journal journal _ c.requires.used_good c.wait.ensures
+    (carried_wait closed registry counters (a.used + a.here) (skipping (header_at m) (a.to_go - a.here)) _ _ _ journal journal _ c.requires.used_good c.unanswered.ensures
     (c.set_skipping.ensures c.requires.kind c.requires.number (header_at m) c.requires.laid) refl refl)
 
 pub answer_skipped-a-requires : goal.answer_skipped-a-requires

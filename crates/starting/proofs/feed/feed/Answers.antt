@@ -42,10 +42,8 @@ loop-at-preserved c =
     let (taken, within, same, same2, long, long2) = l.invariant in
     let call = c.call_by_value-o in
     let called = rw (lent l.at chunk) at call.ensures in
-    let (some, fits) = takes_fits start.list.now chunk l.at _ _ l.response l.journal _ few c.loop-at-test.true (omega (arith, room, long)) (omega (arith, space, long2)) taken called follows in
-    let more = takes_more start.list.now chunk l.at _ _ l.response l.journal _ few c.loop-at-test.true (omega (arith, room, long)) (omega (arith, space, long2)) taken called in (
-      subst (λ (x : Counters). Takes start.list.now (take (l.at + call.result.taken) chunk) (lent_memory start.connection.now start.registry.now start.counters) (lent_memory call.new.connection call.new.registry x))
-          (sym c.counters_of-after.ensures) more,
+    let (some, fits) = takes_fits start.list.now chunk l.at _ _ l.response l.journal _ few c.loop-at-test.true (omega (arith, room, long)) (omega (arith, space, long2)) taken called follows in (
+      takes_more start.list.now chunk l.at _ _ l.response l.journal _ few c.loop-at-test.true (omega (arith, room, long)) (omega (arith, space, long2)) taken called,
       fits,
       call.auto.connection ∙ same,
       call.auto.registry ∙ same2,

@@ -1,3 +1,4 @@
+use mathlib.Core.Path.{◌∙◌}
 use Rattle.billing.specs.Ascii.{ascii}
 use Rattle.billing.specs.Bill.{text_line, refused_roster}
 use Rattle.billing.proofs.PlacedLaws.{placed_on, placed_front}
@@ -11,4 +12,4 @@ returns c =
     let number = last in
     let fault = number in
     let word = fault in
-    placed_front (placed_on word.write_word-named.ensures (placed_on (rw fault.fault_number.ensures at number.write_decimal-numbered.ensures.0) last.write_word.ensures))
+    placed_front (placed_on word.write_word-named.ensures (placed_on (rw (fault.from-2.ensures ∙ fault.from.ensures) at number.write_decimal-numbered.ensures.0) last.write_word.ensures))

@@ -1,18 +1,12 @@
-use mathlib.Core.Path.{refl, ◌∙◌}
-use native.Mathlib.Omega.{arith}
-use Rattle.wire.specs.Lists.{is_zero}
-use Rattle.wire.proofs.BitLaws.{or_more, or_all}
+use Rattle.std.proofs.Common.{◌≡◌, ℕ, List, ◌∙◌, ap, eqb, bit_or, rules}
+use Rattle.std.specs.List.{fold}
+use Rattle.std.proofs.lemmas.Iterator.{YieldsList-from_slice}
+use Rattle.std.proofs.lemmas.Iterator.Consumers.{fold_from_yields_List}
+use Rattle.wire.proofs.BitLaws.{or_zeros}
 use Rattle.wire.proofs.bytes.all_zero.Goals as goal
-
-pub loop-i-init : goal.loop-i-init
-loop-i-init c = (omega arith, refl)
-
-pub loop-i-preserved : goal.loop-i-preserved
-loop-i-preserved c =
-    let p = c in
-    (omega arith, or_more is_zero p.args.s.now p.loop-i.joined _ p.loop-i.i (omega arith) refl ∙ p.loop-i.invariant.1)
 
 pub returns : goal.returns
 returns c =
-    let p = c in
-    or_all is_zero p.args.s.now p.loop-i.joined p.loop-i.i (omega arith) p.loop-i.invariant.1
+    let s : List ℕ = c.args.s.now in
+    let joined : c.fold.result ≡ fold bit_or 0 s = fold_from_yields_List _ bit_or 0 c.fold.result c.fold.ensures.ran (YieldsList-from_slice s cc) (λ a x b q k. search rules) in
+    ap (λ (n : ℕ). eqb n 0) joined ∙ or_zeros 0 s

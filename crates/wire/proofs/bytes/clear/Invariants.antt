@@ -1,11 +1,6 @@
-use Prim.Native.Nat.{◌≤◌, ◌-◌}
-use mathlib.Core.Path.{◌≡◌}
-use mathlib.Core.List.{◌++◌}
-use lib.ListN.{length, drop, replicate}
+use Rattle.std.proofs.Common.{◌≡◌, ◌++◌, length, drop, replicate}
 use Rattle.wire.proofs.bytes.clear.Given as goal
 
-abbrev pub invariant-loop-i : goal.invariant-loop-i
-invariant-loop-i l = (l.i ≤ length l.initial.dst) × ((l.dst ≡ replicate l.i 0 ++ drop l.i l.initial.dst) × (length l.dst ≡ length l.initial.dst))
-
-abbrev pub decreases-loop-i : goal.decreases-loop-i
-decreases-loop-i l = length l.dst - l.i
+abbrev pub invariant-loop-byte : goal.invariant-loop-byte
+invariant-loop-byte l =
+    (l.byte-items ≡ replicate l.byte-index 0 ++ drop l.byte-index l.initial.byte-items) × (length l.byte-items ≡ length l.initial.byte-items)

@@ -1,7 +1,7 @@
-use mathlib.Core.Path.{refl}
-use Rattle.wire.specs.Numbers.{little_endian_of}
+use mathlib.Core.Path.{◌∙◌}
+use native.Mathlib.Omega.{arith}
+use Rattle.wire.proofs.NumberLaws.{bytes_written}
 use Rattle.wire.proofs.number.bytes_of_u32.Goals as goal
 
 pub returns : goal.returns
-unfolding little_endian_of
-returns c = refl
+returns c = c.to_le_bytes.ensures ∙ bytes_written 3 c.args.n (omega arith)

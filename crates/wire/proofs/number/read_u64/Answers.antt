@@ -1,12 +1,6 @@
-use Prim.Native.Nat.{ℕ}
-use mathlib.Core.List.{List}
-use native.Mathlib.Omega.{arith}
-use Rattle.wire.proofs.NumberLaws.{field_split}
+use mathlib.Core.Path.{◌∙◌}
+use Rattle.wire.proofs.NumberLaws.{field_read}
 use Rattle.wire.proofs.number.read_u64.Goals as goal
 
 pub returns : goal.returns
-returns c =
-    let s : List ℕ = c.args.s.now in
-    let at : ℕ = c.args.at in
-    let split = field_split 4 4 at s (omega arith) in
-    omega (arith, c.read_u32-low.ensures, c.read_u32-high.ensures)
+returns c = c.from_le_bytes.ensures ∙ field_read 7 c.args.at c.args.s.now c.bytes_at.result c.requires c.bytes_at.ensures
