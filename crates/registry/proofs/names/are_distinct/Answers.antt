@@ -15,7 +15,7 @@ returns-then-is_some c = λ count e.
     let name : List ℕ = c.name_of-name.result.now in
     let t = distinct_turn c.args.size i.0 c.loop-block.rest.now c.in-Some.block.now c.in-Some.behind.now name (omega arith) i.1 split.0 split.1 split.2 c.name_of-name.ensures.name in
     let names : List (List ℕ) = map name_in (blocks t.0 c.args.size c.in-Some.behind.now) in
-    let again : is_new name names ≡ false = not-true _ (sym (place_new name _) ∙ sym (ap is_some (c.scan.ensures t.0 t.1)) ∙ sym c.is_some.ensures ∙ c.if-is_some.true) in
+    let again : is_new name names ≡ false = not-true _ (sym (place_new name _) ∙ sym (ap is_some (c.first_named.ensures t.0 t.1)) ∙ sym c.is_some.ensures ∙ c.if-is_some.true) in
     sym (i.2 ∙ t.2 ∙ rw (lone_named name names (eqb-false _ 0 (sym c.is_empty.ensures ∙ c.if-not-is_empty.true)), again))
 
 pub loop-block-preserved : goal.loop-block-preserved
@@ -28,7 +28,7 @@ loop-block-preserved c = λ count e.
     let own : lone name names ≡ true = elim c.else-not-is_empty.branch [
       | else-not-is_empty-via-then-not-is_empty+else-is_some w ↦
           lone_named name names (eqb-false _ 0 (sym c.is_empty.ensures ∙ w.if-not-is_empty.true))
-          ∙ not-false _ (sym (place_new name _) ∙ sym (ap is_some (w.scan.ensures t.0 t.1)) ∙ sym w.is_some.ensures ∙ w.if-is_some.false)
+          ∙ not-false _ (sym (place_new name _) ∙ sym (ap is_some (w.first_named.ensures t.0 t.1)) ∙ sym w.is_some.ensures ∙ w.if-is_some.false)
       | else-not-is_empty-via-else-not-is_empty w ↦ lone_empty name names (eqb-true _ 0 (sym c.is_empty.ensures ∙ w.if-not-is_empty.false))
     ] in
     (t.0, t.1, i.2 ∙ t.2 ∙ rw own)
