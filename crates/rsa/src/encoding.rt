@@ -8,6 +8,17 @@ const DIGEST_PREFIX: [u8; 19] = [
     0x00, 0x04, 0x20,
 ];
 
+// Writes `src` over the whole of `dst`. Kept as a loop: where the compiler doesn't know the length, `copy_from_slice` calls `memmove`,
+// which a host without a C library need not have.
+fn write_whole(dst: &mut [u8], src: &[u8])
+    requires { length dst.old ≡ length src.now }
+    ensures { dst.new ≡ src.now }
+{
+    for (i, byte) in src.iter().enumerate() {
+        dst[i] = *byte;
+    }
+}
+
 // Writes the encoded message over the whole of em.
 pub fn encode(em: &mut [u8], hash: &[u8])
     requires { (length hash.now ≡ 32) × (62 ≤ length em.old) }
@@ -19,5 +30,5 @@ pub fn encode(em: &mut [u8], hash: &[u8])
     em[1] = 1;
     em[zero] = 0;
     em[zero + 1..zero + 20].copy_from_slice(&DIGEST_PREFIX);
-    em[zero + 20..].copy_from_slice(hash);
+    write_whole(&mut em[zero + 20..], hash);
 }
