@@ -28,7 +28,7 @@ use Rattle.journal.specs.Replay.{Judged, good, bad, judge_act, judge_record}
 use Rattle.journal.specs.Reader.{Kept, reading, after_record, after_byte, journal, read_journal}
 use Rattle.journal.specs.Compact.{front_most, file_most, Compact, between, front_then, with_byte, is_begun_whole, act_in_front, judge_begun, compact_record, compact_step, has_ended, compact_journal}
 use Rattle.journal.specs.code.Done.{fault_code}
-use Rattle.journal.proofs.StepLaws.{ended_fault}
+use Rattle.journal.proofs.StepLaws.{ended_some}
 
 -- ---- what stands for what the reader keeps
 
@@ -278,7 +278,7 @@ reads_same (b ∷ bytes) s n p a w =
     by_fault (Some fault) e ih =
         let over : is_some s.fault ≡ true = ap is_some e in
         let over' : has_ended (fault_code s.fault) s.kept (length s.held) ≡ true
-        = ap (λ (o : Option Fault). has_ended (fault_code o) s.kept (length s.held)) e ∙ sym (ended_fault (Some fault) s.kept (length s.held) refl) in
+        = ap (λ (o : Option Fault). has_ended (fault_code o) s.kept (length s.held)) e ∙ ended_some fault s.kept (length s.held) in
         read_past compact_journal (compact_of s) (b ∷ bytes) over' ∙ ap along (sym (read_past journal s (b ∷ bytes) over))
     by_fault None e ih =
         let t : Kept = reading s.registry s.kept s.held in

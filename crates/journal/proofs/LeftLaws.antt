@@ -113,11 +113,11 @@ module _ (g : List ℕ) (r : Record) where
         ap (λ (y : Option Act). left_by g (judge_act g y)) e
         ∙ ap (λ (y : Option (List ℕ)). left_by g (elim y [ None ↦ bad NotAllowed | Some after ↦ good after ])) (same ∙ w)
 
-    left_unused : in_use g line ≡ false → record { judged = Err NotAllowed; registry = g } ≡ left
+    pub left_unused : in_use g line ≡ false → record { judged = Err NotAllowed; registry = g } ≡ left
     unfolding left_by carried_out
     left_unused u = sym (carried_left None (rw u))
 
-    left_done : in_use g line ≡ true → (d : Left) → d ≡ done_on g line x → d ≡ left
+    pub left_done : in_use g line ≡ true → (d : Left) → d ≡ done_on g line x → d ≡ left
     unfolding left_by carried_out done_on
     left_done u d q = q ∙ go (eqb (status_number x.status) 0) refl
       where
@@ -160,27 +160,27 @@ module _ (g v : List ℕ) where
     below t e q = in_use_below g line (sym e ∙ q)
 
     module _ (t : Bool) (e : t ≡ in_use g line) where
-      used : in_use g (line_in v) ≡ t
-      used = ap (in_use g) (sym line_is) ∙ sym e
+      pub line_used : in_use g (line_in v) ≡ t
+      line_used = ap (in_use g) (sym line_is) ∙ sym e
 
       -- a destroy's, of a line that is not in use, or done there
       module _ (few : length v ≤ value_most) (long : 0 < length v) where
         pub destroy_unused : t ≡ false → record { judged = Err NotAllowed; registry = g } ≡ destroying_left
         destroy_unused q =
-            left_unused g _ (line_in v) (perform_destroy (drop 1 v) (slots_of g (line_in v)) []) _ (destroy_there v few long) (unfold replay in refl) (used ∙ q)
+            left_unused g _ (line_in v) (perform_destroy (drop 1 v) (slots_of g (line_in v)) []) _ (destroy_there v few long) (unfold replay in refl) (line_used ∙ q)
 
         pub destroy_left : t ≡ true → (d : Left) → d ≡ done_on g line (perform_destroy (take (length v - 1) (drop 1 v)) (slots_of g line) []) → d ≡ destroying_left
         destroy_left q d w =
-            left_done g _ (line_in v) (perform_destroy (drop 1 v) (slots_of g (line_in v)) []) _ (destroy_there v few long) (unfold replay in refl) (used ∙ q) d
+            left_done g _ (line_in v) (perform_destroy (drop 1 v) (slots_of g (line_in v)) []) _ (destroy_there v few long) (unfold replay in refl) (line_used ∙ q) d
             (w ∙ ap₂ (λ (l : Line) (name : List ℕ). done_on g l (perform_destroy name (slots_of g l) [])) line_is (lent 1 v))
 
       -- and an import's
       module _ (there : act_in (record { tag = 2; value = v }) ≡ Some (importing (line_in v) (key_in v))) where
         pub import_unused : t ≡ false → record { judged = Err NotAllowed; registry = g } ≡ importing_left
         import_unused q =
-            left_unused g _ (line_in v) (import_by legal_bits (key_in v) (slots_of g (line_in v)) []) _ there (unfold replay in refl) (used ∙ q)
+            left_unused g _ (line_in v) (import_by legal_bits (key_in v) (slots_of g (line_in v)) []) _ there (unfold replay in refl) (line_used ∙ q)
 
         pub import_left : t ≡ true → (key : Key) → key ≡ key_in v → (d : Left) → d ≡ done_on g line (import_by legal_bits key (slots_of g line) []) → d ≡ importing_left
         import_left q key k d w =
-            left_done g _ (line_in v) (import_by legal_bits (key_in v) (slots_of g (line_in v)) []) _ there (unfold replay in refl) (used ∙ q) d
+            left_done g _ (line_in v) (import_by legal_bits (key_in v) (slots_of g (line_in v)) []) _ there (unfold replay in refl) (line_used ∙ q) d
             (w ∙ ap₂ (λ (l : Line) (k : Key). done_on g l (import_by legal_bits k (slots_of g l) [])) line_is k)

@@ -3,14 +3,13 @@ use Rattle.std.proofs.Common.{Some, None}
 use mathlib.Core.Path.{◌≡◌, refl, ap, ap₂, ◌∙◌}
 use mathlib.Core.Bool.{true, false}
 use mathlib.Core.List.{List, [], ◌++◌, append-nil}
-use Prim.Native.Nat.{ℕ, zero, suc, ◌+◌, ◌-◌, ◌≤◌}
+use Prim.Native.Nat.{ℕ, ◌+◌, ◌-◌, ◌≤◌}
 use native.Mathlib.Omega.{arith}
 use borrow.Author.Tests.{eq-eqb, ne_eqb}
 use borrow.Rule.Slice.PartMut.{put_mid}
-use lib.ListN.{length, take, drop, get_or, drop_of_length-le}
+use lib.ListN.{length, take, drop, drop_of_length-le}
 use lib.Seq.{length-take-le, drop_at}
 use Rattle.wire.specs.Choice.{first_of}
-use Rattle.wire.specs.Numbers.{field}
 use Rattle.wire.proofs.BufferLaws.{put_mid_lem, lent}
 use Rattle.registry.specs.WellFormed.{well_formed_registry}
 use Rattle.reading.specs.Reader.{Reading, read}
@@ -20,10 +19,9 @@ use Rattle.journal.specs.declared.Progress.{Progress}
 use Rattle.journal.specs.declared.read.Said.{Said}
 use Rattle.journal.specs.declared.read.Said.TheVariants.{RegistryIllFormed, StateIllFormed, Waiting, AtBorder, Refused}
 use Rattle.journal.specs.Compact.{front_most, Compact, compact_journal}
-use Rattle.journal.specs.Memory.{kept_at, count_at, register_at, front_at, state_size, state_bytes, compact_in, well_formed_state, read_refusal, fault_of, said_of, ReadOutcome, outcome_of, read_outcome}
+use Rattle.journal.specs.Memory.{front_at, state_size, state_bytes, compact_in, well_formed_state, read_refusal, fault_of, said_of, ReadOutcome, outcome_of, read_outcome}
 use Rattle.journal.specs.Replay.{fault_number}
-use Rattle.journal.specs.code.Done.{fault_code, fault_of_code, compact_with, progress_in}
-use Rattle.journal.proofs.StateLaws.{told}
+use Rattle.journal.specs.code.Done.{fault_code, compact_with, progress_in}
 
 -- ---- what is said
 
@@ -33,23 +31,28 @@ say_refused WrongCrc count = refl
 say_refused WrongLayout count = refl
 say_refused NotAllowed count = refl
 
-module _ (count : ℕ) where
-  pub say_border : count ≡ 0 → AtBorder ≡ said_of (fault_code None) count
-  unfolding said_of fault_code
-  say_border b = rw (eq-eqb count 0 b)
+module _ (fault count : ℕ) where
+  pub say_border : fault ≡ 0 → count ≡ 0 → AtBorder ≡ said_of fault count
+  unfolding said_of
+  say_border a b = rw (eq-eqb fault 0 a, eq-eqb count 0 b)
 
-  pub say_waiting : (count ≡ 0 → ⊥) → Waiting ≡ said_of (fault_code None) count
-  unfolding said_of fault_code
-  say_waiting b = rw (ne_eqb count 0 b)
+  pub say_waiting : fault ≡ 0 → (count ≡ 0 → ⊥) → Waiting ≡ said_of fault count
+  unfolding said_of
+  say_waiting a b = rw (eq-eqb fault 0 a, ne_eqb count 0 b)
 
--- a fault's number, from a state and back
-code_back : (code : ℕ) → code ≤ 3 → fault_code (fault_of_code code) ≡ code
-unfolding fault_of_code fault_of fault_code fault_number
-code_back zero h = refl
-code_back (suc zero) h = refl
-code_back (suc (suc zero)) h = refl
-code_back (suc (suc (suc zero))) h = refl
-code_back (suc (suc (suc (suc n)))) h = absurd (omega arith)
+  module _ (a : fault ≡ 0 → ⊥) where
+    pub say_crc : fault ≡ 1 → Refused WrongCrc ≡ said_of fault count
+    unfolding said_of fault_of
+    say_crc b = rw (ne_eqb fault 0 a, eq-eqb fault 1 b)
+
+    module _ (b : fault ≡ 1 → ⊥) where
+      pub say_layout : fault ≡ 2 → Refused WrongLayout ≡ said_of fault count
+      unfolding said_of fault_of
+      say_layout c = rw (ne_eqb fault 0 a, ne_eqb fault 1 b, eq-eqb fault 2 c)
+
+      pub say_other : (fault ≡ 2 → ⊥) → Refused NotAllowed ≡ said_of fault count
+      unfolding said_of fault_of
+      say_other c = rw (ne_eqb fault 0 a, ne_eqb fault 1 b, ne_eqb fault 2 c)
 
 -- ---- what a call comes to
 
@@ -86,22 +89,13 @@ module _ (registry state chunk : List ℕ) where
 
         start_is : compact_with registry start lent_front ≡ compact_in registry state
         unfolding compact_in progress_in
-        start_is =
-            ap₂ (compact_with registry) loaded (lent front_at state)
-            ∙ ap (λ (n : ℕ). record {
-              registry = registry;
-              fault = n;
-              kept = field kept_at 8 state;
-              count = field count_at 8 state;
-              register = field register_at 4 state;
-              front = drop front_at state;
-            }) (code_back (get_or state 0 0) (told state well).fault)
+        start_is = ap₂ (compact_with registry) loaded (lent front_at state)
 
         pub outcome_read : (p : Progress) (taken : ℕ) (registry' front' stored : List ℕ) (said : Said) → length state ≡ state_size → length front' ≡ front_most
             → compact_with registry' p front' ≡ (read compact_journal (compact_with registry start lent_front) chunk).kept
             → taken ≡ (read compact_journal (compact_with registry start lent_front) chunk).taken
             → stored ≡ state_bytes (compact_with [] p (drop front_at (put_mid front_at (length state - front_at) state front')))
-            → said ≡ said_of (fault_code p.fault) p.count
+            → said ≡ said_of p.fault p.count
             → record { said = said; taken = taken; kept = p.kept; state = stored; registry = registry' } ≡ read_outcome registry state chunk
         unfolding outcome_of
         outcome_read p taken registry' front' stored said size long k t m s =

@@ -20,7 +20,7 @@ use Rattle.journal.specs.declared.Progress.{Progress}
 use Rattle.journal.specs.Compact.{front_most, file_most, is_begun_whole}
 use Rattle.journal.specs.Memory.{kept_at, count_at, front_at, state_size, state_head, state_bytes, well_formed_state, fresh_state, begin_state}
 use Rattle.journal.specs.declared.state.BeginRefusal.TheVariants.{WrongSize}
-use Rattle.journal.specs.code.Done.{fault_code, compact_with, progress_between}
+use Rattle.journal.specs.code.Done.{compact_with, progress_between}
 
 -- ---- well formed or not
 
@@ -92,11 +92,11 @@ module _ (m : List ℕ) where
 
 module _ (p : Progress) where
   abbrev head : List ℕ
-  head = state_head (fault_code p.fault) p.kept p.count p.register
+  head = state_head p.fault p.kept p.count p.register
 
   -- part by part
   pub stored : (m : List ℕ) (code : ℕ) (kept count register : List ℕ) → length m ≡ state_size
-      → code ≡ fault_code p.fault → kept ≡ little_endian_of 8 p.kept → count ≡ little_endian_of 8 p.count → register ≡ little_endian_of 4 p.register
+      → code ≡ p.fault → kept ≡ little_endian_of 8 p.kept → count ≡ little_endian_of 8 p.count → register ≡ little_endian_of 4 p.register
       → put_mid 17 4 (put_mid 9 8 (put_mid 1 8 (set m 0 code) kept) count) register ≡ state_bytes (compact_with [] p (drop front_at m))
   unfolding state_bytes little_endian_of
   stored [] code kept count register size f k c r = absurd (let x : ⊥ = omega (arith, size) in x)
@@ -110,15 +110,15 @@ unfolding begin_state
 begun_not m h = rw (ne_eqb (length m) state_size h)
 
 pub begun_fresh : (m cleared after : List ℕ) → length m ≡ state_size → cleared ≡ replicate (length m) 0
-    → after ≡ state_bytes (compact_with [] (progress_between None 0) (drop front_at cleared))
+    → after ≡ state_bytes (compact_with [] (progress_between 0 0) (drop front_at cleared))
     → record { answer = Ok tt; state = after } ≡ begin_state m
-unfolding begin_state fresh_state fault_code
+unfolding begin_state fresh_state
 begun_fresh m cleared after size c e =
     let front : drop front_at cleared ≡ replicate front_most 0
     = ap (drop front_at) (c ∙ ap (λ (n : ℕ). replicate n 0) size) ∙ drop_zeros front_at state_size in
     rw (eq-eqb (length m) state_size size)
     (ap (λ (l : List ℕ). record { answer = Ok tt; state = l })
-    (e ∙ ap (λ (l : List ℕ). state_bytes (compact_with [] (progress_between None 0) l)) front))
+    (e ∙ ap (λ (l : List ℕ). state_bytes (compact_with [] (progress_between 0 0) l)) front))
 
 -- ---- the front, lent
 

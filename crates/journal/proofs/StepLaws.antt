@@ -1,5 +1,5 @@
 -- One byte of the compact reader, case by case.
-use Rattle.std.proofs.Common.{Option, Some, None, is_some, Result, Ok, Err, ◌||◌, refl}
+use Rattle.std.proofs.Common.{Option, Some, None, Result, Ok, Err, refl}
 use mathlib.Core.Path.{◌≡◌, sym, ap, ◌∙◌}
 use mathlib.Core.Bool.{Bool, true, false, not}
 use mathlib.Core.List.{List}
@@ -100,7 +100,7 @@ module _ (g : List ℕ) (p : Progress) (front front' : List ℕ) (byte register 
 
   next_is : compact_with g next front' ≡ with_byte (compact_with g p front) byte
   unfolding with_byte
-  next_is = λ i. record { registry = g; fault = fault_code p.fault; kept = p.kept; count = p.count + 1; register = r i; front = f i }
+  next_is = λ i. record { registry = g; fault = p.fault; kept = p.kept; count = p.count + 1; register = r i; front = f i }
 
   step_on : (s : Compact) → is_begun_whole s.count s.front ≡ false → s ≡ (compact_step s).kept
   unfolding compact_step
@@ -121,19 +121,19 @@ module _ (g : List ℕ) (p : Progress) (front front' : List ℕ) (byte register 
 
 -- ---- the end of the reader
 
-ended_is : (fault : Option Fault) (kept count : ℕ) → is_some fault || leb file_most (kept + count) ≡ has_ended (fault_code fault) kept count
+pub ended_fault : (fault kept count : ℕ) → (fault ≡ 0 → ⊥) → true ≡ has_ended fault kept count
+unfolding has_ended
+ended_fault fault kept count h = rw (ne_eqb fault 0 h)
+
+pub ended_most : (fault kept count : ℕ) → fault ≡ 0 → leb file_most (kept + count) ≡ has_ended fault kept count
+unfolding has_ended
+ended_most fault kept count h = rw (eq-eqb fault 0 h)
+
+pub ended_some : (fault : Fault) (kept count : ℕ) → has_ended (fault_code (Some fault)) kept count ≡ true
 unfolding has_ended fault_code fault_number
-ended_is None kept count = refl
-ended_is (Some WrongCrc) kept count = refl
-ended_is (Some WrongLayout) kept count = refl
-ended_is (Some NotAllowed) kept count = refl
-
-module _ (fault : Option Fault) (kept count : ℕ) where
-  pub ended_fault : is_some fault ≡ true → true ≡ has_ended (fault_code fault) kept count
-  ended_fault e = ap (λ (t : Bool). t || leb file_most (kept + count)) (sym e) ∙ ended_is fault kept count
-
-  pub ended_most : is_some fault ≡ false → leb file_most (kept + count) ≡ has_ended (fault_code fault) kept count
-  ended_most e = ap (λ (t : Bool). t || leb file_most (kept + count)) (sym e) ∙ ended_is fault kept count
+ended_some WrongCrc kept count = refl
+ended_some WrongLayout kept count = refl
+ended_some NotAllowed kept count = refl
 
 pub not_ended : (fault kept count : ℕ) → has_ended fault kept count ≡ false → kept + count < file_most
 unfolding has_ended

@@ -26,11 +26,12 @@ impl From<Fault> for u8 {
     }
 }
 
-// What is known of a file that is read: the fault, if there is one, the bytes of the whole records, and of the record begun how
-// many bytes there are and the CRC's register after them.
+// What is known of a file that is read: the fault's number, 0 for none, the bytes of the whole records, and of the record begun
+// how many bytes there are and the CRC's register after them. The fault is kept as its byte: `state::load` says what any memory of
+// the size holds, also a byte that is no fault's, and an `Option<Fault>` has no place for that.
 #[derive(Clone, Copy)]
 pub struct Progress {
-    pub fault: Option<Fault>,
+    pub fault: u8,
     pub kept: u64,
     pub count: u64,
     pub register: u32,

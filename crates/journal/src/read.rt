@@ -5,7 +5,7 @@ ghost use Rattle.reading.specs.Reader.{read};
 ghost use Rattle.crc.specs.Crc.{table_entries};
 ghost use Rattle.journal.specs.Compact.{front_most, file_most, front_then, with_byte, judge_begun, compact_record, compact_step, has_ended, compact_journal};
 ghost use Rattle.journal.specs.Memory.{said_of, read_outcome};
-ghost use Rattle.journal.specs.code.Done.{fault_code, left_by, compact_with};
+ghost use Rattle.journal.specs.code.Done.{left_by, compact_with};
 
 use crate::replay::{VALUE_MOST, replay};
 use crate::state::{
@@ -69,8 +69,8 @@ fn end_record(front: &mut [u8], registry: &mut [u8], p: Progress) -> Progress
     let judged = judge(front, registry, p.register);
     clear(front);
     match judged {
-        Ok(()) => between(None, p.kept + p.count),
-        Err(fault) => between(Some(fault), p.kept),
+        Ok(()) => between(0, p.kept + p.count),
+        Err(fault) => between(u8::from(fault), p.kept),
     }
 }
 
@@ -114,9 +114,9 @@ fn take_on(
 // Whether no byte is taken any more.
 fn has_ended(p: Progress) -> bool
     requires { p.kept + p.count ≤ file_most }
-    ensures { result ≡ has_ended (fault_code p.fault) p.kept p.count }
+    ensures { result ≡ has_ended p.fault p.kept p.count }
 {
-    p.fault.is_some() || FILE_MOST <= p.kept + p.count
+    p.fault != 0 || FILE_MOST <= p.kept + p.count
 }
 
 // Takes the bytes of a chunk, one by one, up to its end or the reader's.
@@ -140,12 +140,14 @@ fn read_on(front: &mut [u8], registry: &mut [u8], start: Progress, chunk: &[u8])
 
 // What is said of what was read.
 fn say(p: Progress) -> Said
-    ensures { result ≡ said_of (fault_code p.fault) p.count }
+    ensures { result ≡ said_of p.fault p.count }
 {
     match p.fault {
-        Some(fault) => Said::Refused(fault),
-        None if p.count == 0 => Said::AtBorder,
-        None => Said::Waiting,
+        0 if p.count == 0 => Said::AtBorder,
+        0 => Said::Waiting,
+        1 => Said::Refused(Fault::WrongCrc),
+        2 => Said::Refused(Fault::WrongLayout),
+        _ => Said::Refused(Fault::NotAllowed),
     }
 }
 

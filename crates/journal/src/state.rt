@@ -2,10 +2,10 @@
 ghost use Rattle.std.specs.Prelude.{◌≡◌, [], ◌≤◌, length, drop};
 ghost use Rattle.journal.specs.Compact.{is_begun_whole};
 ghost use Rattle.journal.specs.Memory.{front_at, state_size, state_bytes, well_formed_state, begin_state};
-ghost use Rattle.journal.specs.code.Done.{fault_code, fault_of_code, progress_in, progress_between, compact_with};
+ghost use Rattle.journal.specs.code.Done.{progress_in, progress_between, compact_with};
 
+use crate::Progress;
 use crate::replay::VALUE_MOST;
-use crate::{Fault, Progress};
 use wire::bytes::{all_zero, clear};
 use wire::number::{bytes_of_u32, bytes_of_u64, read_u16, read_u32, read_u64};
 
@@ -33,32 +33,8 @@ pub enum BeginRefusal {
     WrongSize,
 }
 
-// A fault as a state's first byte has it: its number, or 0 for none.
-#[tactic(auto, unfolding(crate::specs::code::Done::fault_code))]
-fn fault_code(fault: Option<Fault>) -> u8
-    ensures { result ≡ fault_code fault }
-{
-    match fault {
-        None => 0,
-        Some(fault) => u8::from(fault),
-    }
-}
-
-// The fault of a state's first byte. A well-formed state has none above 3.
-#[tactic(auto, unfolding(crate::specs::code::Done::fault_of_code, crate::specs::Memory::fault_of))]
-fn fault_of_code(code: u8) -> Option<Fault>
-    ensures { result ≡ fault_of_code code }
-{
-    match code {
-        0 => None,
-        1 => Some(Fault::WrongCrc),
-        2 => Some(Fault::WrongLayout),
-        _ => Some(Fault::NotAllowed),
-    }
-}
-
 // No record is begun.
-pub(crate) fn between(fault: Option<Fault>, kept: u64) -> Progress
+pub(crate) fn between(fault: u8, kept: u64) -> Progress
     ensures { result ≡ progress_between fault kept }
 {
     Progress {
@@ -112,7 +88,7 @@ pub fn load(state: &[u8]) -> Progress
     ensures { result ≡ progress_in state.now }
 {
     Progress {
-        fault: fault_of_code(state[0]),
+        fault: state[0],
         kept: read_u64(state, KEPT_AT),
         count: read_u64(state, COUNT_AT),
         register: read_u32(state, REGISTER_AT),
@@ -124,7 +100,7 @@ pub fn store(state: &mut [u8], p: Progress)
     requires { length state.old ≡ state_size }
     ensures { state.new ≡ state_bytes (compact_with [] p (drop front_at state.old)) }
 {
-    state[0] = fault_code(p.fault);
+    state[0] = p.fault;
     state[KEPT_AT..COUNT_AT].copy_from_slice(&bytes_of_u64(p.kept));
     state[COUNT_AT..REGISTER_AT].copy_from_slice(&bytes_of_u64(p.count));
     state[REGISTER_AT..FRONT_AT].copy_from_slice(&bytes_of_u32(p.register));
@@ -138,6 +114,6 @@ pub fn begin_journal(state: &mut [u8]) -> Result<(), BeginRefusal>
         return Err(BeginRefusal::WrongSize);
     }
     clear(state);
-    store(state, between(None, 0));
+    store(state, between(0, 0));
     Ok(())
 }

@@ -12,7 +12,7 @@ use Rattle.journal.specs.declared.Fault.TheVariants.{NotAllowed}
 use Rattle.journal.specs.declared.Progress.{Progress}
 use Rattle.journal.specs.Replay.{fault_number, Judged, good, bad}
 use Rattle.journal.specs.Compact.{Compact}
-use Rattle.journal.specs.Memory.{fault_of, kept_at, count_at, register_at}
+use Rattle.journal.specs.Memory.{kept_at, count_at, register_at}
 
 -- what is said of a record, and the registry after it
 pub record Left : Type 0 where
@@ -29,19 +29,16 @@ done_on registry line x =
     let served = eqb (status_number x.status) 0 in
     record { judged = when served then Ok tt else Err NotAllowed; registry = when served then changed registry line x.change else registry }
 
--- a fault as a state's first byte has it, and back
+-- a fault as a state's first byte has it
 unfoldable pub fault_code : Option Fault → ℕ
 fault_code None = 0
 fault_code (Some fault) = fault_number fault
-
-unfoldable pub fault_of_code : (code : ℕ) → Option Fault
-fault_of_code code = when eqb code 0 then None else Some (fault_of code)
 
 -- the reader's state, from what the code holds of it
 abbrev pub compact_with : (registry : List ℕ) → Progress → (front : List ℕ) → Compact
 compact_with registry p front = record {
   registry = registry;
-  fault = fault_code p.fault;
+  fault = p.fault;
   kept = p.kept;
   count = p.count;
   register = p.register;
@@ -49,8 +46,8 @@ compact_with registry p front = record {
 }
 
 unfoldable pub progress_in : (state : List ℕ) → Progress
-progress_in state = record { fault = fault_of_code (get_or state 0 0); kept = field kept_at 8 state; count = field count_at 8 state; register = field register_at 4 state }
+progress_in state = record { fault = get_or state 0 0; kept = field kept_at 8 state; count = field count_at 8 state; register = field register_at 4 state }
 
 -- no record is begun
-abbrev pub progress_between : Option Fault → (kept : ℕ) → Progress
+abbrev pub progress_between : (fault kept : ℕ) → Progress
 progress_between fault kept = record { fault = fault; kept = kept; count = 0; register = all_ones }

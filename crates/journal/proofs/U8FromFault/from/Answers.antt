@@ -1,3 +1,4 @@
+use Rattle.std.proofs.Common.{rules}
 use mathlib.Core.Path.{◌≡◌, refl}
 use Prim.Native.Nat.{◌+◌}
 use denote.Enum.Declared.{tag_of}
@@ -14,4 +15,4 @@ numbered WrongLayout = refl
 numbered NotAllowed = refl
 
 pub returns : goal.returns
-returns c = numbered c.args.fault
+returns c = let number = numbered c.args.fault in search rules

@@ -1,13 +1,13 @@
-use mathlib.Core.Path.{sym, ◌∙◌}
+use borrow.Author.Tests.{ne_eqb}
 use Rattle.journal.proofs.StepLaws.{ended_fault, ended_most}
 use Rattle.journal.proofs.read.has_ended.Goals as goal
 
-pub returns-then-is_some : goal.returns-then-is_some
-returns-then-is_some c =
+pub returns-then-p-ne0 : goal.returns-then-p-ne0
+returns-then-p-ne0 c =
     let p = c.args.p in
-    c.if-is_some.true ∙ ended_fault p.fault p.kept p.count (sym c.is_some.ensures ∙ c.if-is_some.true)
+    rw (ne_eqb p.fault 0 c.if-p-ne0.true) (ended_fault p.fault p.kept p.count c.if-p-ne0.true)
 
-pub returns-else-is_some : goal.returns-else-is_some
-returns-else-is_some c =
+pub returns-else-p-ne0 : goal.returns-else-p-ne0
+returns-else-p-ne0 c =
     let p = c.args.p in
-    ended_most p.fault p.kept p.count (sym c.is_some.ensures ∙ c.if-is_some.false)
+    ended_most p.fault p.kept p.count c.if-p-ne0.false

@@ -1,7 +1,7 @@
 use mathlib.Core.Path.{sym, ◌∙◌}
 use Prim.Native.Nat.{◌<◌}
 use lib.ListN.{length}
-use Rattle.journal.specs.code.Done.{fault_code, compact_with}
+use Rattle.journal.specs.code.Done.{compact_with}
 use Rattle.journal.proofs.StepLaws.{not_ended}
 use Rattle.journal.proofs.ReadLaws.{part_none, part_again, part_ended, part_end}
 use Rattle.journal.proofs.read.read_on.Goals as goal
@@ -21,7 +21,7 @@ returns-then-has_ended c =
 pub take_on-progress-requires : goal.take_on-progress-requires
 take_on-progress-requires c =
     let l = c.loop-i in
-    (l.invariant.1, l.invariant.2, not_ended (fault_code l.progress.fault) l.progress.kept l.progress.count (sym c.has_ended.ensures ∙ c.if-has_ended.false), c.table-entries.ensures)
+    (l.invariant.1, l.invariant.2, not_ended l.progress.fault l.progress.kept l.progress.count (sym c.has_ended.ensures ∙ c.if-has_ended.false), c.table-entries.ensures)
 
 pub loop-i-preserved : goal.loop-i-preserved
 loop-i-preserved c =
