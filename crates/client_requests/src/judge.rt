@@ -1,6 +1,6 @@
 // What is refused before a byte of a request is written: the first test that holds (document 02, "The client's half", "Checking
 // signatures").
-ghost use Rattle.std.specs.Prelude.{◌≡◌, Some, None, option_copied};
+ghost use Rattle.std.specs.Prelude.{Bool, ◌≡◌, Some, None, option_copied};
 ghost use Rattle.std.specs.Result.{result_err};
 ghost use Rattle.wire.specs.Choice.{when◌then◌else◌, first_of};
 ghost use Rattle.messages.specs.Operations.{ping, import_key, destroy_key, verify_signature};
@@ -82,10 +82,11 @@ pub fn judge_name(out: &[u8], client: Client, name: &[u8]) -> Result<(), WriteRe
     refuse_if(!is_legal(name, KEY_NAME_MOST), WriteRefusal::KeyNameIllegal)
 }
 
-// Of Import.
+// Of Import, whatever its permissions are.
 #[tactic(auto, unfolding(crate::specs::Writing::write_tests, wire::specs::Choice::first_of))]
 pub fn judge_key(out: &[u8], client: Client, key: NewKey) -> Result<(), WriteRefusal>
-    ensures { result_err result ≡ first_of (write_tests out.now client.entry.types (option_copied client.entry.application) (import_key (record { name = key.entry.name.now; bytes = key.entry.bytes.now; bits = key.entry.bits; export_allowed = key.entry.exported; verify_allowed = key.entry.verified }))) }
+    ensures own { result_err result ≡ first_of (write_tests out.now client.entry.types (option_copied client.entry.application) (import_key (record { name = key.entry.name.now; bytes = key.entry.bytes.now; bits = key.entry.bits; export_allowed = key.entry.exported; verify_allowed = key.entry.verified }))) }
+    ensures any { (exported verified : Bool) → result_err result ≡ first_of (write_tests out.now client.entry.types (option_copied client.entry.application) (import_key (record { name = key.entry.name.now; bytes = key.entry.bytes.now; bits = key.entry.bits; export_allowed = exported; verify_allowed = verified }))) }
 {
     judge_name(out, client, key.name)?;
     refuse_if(!is_legal_data(key.bytes.len()), WriteRefusal::DataIllegal)?;
