@@ -45,7 +45,7 @@ use Rattle.answer.specs.declared.Answered.{Answered}
 -- ---- what the tests of a header say
 
 -- no test's status is Success
-header_status : (h : Header) (status : Status) → first_of (header_tests h) ≡ Some status → 0 < status_number status
+pub header_status : (h : Header) (status : Status) → first_of (header_tests h) ≡ Some status → 0 < status_number status
 unfolding header_tests refusals status_number
 header_status h status e =
     first_has (λ s. 0 < status_number s) (header_tests h)
@@ -121,7 +121,7 @@ auth_status auth_type auth named status e = go (eqb auth_type 0) refl (ltb 0 (le
 -- ---- what comes of a request, by what the code found
 
 -- what the auth bytes of a request say
-abbrev auth_found : (registry bytes : List ℕ) → Tested (Option Line) Status
+abbrev pub auth_found : (registry bytes : List ℕ) → Tested (Option Line) Status
 auth_found registry bytes = auth_of (request_of bytes).auth_type (request_of bytes).auth (application_named registry (request_of bytes).auth)
 
 -- who asks, as the code finds it
@@ -152,7 +152,7 @@ module _ (list registry bytes : List ℕ) where
   unfolding result_of
   refused_result status e = rw (e, result_of)
 
-  header_refused : (status : Status) → first_of (header_tests (header_of bytes)) ≡ Some status → result_of list registry (request_of bytes) ≡ refuse status
+  pub header_refused : (status : Status) → first_of (header_tests (header_of bytes)) ≡ Some status → result_of list registry (request_of bytes) ≡ refuse status
   header_refused status e = refused_result status (ap first_of all_tests ∙ first_before (header_tests (header_of bytes)) _ status e)
 
   module _ (passed : PassedHeader (header_of bytes)) where
@@ -169,7 +169,7 @@ module _ (list registry bytes : List ℕ) where
     unfolding header_of
     told_found = told registry (request_of bytes) (auth_type_small (header_of bytes) passed)
 
-    auth_refused : (status : Status) → auth_found registry bytes ≡ Err status → result_of list registry (request_of bytes) ≡ refuse status
+    pub auth_refused : (status : Status) → auth_found registry bytes ≡ Err status → result_of list registry (request_of bytes) ≡ refuse status
     auth_refused status e = refused_result status (later_tests ∙ subst (ToldBy registry (request_of bytes)) e told_found)
 
     nobody : auth_found registry bytes ≡ Ok None

@@ -103,15 +103,15 @@ module _ (body : List ℕ) where
 -- ---- a list's body, read as one with bytes
 
 -- the entries of the bytes that were read
-abbrev as_fours : Reading → Option (List ℕ)
+abbrev pub as_fours : Reading → Option (List ℕ)
 as_fours (read m) = when eqb (length (octets_of (value_at m 1)) % 4) 0 then Some (fours (octets_of (value_at m 1))) else None
 as_fours (broken at) = None
 
 module _ (s : List ℕ) where
-  are_fours : length s % 4 ≡ 0 → as_fours (read (octets s ∷ [])) ≡ Some (fours s)
+  pub are_fours : length s % 4 ≡ 0 → as_fours (read (octets s ∷ [])) ≡ Some (fours s)
   are_fours e = rw (eq-eqb (length s % 4) 0 e)
 
-  no_fours : (length s % 4 ≡ 0 → ⊥) → as_fours (read (octets s ∷ [])) ≡ None
+  pub no_fours : (length s % 4 ≡ 0 → ⊥) → as_fours (read (octets s ∷ [])) ≡ None
   no_fours e = rw (ne_eqb (length s % 4) 0 e)
 
 abbrev list_of : Message → List ℕ
@@ -173,7 +173,7 @@ module _ (body : List ℕ) where
           first true q = one_record h q
           first false q = agree (broken 0) (broken 0) (unread body bytes 0 _ h q) (unread body uint32s 0 _ h q) refl
 
-  fours_body : (o : Reading) → o ≡ read_message tagged (bytes ∷ []) body → as_fours o ≡ read_body tagged (uint32s ∷ []) body list_of
+  pub fours_body : (o : Reading) → o ≡ read_message tagged (bytes ∷ []) body → as_fours o ≡ read_body tagged (uint32s ∷ []) body list_of
   unfolding read_body read_message
   fours_body o e = ap as_fours e ∙ sym same_list
 

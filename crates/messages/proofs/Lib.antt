@@ -7,6 +7,7 @@ pub mod PlacesLaws
 pub mod TaggedLaws
 pub mod TaggedPlacedLaws
 pub mod TaggedWriteLaws
+pub mod OpcodeLaws
 pub mod PlacedLaws
 pub mod WriteLaws
 pub mod BrokenLaws

@@ -140,7 +140,7 @@ module _ (s : List ℕ) where
   listing_none room = record { ns = []; many = refl; few = omega arith; written = refl; same = refl }
 
   module _ {room now' : List ℕ} {count at : ℕ} (l : Listing room now' count at) where
-    listing_size : length now' ≡ length room
+    pub listing_size : length now' ≡ length room
     listing_size = ap length l.written ∙ (let a = length-append l.ns (drop (length l.ns) room) in let b = length-drop (length l.ns) room in let m = l.many in let f = l.few in omega arith)
 
     pub listing_on : (v next : ℕ) → count < length room → varint_at s at ≡ Some (v, next) → Listing room (set now' count (v % 2 ^ 32)) (count + 1) next
@@ -180,10 +180,10 @@ module _ (s : List ℕ) where
     all_there : first_entries s ≡ l.ns → record { count = count; entries = now' } ≡ read_list_outcome Protobuf s room
     all_there e = outcome (ap (take (length room)) e ∙ take_all (length room) l.ns (let x = l.many in let y = l.few in omega arith))
 
-    listing_end : length s ≤ at → record { count = count; entries = now' } ≡ read_list_outcome Protobuf s room
+    pub listing_end : length s ≤ at → record { count = count; entries = now' } ≡ read_list_outcome Protobuf s room
     listing_end h = all_there (sym l.same ∙ scan_end entry (λ ns. ns) (length s) at l.ns h)
 
-    listing_cut : at < length s → varint_at s at ≡ None → record { count = count; entries = now' } ≡ read_list_outcome Protobuf s room
+    pub listing_cut : at < length s → varint_at s at ≡ None → record { count = count; entries = now' } ≡ read_list_outcome Protobuf s room
     listing_cut h e = all_there (sym l.same ∙ (rw e at (scan_on entry (λ ns. ns) (length s) entry_ahead at l.ns h)))
 
     -- no varint is left

@@ -56,7 +56,7 @@ module _ (body : List ℕ) where
   group_skipped None = refl
 
   -- anything but bytes
-  not_bytes : (f : ProtoField) → ((n start len next : ℕ) → f ≡ Span n start len next → ⊥) → field_in body (passed (skipped_field body f)) ≡ field_for (Some f)
+  pub not_bytes : (f : ProtoField) → ((n start len next : ℕ) → f ≡ Span n start len next → ⊥) → field_in body (passed (skipped_field body f)) ≡ field_for (Some f)
   unfolding skipped_field
   not_bytes (Number n v next) h = number_skipped next (listed list_schema n (of_varint v) next) (eqb n 1)
   not_bytes (Span n start len next) h = absurd (h n start len next refl)

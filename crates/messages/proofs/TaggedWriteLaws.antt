@@ -5,7 +5,7 @@ use native.Mathlib.Numerals.{add-one}
 use mathlib.Core.Path.{◌≡◌, refl, sym, ap, ◌∙◌}
 use mathlib.Core.Bool.{Bool}
 use mathlib.Core.List.{List, [], ◌∷◌, ◌++◌, append-nil, append_assoc, flat_map}
-use lib.ListN.{length, take, get_or, length-append}
+use lib.ListN.{length, take, get_or, length-append, drop, length-drop}
 use lib.Dec.{eqb}
 use Rattle.wire.specs.Numbers.{little_endian_of}
 use Rattle.wire.specs.code.Wrote.{Wrote}
@@ -23,6 +23,9 @@ entries_more f (x ∷ list) zero h = append-nil (f x)
 entries_more f (x ∷ list) (suc i) h =
     let ih : flat_map f (take (i + 1) list) ≡ flat_map f (take i list) ++ f (get_or list i 0) = entries_more f list i (omega arith) in
     rw add-one (ap (λ (l : List ℕ). f x ++ l) (rw add-one at ih) ∙ sym (append_assoc (f x) (flat_map f (take i list)) (f (get_or list i 0))))
+
+pub length_wrote : {s d e : List ℕ} {r : ℕ} → Wrote s d e r → length s ≤ length d → length e ≡ length d
+length_wrote {s} {d} w h = ap length w.bytes ∙ (let x : length (s ++ drop (length s) d) ≡ length d = omega (arith, length-append s (drop (length s) d), length-drop (length s) d) in x)
 
 -- ---- how long a field is at most
 

@@ -42,28 +42,28 @@ abbrev pub onto : ℕ → ℕ → Option (ℕ × ℕ) → Option (ℕ × ℕ)
 onto value scale (Some (v, next)) = Some (value + v * scale, next)
 onto value scale None = None
 
-onto_none : (r : Option (ℕ × ℕ)) → onto 0 1 r ≡ r
+pub onto_none : (r : Option (ℕ × ℕ)) → onto 0 1 r ≡ r
 onto_none (Some (v, next)) = ap (λ (n : ℕ). Some (n, next)) (omega arith)
 onto_none None = refl
 
-onto_below : (value scale low : ℕ) (r : Option (ℕ × ℕ)) → onto value scale (below low r) ≡ onto (value + low * scale) (scale * 128) r
+pub onto_below : (value scale low : ℕ) (r : Option (ℕ × ℕ)) → onto value scale (below low r) ≡ onto (value + low * scale) (scale * 128) r
 onto_below value scale low (Some (v, next)) =
     ap (λ (n : ℕ). Some (n, next))
     (omega (arith, add-mul low (128 * v) scale, mul_assoc 128 v scale, mul_assoc v scale 128))
 onto_below value scale low None = refl
 
 -- ---- the scale while `left` more bytes may follow
-scale_next : (scale left : ℕ) → 0 < left → scale * 128 ^ left ≡ 2 ^ 63 → (scale * 128) * 128 ^ (left - 1) ≡ 2 ^ 63
+pub scale_next : (scale left : ℕ) → 0 < left → scale * 128 ^ left ≡ 2 ^ 63 → (scale * 128) * 128 ^ (left - 1) ≡ 2 ^ 63
 scale_next scale zero z e = absurd (omega arith)
 scale_next scale (suc n) z e = rw (sub-one, mul_assoc scale 128 (128 ^ n), mul_comm 128 (128 ^ n), ← pow-suc 128 n) e
 
-scale_le : (scale left : ℕ) → scale * 128 ^ left ≡ 2 ^ 63 → scale ≤ 2 ^ 63
+pub scale_le : (scale left : ℕ) → scale * 128 ^ left ≡ 2 ^ 63 → scale ≤ 2 ^ 63
 scale_le scale left e = rw e at (le-mul_of_pos_right scale (one-le-pow left 128 (lit< tt)))
 
-scale_room : (scale left : ℕ) → 0 < left → scale * 128 ^ left ≡ 2 ^ 63 → scale * 128 ≤ 2 ^ 63
+pub scale_room : (scale left : ℕ) → 0 < left → scale * 128 ^ left ≡ 2 ^ 63 → scale * 128 ≤ 2 ^ 63
 scale_room scale left z e = scale_le (scale * 128) (left - 1) (scale_next scale left z e)
 
-sum_below : (value scale b : ℕ) → value < scale → b < 128 → value + b * scale < scale * 128
+pub sum_below : (value scale b : ℕ) → value < scale → b < 128 → value + b * scale < scale * 128
 sum_below value scale b h l = let k : b * scale ≤ 127 * scale = mul-le-mul_right scale (omega arith) in omega arith
 
 -- ---- what a reader has at p, after i bytes with a high bit

@@ -27,6 +27,9 @@ pub const USES_AT: usize = VERIFY_AT + 1;
 
 pub const SLOT_SIZE: usize = USES_AT + 4;
 
+// A count of uses stays here.
+pub const USES_MOST: u32 = 4294967295;
+
 pub const SLOTS: usize = 8;
 
 // A line: the name's length and the name, then the slots.
