@@ -69,7 +69,7 @@ pub extern "C" fn razidkot_clear_counters(counters: &mut Counters)
     *counters = zero_counters();
 }
 
-#[tactic(auto, unfolding(service::specs::Contract::code_number))]
+#[tactic(auto, unfolding(service::specs::Contract::code_number, service::specs::Refusals::refusal_number))]
 pub fn code_number(code: Result<(), Refusal>) -> u32
     ensures { result ≡ code_number code }
 {

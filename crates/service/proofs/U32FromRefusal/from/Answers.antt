@@ -1,3 +1,4 @@
+use Rattle.std.proofs.Common.{rules}
 use mathlib.Core.Path.{◌≡◌, refl}
 use Prim.Native.Nat.{◌+◌}
 use denote.Enum.Declared.{tag_of}
@@ -18,4 +19,4 @@ numbered ListIllFormed = refl
 numbered JournalBufferTooSmall = refl
 
 pub returns : goal.returns
-returns c = numbered c.args.refusal
+returns c = let number = numbered c.args.refusal in search rules

@@ -1,4 +1,4 @@
-use Rattle.std.proofs.Common.{◌≡◌, sym, ap, ◌∙◌, ℕ, true, not, take}
+use Rattle.std.proofs.Common.{◌≡◌, sym, ap, ◌∙◌, ℕ, true, not, take, rules}
 use borrow.Author.Tests.{not-false}
 use lib.Seq.{length-take-le}
 use Rattle.wire.specs.Lists.{all}
@@ -13,7 +13,9 @@ pub slice_bounds-find_listed-end : goal.slice_bounds-find_listed-end
 slice_bounds-find_listed-end c = sym (length-take-le c.args.at c.args.list.now c.requires.0)
 
 pub returns-then-is_among : goal.returns-then-is_among
-returns-then-is_among c = c.is_some.ensures ∙ finds_some (take c.args.at c.args.list.now) c.args.name.now c.find_listed.result c.find_listed.ensures
+returns-then-is_among c =
+    let found = c.is_some.ensures ∙ finds_some (take c.args.at c.args.list.now) c.args.name.now c.find_listed.result c.find_listed.ensures in
+    search rules
 
 pub returns-else-is_among : goal.returns-else-is_among
 returns-else-is_among c =
